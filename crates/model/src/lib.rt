@@ -1,0 +1,1 @@
+// The lowering as a definition: definitions in specs/, no code.

@@ -1,0 +1,1 @@
+// Words, the operators of IEEE 1800 and modules: definitions in specs/, no code.

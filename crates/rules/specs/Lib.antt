@@ -1,0 +1,3 @@
+-- The words in which rules are written, and their laws.
+pub mod Rules
+pub mod Laws

@@ -1,0 +1,1 @@
+// The words in which rules are written: definitions in specs/, no code.
