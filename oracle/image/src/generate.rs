@@ -114,10 +114,11 @@ impl Maker {
     fn new(seed: u64, size: Size) -> Self {
         let mut random = Random::new(seed ^ ((size as u64) << 60));
         let palette = palette(&mut random, size);
+        let factor = if matches!(size, Size::Tiny | Size::Small) { 2 } else { 1 };
         let mischief = Mischief {
-            undriven: random.chance(7),
-            loops: random.chance(9),
-            reset: random.chance(9),
+            undriven: random.chance(8 * factor),
+            loops: random.chance(12 * factor),
+            reset: random.chance(9 * factor),
         };
         Maker {
             random,
@@ -293,7 +294,7 @@ impl Maker {
     /// A signal range of that width whose bits are driven. Where the image
     /// may hold loops, any range.
     fn readable(&mut self, width: u32) -> Option<(Signal, u32)> {
-        let any = self.mischief.loops && self.random.chance(12);
+        let any = self.mischief.loops && self.random.chance(20);
         for _ in 0..8 {
             let (signal, _) = self.signals[self.random.below(self.signals.len())];
             let bits = &self.driven[signal.0 as usize];
