@@ -1,7 +1,7 @@
 //! What the generator promises: valid images, mostly accepted, every kind
 //! and operator among them; and what damage does to them.
 
-use image::{generate, kind, mutate, netlist_words, Image, Size};
+use image::{deepest, generate, kind, mutate, netlist_words, Image, Size};
 use std::collections::BTreeMap;
 
 const N: u32 = 65_535;
@@ -117,6 +117,18 @@ fn outcome(bytes: &[u8]) -> u32 {
         driver::Answer::Refused([number, ..]) => number,
         driver::Answer::Crash(message) => panic!("{message}"),
     }
+}
+
+#[test]
+fn deepest_chains_are_valid_and_accepted() {
+    for (width, length) in [(1, 0), (2, 1), (32, 1000), (128, 250)] {
+        let image = deepest(width, length);
+        let bytes = image.encode();
+        assert_eq!(check(&bytes, image.scratch_words(N)), [0, 0, 0], "{width} {length}");
+        assert_eq!(outcome(&bytes), 0, "{width} {length}");
+    }
+    assert_eq!(deepest(32, 1000).expressions.len(), 1034);
+    assert_eq!(deepest(32, 1000).expression_bits(), 32_065);
 }
 
 #[test]
