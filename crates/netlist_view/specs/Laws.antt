@@ -1,0 +1,236 @@
+-- Laws of the netlist image's words: they hold their netlist, and one node or one record more. Assumes nothing.
+use mathlib.Core.Path.{_≡_, refl, sym, ap, ap₂, subst, _∙_}
+use mathlib.Core.Bool.{Bool}
+use mathlib.Core.List.{List, [], _∷_, _++_, append-assoc}
+use Prim.Native.Nat.{ℕ, zero, suc, _+_, _*_, _-_, _≤_, _<_}
+use native.Mathlib.Omega.{arith}
+use native.Mathlib.Nat.{add-zero}
+use lib.ListN.{length, take, drop, getD, set, replicate, length-append, length-replicate, replicate-append-replicate}
+use borrow.Author.Tests.{eq-eqb, ne-eqb}
+use lib.Seq.{take-at, drop-at, getD-append-add, getD-drop, sets, sets-eq, drop-drop, drop-append-add}
+use Rattle.meaning.specs.NetlistImage.{recordsOf, split}
+use Rattle.model.specs.Words.{absent, Node, node, Netlist, bitWord, used, count, nodesWords, listWords, headerWords, words}
+use Rattle.netlist_view.specs.View.{nodeAt, nodesOf, room, netlistOf, Formed, AllFormed, Fit, Built}
+use Rattle.netlist_view.specs.Records.{used-length, used-snoc, listWords-snoc, count-snoc, formed-snoc, split-list}
+
+pub nodesOf-suc : (w : List ℕ) (k : ℕ) → nodesOf w (suc k) ≡ nodeAt w k ∷ nodesOf w k
+unfolding nodesOf
+nodesOf-suc w k = refl
+
+pub length-nodesOf : (w : List ℕ) (k : ℕ) → length (nodesOf w k) ≡ k
+unfolding nodesOf
+length-nodesOf w zero = refl
+length-nodesOf w (suc k) = ap suc (length-nodesOf w k)
+
+abbrev pub flat : List Node → List ℕ
+flat xs = nodesWords xs []
+
+abbrev pub nodeWords : Node → List ℕ
+nodeWords x = x .kind ∷ x .owner ∷ x .bit ∷ x .in0 ∷ x .in1 ∷ x .in2 ∷ []
+
+pub nodesWords-append : (xs : List Node) (r : List ℕ) → nodesWords xs r ≡ flat xs ++ r
+nodesWords-append [] r = refl
+nodesWords-append (x ∷ xs) r =
+    nodesWords-append xs (nodeWords x ++ r) ∙ sym (append-assoc (flat xs) (nodeWords x) r)
+    ∙ ap (λ (t : List ℕ). t ++ r) (sym (nodesWords-append xs (nodeWords x)))
+
+pub length-flat : (xs : List Node) → length (flat xs) ≡ 6 * length xs
+length-flat [] = refl
+length-flat (x ∷ xs) =
+    ap length (nodesWords-append xs (nodeWords x)) ∙ length-append (flat xs) (nodeWords x) ∙ omega (arith, length-flat xs)
+
+pub length-nodesWords : (xs : List Node) (r : List ℕ) → length (nodesWords xs r) ≡ 6 * length xs + length r
+length-nodesWords xs r = ap length (nodesWords-append xs r) ∙ length-append (flat xs) r ∙ ap (λ (k : ℕ). k + length r) (length-flat xs)
+
+-- word j behind the nodes
+behind : (xs : List Node) (r w : List ℕ) (j : ℕ) → drop 16 w ≡ nodesWords xs r → getD w (16 + 6 * length xs + j) 0 ≡ getD r j 0
+behind xs r w j e =
+    let a : 16 + 6 * length xs + j ≡ 16 + (length (flat xs) + j) = omega (arith, length-flat xs) in
+    ap (λ (k : ℕ). getD w k 0) a ∙ sym (getD-drop 16 w (length (flat xs) + j) 0)
+    ∙ ap (λ (t : List ℕ). getD t (length (flat xs) + j) 0) (e ∙ nodesWords-append xs r) ∙ getD-append-add (flat xs) r j 0
+
+nodes-held : (xs : List Node) (r w : List ℕ) → drop 16 w ≡ nodesWords xs r → nodesOf w (length xs) ≡ xs
+unfolding nodesOf nodeAt
+nodes-held [] r w e = refl
+nodes-held (x ∷ xs) r w e =
+    let b : (j : ℕ) → getD w (16 + 6 * length xs + j) 0 ≡ getD (nodeWords x ++ r) j 0 = λ j. behind xs (nodeWords x ++ r) w j e in
+    let z : 16 + 6 * length xs ≡ 16 + 6 * length xs + 0 = omega arith in
+    λ i. node ((ap (λ (k : ℕ). getD w k 0) z ∙ b 0) i) (b 1 i) (b 2 i) (b 3 i) (b 4 i) (b 5 i) ∷ nodes-held xs (nodeWords x ++ r) w e i
+
+module _ (n p : ℕ) (l : Netlist) where
+  -- the words in four parts
+  abbrev pub nodesPart : List ℕ
+  nodesPart = nodesWords (l .nodes) (replicate (6 * (n - length (l .nodes))) 0)
+
+  pub length-nodesPart : length (l .nodes) ≤ n → length nodesPart ≡ 6 * n
+  length-nodesPart h =
+      length-nodesWords (l .nodes) (replicate (6 * (n - length (l .nodes))) 0)
+      ∙ rw (length-replicate {A = ℕ} (6 * (n - length (l .nodes))) 0) (omega arith)
+
+  pub words-parts : words n p l ≡ headerWords n l ++ (nodesPart ++ (listWords (l .records) ++ replicate (p - used (l .records)) 0))
+  unfolding words
+  words-parts = simp append-assoc
+
+  module _ (f : Fit n p l) where
+    pub length-words : length (words n p l) ≡ 16 + 6 * n + p
+    length-words =
+        ap length words-parts
+        ∙ simp (length-append, length-nodesPart (f .few), length-replicate, used-length) (omega (arith, f .short))
+
+    words-nodes : nodesOf (words n p l) (length (l .nodes)) ≡ l .nodes
+    unfolding words
+    words-nodes =
+        nodes-held (l .nodes) (replicate (6 * (n - length (l .nodes))) 0 ++ (listWords (l .records) ++ replicate (p - used (l .records)) 0)) (words n p l)
+        (append-assoc nodesPart (listWords (l .records)) (replicate (p - used (l .records)) 0)
+        ∙ ap (λ (t : List ℕ). t ++ (listWords (l .records) ++ replicate (p - used (l .records)) 0)) (nodesWords-append (l .nodes) (replicate (6 * (n - length (l .nodes))) 0))
+        ∙ append-assoc (flat (l .nodes)) (replicate (6 * (n - length (l .nodes))) 0) (listWords (l .records) ++ replicate (p - used (l .records)) 0)
+        ∙ sym (nodesWords-append (l .nodes) (replicate (6 * (n - length (l .nodes))) 0 ++ (listWords (l .records) ++ replicate (p - used (l .records)) 0))))
+
+    words-list : drop (16 + 6 * n) (words n p l) ≡ listWords (l .records) ++ replicate (p - used (l .records)) 0
+    words-list =
+        ap (drop (16 + 6 * n)) (words-parts ∙ sym (append-assoc (headerWords n l) nodesPart _))
+        ∙ drop-at (headerWords n l ++ nodesPart) _ (16 + 6 * n) (omega (arith, length-nodesPart (f .few)))
+
+    words-records : recordsOf (words n p l) ≡ l .records
+    unfolding recordsOf words
+    words-records =
+        ap (λ (t : List ℕ). split (used (l .records)) (take (used (l .records)) t)) words-list
+        ∙ ap (split (used (l .records))) (take-at (listWords (l .records)) _ (used (l .records)) (used-length (l .records)))
+        ∙ split-list (used (l .records)) (l .records) (f .formed) (omega arith)
+
+    pub words-view : netlistOf n (words n p l) ≡ l
+    unfolding words
+    words-view =
+        let m : room n (words n p l) ≡ l .maxList = omega (arith, length-words, f .list) in
+        λ i. record { maxNets = sym (f .nets) i; maxList = m i; nodes = words-nodes i; records = words-records i }
+
+-- words that are the image of a netlist within the limits hold it
+pub record Holds (n : ℕ) (l : Netlist) (w : List ℕ) : Type 0 where
+  pub view : netlistOf n w ≡ l
+  pub built : Built n w
+
+pub holds : (n p : ℕ) (l : Netlist) (w : List ℕ) → Fit n p l → 0 < n → n ≤ 65535 → p ≤ 65535 → w ≡ words n p l → Holds n l w
+holds n p l w f some few short e =
+    let len : length w ≡ 16 + 6 * n + p = ap length e ∙ length-words n p l f in
+    let r : room n w ≡ p = omega arith in
+    let v : netlistOf n w ≡ l = ap (netlistOf n) e ∙ words-view n p l f in
+    record {
+      view = v;
+      built = record { told = e ∙ λ i. words n (sym r i) (sym v i); fit = subst (λ (x : ℕ × Netlist). Fit n (x .0) (x .1)) (λ i. (sym r i, sym v i)) f; sized = omega arith; some = some; nets = few; list = omega arith };
+    }
+
+-- ---- stores ----
+
+-- a run of stores over a stretch of as many words
+pub sets-mid : (a z b vs : List ℕ) (i : ℕ) → length a ≡ i → length z ≡ length vs → sets (a ++ (z ++ b)) i vs ≡ a ++ (vs ++ b)
+sets-mid a z b vs i e h =
+    let len : length (a ++ (z ++ b)) ≡ length a + (length z + length b) = length-append a (z ++ b) ∙ ap (λ (k : ℕ). length a + k) (length-append z b) in
+    let d : drop (i + length vs) (a ++ (z ++ b)) ≡ b =
+    ap (λ (k : ℕ). drop k (a ++ (z ++ b))) {x = i + length vs} {y = length a + length z} (omega arith) ∙ drop-append-add a (z ++ b) (length z) ∙ drop-at z b (length z) refl in
+    sets-eq vs (a ++ (z ++ b)) i (omega arith)
+    ∙ append-assoc (take i (a ++ (z ++ b))) vs (drop (i + length vs) (a ++ (z ++ b)))
+    ∙ ap₂ (λ (x y : List ℕ). x ++ (vs ++ y)) (take-at a (z ++ b) i e) d
+
+abbrev pub zeros : ℕ → List ℕ
+zeros k = replicate k 0
+
+abbrev pub withNode : Node → Netlist → Netlist
+withNode x l = record { maxNets = l .maxNets; maxList = l .maxList; nodes = x ∷ l .nodes; records = l .records }
+
+abbrev pub withRecord : List ℕ → Netlist → Netlist
+withRecord r l = record { maxNets = l .maxNets; maxList = l .maxList; nodes = l .nodes; records = l .records ++ (r ∷ []) }
+
+module _ (n p : ℕ) (l : Netlist) (f : Fit n p l) where
+  -- one node more
+  pub fit-node : (x : Node) → length (l .nodes) < n → Fit n p (withNode x l)
+  fit-node x h = record { nets = f .nets; list = f .list; few = h; short = f .short; formed = f .formed }
+
+  module _ (x : Node) (h : length (l .nodes) < n) where
+    node-room : nodesPart n p l ≡ flat (l .nodes) ++ (zeros 6 ++ replicate (6 * (n - suc (length (l .nodes)))) 0)
+    node-room =
+        let e : 6 * (n - length (l .nodes)) ≡ 6 + 6 * (n - suc (length (l .nodes))) = omega arith in
+        nodesWords-append (l .nodes) (zeros (6 * (n - length (l .nodes))))
+        ∙ ap (λ (k : ℕ). flat (l .nodes) ++ zeros k) e
+        ∙ ap (λ (t : List ℕ). flat (l .nodes) ++ t) (sym (replicate-append-replicate 6 (6 * (n - suc (length (l .nodes)))) 0))
+
+    pub node-stored : set (sets (words n p l) (16 + 6 * length (l .nodes)) (nodeWords x)) 1 (suc (length (l .nodes))) ≡ words n p (withNode x l)
+    node-stored =
+        let zs = zeros (6 * (n - suc (length (l .nodes)))) in
+        let t = listWords (l .records) ++ zeros (p - used (l .records)) in
+        let hd = headerWords n l in
+        let fl = flat (l .nodes) in
+        let parts : words n p l ≡ (hd ++ fl) ++ (zeros 6 ++ (zs ++ t)) =
+        words-parts n p l ∙ ap (λ (u : List ℕ). hd ++ (u ++ t)) node-room ∙ simp append-assoc in
+        let body : flat (l .nodes) ++ (nodeWords x ++ (zs ++ t)) ≡ nodesPart n p (withNode x l) ++ t =
+        sym (ap (λ (u : List ℕ). u ++ t) (nodesWords-append (l .nodes) (nodeWords x ++ zs)) ∙ simp append-assoc) in
+        ap (λ (u : List ℕ). set (sets u (16 + 6 * length (l .nodes)) (nodeWords x)) 1 (suc (length (l .nodes)))) parts
+        ∙ ap (λ (u : List ℕ). set u 1 (suc (length (l .nodes))))
+        (sets-mid (hd ++ fl) (zeros 6) (zs ++ t) (nodeWords x) (16 + 6 * length (l .nodes)) (omega (arith, length-flat (l .nodes))) refl)
+        ∙ ap (λ (u : List ℕ). set u 1 (suc (length (l .nodes)))) (append-assoc hd fl (nodeWords x ++ (zs ++ t)))
+        ∙ ap (λ (u : List ℕ). headerWords n (withNode x l) ++ u) body ∙ sym (words-parts n p (withNode x l))
+
+  -- one record more
+  pub fit-record : (r : List ℕ) → used (l .records) + length r ≤ p → Formed r → Fit n p (withRecord r l)
+  fit-record r h g = record {
+    nets = f .nets;
+    list = f .list;
+    few = f .few;
+    short = rw used-snoc h;
+    formed = formed-snoc (l .records) r (f .formed) g;
+  }
+
+  module _ (r : List ℕ) (h : used (l .records) + length r ≤ p) where
+    list-room : zeros (p - used (l .records)) ≡ zeros (length r) ++ zeros (p - used (l .records ++ (r ∷ [])))
+    list-room =
+        let e : p - used (l .records) ≡ length r + (p - used (l .records ++ (r ∷ []))) = omega (arith, used-snoc (l .records) r) in
+        ap (λ (k : ℕ). zeros k) e ∙ sym (replicate-append-replicate (length r) (p - used (l .records ++ (r ∷ []))) 0)
+
+    list-stored : sets (words n p l) (16 + 6 * n + used (l .records)) r
+        ≡ headerWords n l ++ (nodesPart n p l ++ (listWords (l .records ++ (r ∷ [])) ++ zeros (p - used (l .records ++ (r ∷ [])))))
+    list-stored =
+        let zs = zeros (p - used (l .records ++ (r ∷ []))) in
+        let hd = headerWords n l in
+        let ns = nodesPart n p l in
+        let ls = listWords (l .records) in
+        let parts : words n p l ≡ (hd ++ (ns ++ ls)) ++ (zeros (length r) ++ zs) =
+        words-parts n p l ∙ ap (λ (u : List ℕ). hd ++ (ns ++ (ls ++ u))) list-room ∙ simp append-assoc in
+        let len : length (hd ++ (ns ++ ls)) ≡ 16 + 6 * n + used (l .records) =
+        ap (λ (k : ℕ). suc (suc (suc (suc (suc (suc (suc (suc (suc (suc (suc (suc (suc (suc (suc (suc k))))))))))))))))
+        (length-append ns ls) ∙ omega (arith, length-nodesPart n p l (f .few), used-length (l .records)) in
+        ap (λ (u : List ℕ). sets u (16 + 6 * n + used (l .records)) r) parts
+        ∙ sets-mid (hd ++ (ns ++ ls)) (zeros (length r)) zs r (16 + 6 * n + used (l .records)) len (length-replicate (length r) 0)
+        ∙ simp append-assoc (ap (λ (u : List ℕ). hd ++ (ns ++ u)) (sym (ap (λ (v : List ℕ). v ++ zs) (listWords-snoc (l .records) r) ∙ append-assoc ls r zs)))
+
+    hit : (k : ℕ) → getD r 0 absent ≡ k → count k (l .records) + 1 ≡ count k (l .records ++ (r ∷ []))
+    hit k e =
+        sym (count-snoc k (l .records) r ∙ ap (λ (t : Bool). count k (l .records) + bitWord t) (eq-eqb (getD r 0 absent) k e))
+
+    miss : (k : ℕ) → (getD r 0 absent ≡ k → ⊥) → count k (l .records) ≡ count k (l .records ++ (r ∷ []))
+    miss k e =
+        sym (count-snoc k (l .records) r ∙ ap (λ (t : Bool). count k (l .records) + bitWord t) (ne-eqb (getD r 0 absent) k e) ∙ add-zero (count k (l .records)))
+
+    counts : (k : ℕ) → k < 5 → getD r 0 absent ≡ k → (t : List ℕ)
+        → set (count 0 (l .records) ∷ count 1 (l .records) ∷ count 2 (l .records) ∷ count 3 (l .records) ∷ count 4 (l .records) ∷ t) k (count k (l .records) + 1)
+        ≡ count 0 (l .records ++ (r ∷ [])) ∷ count 1 (l .records ++ (r ∷ [])) ∷ count 2 (l .records ++ (r ∷ []))
+        ∷ count 3 (l .records ++ (r ∷ [])) ∷ count 4 (l .records ++ (r ∷ [])) ∷ t
+    counts zero q e t = λ i. hit 0 e i ∷ miss 1 (omega arith) i ∷ miss 2 (omega arith) i ∷ miss 3 (omega arith) i ∷ miss 4 (omega arith) i ∷ t
+    counts (suc zero) q e t = λ i. miss 0 (omega arith) i ∷ hit 1 e i ∷ miss 2 (omega arith) i ∷ miss 3 (omega arith) i ∷ miss 4 (omega arith) i ∷ t
+    counts (suc (suc zero)) q e t = λ i. miss 0 (omega arith) i ∷ miss 1 (omega arith) i ∷ hit 2 e i ∷ miss 3 (omega arith) i ∷ miss 4 (omega arith) i ∷ t
+    counts (suc (suc (suc zero))) q e t = λ i. miss 0 (omega arith) i ∷ miss 1 (omega arith) i ∷ miss 2 (omega arith) i ∷ hit 3 e i ∷ miss 4 (omega arith) i ∷ t
+    counts (suc (suc (suc (suc zero)))) q e t = λ i. miss 0 (omega arith) i ∷ miss 1 (omega arith) i ∷ miss 2 (omega arith) i ∷ miss 3 (omega arith) i ∷ hit 4 e i ∷ t
+    counts (suc (suc (suc (suc (suc k))))) q e t = absurd (omega arith)
+
+    header-stored : (k : ℕ) → k < 5 → getD r 0 absent ≡ k → (t : List ℕ)
+        → set (set (headerWords n l ++ t) 3 (used (l .records) + length r)) (5 + k) (count k (l .records) + 1) ≡ headerWords n (withRecord r l) ++ t
+    header-stored k q e t =
+        let s : 5 + k ≡ suc (suc (suc (suc (suc k)))) = omega arith in
+        ap (λ (j : ℕ). set (set (headerWords n l ++ t) 3 (used (l .records) + length r)) j (count k (l .records) + 1)) s
+        ∙ λ i. 1 ∷ length (l .nodes) ∷ 16 ∷ sym (used-snoc (l .records) r) i ∷ (16 + 6 * n) ∷ counts k q e (zeros 6 ++ t) i
+
+    -- the words, the list words used, and the count of the record's kind
+    pub record-stored : (k : ℕ) → k < 5 → getD r 0 absent ≡ k
+        → set (set (sets (words n p l) (16 + 6 * n + used (l .records)) r) 3 (used (l .records) + length r)) (5 + k) (count k (l .records) + 1)
+        ≡ words n p (withRecord r l)
+    record-stored k q e =
+        ap (λ (u : List ℕ). set (set u 3 (used (l .records) + length r)) (5 + k) (count k (l .records) + 1)) list-stored
+        ∙ header-stored k q e _ ∙ sym (words-parts n p (withRecord r l))
