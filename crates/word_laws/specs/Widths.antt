@@ -90,14 +90,14 @@ WidthOk g w (R.Mux c t e) = (g c ≡ 1) × (g t ≡ w) × (g e ≡ w)
 WidthOk g w (R.Concat ps) = sumOf g ps ≡ w
 WidthOk g w (R.Slice a lsb) = lsb + w ≤ g a
 
-un-width : (op : R.Unary) (w : ℕ) (a : List Bool) → UnWidth op w (length a) → length (unary op a) ≡ w
+pub un-width : (op : R.Unary) (w : ℕ) (a : List Bool) → UnWidth op w (length a) → length (unary op a) ≡ w
 un-width R.BitNot w a h = length-map a not ∙ h
 un-width R.LogicNot w a h = h
 un-width R.ReduceOr w a h = h
 un-width R.ReduceAnd w a h = h
 un-width R.ReduceXor w a h = h
 
-bin-width : (op : R.Binary) (w : ℕ) (a b : List Bool) → BinWidth op w (length a) (length b) → length (binary op a b) ≡ w
+pub bin-width : (op : R.Binary) (w : ℕ) (a b : List Bool) → BinWidth op w (length a) (length b) → length (binary op a b) ≡ w
 bin-width R.And w a b h = length-map2 _ a b (h .0 ∙ sym (h .1)) ∙ h .0
 bin-width R.Or w a b h = length-map2 _ a b (h .0 ∙ sym (h .1)) ∙ h .0
 bin-width R.Xor w a b h = length-map2 _ a b (h .0 ∙ sym (h .1)) ∙ h .0
@@ -118,11 +118,11 @@ bin-width R.ShiftL w a b h = length-tab (length a) _ ∙ h
 bin-width R.ShiftR w a b h = length-tab (length a) _ ∙ h
 bin-width R.ShiftA w a b h = length-tab (length a) _ ∙ h
 
-cond-width : (b : Bool) (w : ℕ) (x y : List Bool) → length x ≡ w → length y ≡ w → length (cond b x y) ≡ w
+pub cond-width : (b : Bool) (w : ℕ) (x y : List Bool) → length x ≡ w → length y ≡ w → length (cond b x y) ≡ w
 cond-width true w x y h k = h
 cond-width false w x y h k = k
 
-join-width : (g : ℕ → List Bool) (f : ℕ → ℕ) (e : ℕ) (ps : List ℕ) → AllBelow e ps → ((j : ℕ) → j < e → length (g j) ≡ f j) → length (joinW (map g ps)) ≡ sumOf f ps
+pub join-width : (g : ℕ → List Bool) (f : ℕ → ℕ) (e : ℕ) (ps : List ℕ) → AllBelow e ps → ((j : ℕ) → j < e → length (g j) ≡ f j) → length (joinW (map g ps)) ≡ sumOf f ps
 join-width g f e [] b h = refl
 join-width g f e (p ∷ ps) b h = length-append (joinW (map g ps)) (g p) ∙ rw (join-width g f e ps (b .1) h, h p (b .0))
 
@@ -136,8 +136,9 @@ kind-width v g f e w (R.Mux c t d) b o h = cond-width (getD (g c) 0 false) w (g 
 kind-width v g f e w (R.Concat ps) b o h = join-width g f e ps b h ∙ o
 kind-width v g f e w (R.Slice a lsb) b o h = slice-wide lsb w (g a) (rw (h a b) o)
 
--- each operand stands below its expression, and the widths agree
+-- each width is at least 1, each operand stands below its expression, and the widths agree
 pub record Formed (xs : List Expr) : Type 0 where
+  pub least : (e : ℕ) → e < length xs → 1 ≤ widthAt xs e
   pub low : (e : ℕ) → e < length xs → BelowE e ((exprAt xs e) .kind)
   pub wide : (e : ℕ) → e < length xs → WidthOk (widthAt xs) (widthAt xs e) ((exprAt xs e) .kind)
 
