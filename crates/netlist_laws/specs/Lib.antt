@@ -1,0 +1,4 @@
+-- The meaning of the netlist that is built.
+pub mod Meaning
+pub mod Sound
+pub mod Run
