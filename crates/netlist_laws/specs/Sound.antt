@@ -11,6 +11,7 @@ use Rattle.meaning.specs.NetlistImage as N
 use Rattle.meaning.specs.NetlistImage.{arithmeticOf, comparisonOf}
 use Rattle.meaning.specs.Step.{Setting, Contents}
 use Rattle.model.specs.Words.{absent, Node, Netlist, used}
+use Rattle.model.specs.Builder.{nodeForNet}
 use Rattle.netlist_view.specs.View.{AllFormed}
 use Rattle.word_laws.specs.Widths.{AllBelow}
 use Rattle.netlist_laws.specs.Meaning.{nodeAt, recordsWith, netValue}
@@ -73,19 +74,9 @@ pub record ComparisonCell (l : Netlist) (j : ℕ) (r : List ℕ) : Type 0 where
 -- ---- nodes ----
 
 -- neither a constant nor a Not
-abbrev pub Plain : N.Node → Type 0
-Plain (N.Input p i) = Unit {0}
-Plain (N.Constant b) = ⊥
-Plain (N.And a b) = Unit {0}
-Plain (N.Or a b) = Unit {0}
-Plain (N.Xor a b) = Unit {0}
-Plain (N.Not a) = ⊥
-Plain (N.Mux a b c) = Unit {0}
-Plain (N.RegisterOutput r i) = Unit {0}
-Plain (N.Output a) = Unit {0}
-Plain (N.MemoryOutput m i) = Unit {0}
-Plain (N.ArithmeticOutput j i) = Unit {0}
-Plain (N.ComparisonOutput j) = Unit {0}
+pub record Plain (x : Node) : Type 0 where
+  pub constant : x .kind ≡ 1 → ⊥
+  pub inverter : x .kind ≡ 5 → ⊥
 
 -- the inputs of net k are lower nets; no Not has a Not or a constant as its input
 abbrev pub Wired : Netlist → ℕ → N.Node → Type 0
@@ -94,7 +85,7 @@ Wired l k (N.Constant b) = Unit {0}
 Wired l k (N.And a b) = (a < k) × (b < k)
 Wired l k (N.Or a b) = (a < k) × (b < k)
 Wired l k (N.Xor a b) = (a < k) × (b < k)
-Wired l k (N.Not a) = (a < k) × Plain (nodeAt l a)
+Wired l k (N.Not a) = (a < k) × Plain (nodeForNet l a)
 Wired l k (N.Mux a b c) = (a < k) × (b < k) × (c < k)
 Wired l k (N.RegisterOutput r i) = Unit {0}
 Wired l k (N.Output a) = a < k

@@ -1,0 +1,2 @@
+-- What the nets that the builder gives stand for.
+pub mod Nodes
