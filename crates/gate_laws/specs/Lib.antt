@@ -1,2 +1,3 @@
 -- What the nets that the builder gives stand for.
 pub mod Nodes
+pub mod Gates
