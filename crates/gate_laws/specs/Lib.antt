@@ -2,3 +2,4 @@
 pub mod Nodes
 pub mod Gates
 pub mod Many
+pub mod Added
