@@ -3,3 +3,4 @@ pub mod Nodes
 pub mod Gates
 pub mod Many
 pub mod Added
+pub mod Sources
