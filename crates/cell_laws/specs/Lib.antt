@@ -1,0 +1,2 @@
+-- What the nets of cells stand for.
+pub mod Records
