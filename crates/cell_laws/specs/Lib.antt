@@ -1,2 +1,3 @@
 -- What the nets of cells stand for.
 pub mod Records
+pub mod Cells
