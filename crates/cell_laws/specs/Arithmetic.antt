@@ -31,7 +31,7 @@ use Rattle.gate_laws.specs.Gates.{constant-later}
 use Rattle.gate_laws.specs.Many.{constants-run}
 use Rattle.gate_laws.specs.Added.{withNodes, length-from, getD-from, nodes-added, Recorded, recorded}
 use Rattle.cell_laws.specs.Records.{operationOf, relationOf, operation-word, relation-word, arithmeticWords, arithmetic-of, arithmetic-outputs, arithmetic-length, arithmetic-formed, comparisonWords, comparison-of, comparison-output, comparison-length, comparison-formed}
-use Rattle.cell_laws.specs.Cells.{arithmetic-stands, comparison-stands, FoundCell, found-cell, count-with, withCell, grew-cell, count-cell, node-cell, cell-more, cell-new, cells-more, cells-same, sound-cell}
+use Rattle.cell_laws.specs.Cells.{arithmetic-stands, comparison-stands, FoundCell, found-cell, count-with, withCell, grew-cell, count-cell, node-cell, cell-more, cell-new, cells-after, sound-cell}
 
 -- only an addition has a carry
 abbrev pub Carried : ArithmeticOp → Option ℕ → Type 0
@@ -151,14 +151,10 @@ module _ (lhs rhs : List ℕ) (l : Netlist) (q : Sound l) (bl : AllBelow (count 
             carry = rw (the-record, the-cell-of) (low-carry (count l + i) (omega arith));
           })
 
-      none-4 : recordsWith 4 (record′ ∷ []) ≡ []
-      unfolding recordsWith only pick _≡?_
-      none-4 = refl
-
       sound-after : count l + length nodes ≤ l .maxNets → W.used (l .records) + length record′ ≤ l .maxList → Sound after
-      sound-after room list = sound-cell nodes record′ l q room list (arithmetic-formed lhs rhs ns same op carry length-nets) new-node
-          (cells-more nodes record′ l 3 (ArithmeticCell after) refl (λ j b. arithmetic-grew (grew-cell nodes record′ l) j _ (q .arithmetic j b)) the-cell)
-          (cells-same nodes record′ l 4 (ComparisonCell after) none-4 (λ j b. comparison-grew (grew-cell nodes record′ l) j _ (q .comparison j b)))
+      sound-after room list = sound-cell nodes record′ l q room list (arithmetic-formed lhs rhs ns same op carry length-nets) (omega arith) new-node
+          (cells-after nodes record′ l 3 (ArithmeticCell after) (λ j b. arithmetic-grew (grew-cell nodes record′ l) j _ (q .arithmetic j b)) (λ e. the-cell))
+          (cells-after nodes record′ l 4 (ComparisonCell after) (λ j b. comparison-grew (grew-cell nodes record′ l) j _ (q .comparison j b)) (λ e. absurd (omega arith)))
 
     made-run : Run l (λ zs l′. StandsAll l′ zs (Computes op lhs rhs carry)) (addRecorded key (addNodes (source 10 (W.count 3 (l .records))) 0 (length lhs) l))
     made-run = record {

@@ -26,9 +26,9 @@ use Rattle.netlist_view.specs.Records.{used-snoc, formed-snoc}
 use Rattle.netlist_view.specs.Laws.{withRecord}
 use Rattle.word_laws.specs.Widths.{AllBelow}
 use Rattle.netlist_laws.specs.Meaning.{decode, nodeAt, recordsWith, meaningOf, netValue}
-use Rattle.netlist_laws.specs.Sound.{count, widthWord, arithmeticRecord, comparisonRecord, arithmeticOutputs, comparisonOutput, ArithmeticCell, ComparisonCell, Wired, Sound, Grew, Later, Stands, StandsAll}
+use Rattle.netlist_laws.specs.Sound.{count, PortNets, widthWord, arithmeticRecord, comparisonRecord, arithmeticOutputs, comparisonOutput, ArithmeticCell, ComparisonCell, Wired, Sound, Grew, Later, Stands, StandsAll}
 use Rattle.netlist_laws.specs.Run.{grew-trans, later-count}
-use Rattle.netlist_laws.specs.Nodes.{at-grew, count-grew, wired-grew, with-append, with-old, with-more, later-net, cell-is, compare-is, getD-map-in}
+use Rattle.netlist_laws.specs.Nodes.{at-grew, count-grew, wired-grew, with-old, with-more, with-new, with-after, later-net, cell-is, compare-is, getD-map-in}
 use Rattle.gate_laws.specs.Nodes.{noNode}
 use Rattle.gate_laws.specs.Added.{withNodes, grew-nodes, count-nodes, nodes-limits, node-added, grew-record}
 
@@ -143,10 +143,6 @@ count-with t ((x ∷ r) ∷ rs) f = go (eqb x t) refl (count-with t rs (f .1))
     go true e ih = rw e (omega (arith, ih))
     go false e ih = rw e (omega (arith, ih))
 
-one-with : (t : ℕ) (r : List ℕ) → getD r 0 0 ≡ t → recordsWith t (r ∷ []) ≡ r ∷ []
-unfolding recordsWith only pick
-one-with t r h = rw (eq-yes (getD r 0 0) t h)
-
 module _ (xs : List Node) (r : List ℕ) (l : Netlist) where
   abbrev pub withCell : Netlist
   withCell = withRecord r (withNodes xs l)
@@ -160,43 +156,31 @@ module _ (xs : List Node) (r : List ℕ) (l : Netlist) where
   pub node-cell : (i : ℕ) → i < length xs → nodeAt withCell (count l + i) ≡ decode (getD xs i noNode)
   node-cell i h = at-grew (grew-record r (withNodes xs l)) (count l + i) (rw (count-nodes xs l) (omega arith)) ∙ ap decode (node-added xs l i h)
 
-  with-cell : (t : ℕ) → recordsWith t (withCell .records) ≡ recordsWith t (l .records) ++ recordsWith t (r ∷ [])
-  with-cell t = with-append t (withNodes xs l .records) (r ∷ []) ∙ ap (λ (z : List (List ℕ)). recordsWith t z ++ recordsWith t (r ∷ [])) (nodes-limits xs l .2)
+  same-records : withNodes xs l .records ≡ l .records
+  same-records = nodes-limits xs l .2
 
-  -- one cell more of kind t
+  -- its record is the last of its kind
   pub cell-more : (t : ℕ) → getD r 0 0 ≡ t → length (recordsWith t (withCell .records)) ≡ suc (length (recordsWith t (l .records)))
-  cell-more t e = ap length (with-cell t) ∙ rw (one-with t r e) (length-append (recordsWith t (l .records)) (r ∷ []) ∙ omega arith)
+  cell-more t e =
+      ap length (with-new t (withNodes xs l .records) r e) ∙ rw same-records (length-append (recordsWith t (l .records)) (r ∷ []) ∙ omega arith)
 
   pub cell-new : (t : ℕ) → getD r 0 0 ≡ t → getD (recordsWith t (withCell .records)) (length (recordsWith t (l .records))) [] ≡ r
   cell-new t e =
-      ap (λ (z : List (List ℕ)). getD z (length (recordsWith t (l .records))) []) (with-cell t)
-      ∙ rw (one-with t r e) (getD-append-seam (recordsWith t (l .records)) r [] [])
+      ap (λ (z : List (List ℕ)). getD z (length (recordsWith t (l .records))) []) (with-new t (withNodes xs l .records) r e)
+      ∙ rw same-records (getD-append-seam (recordsWith t (l .records)) r [] [])
 
-  pub cells-more : (t : ℕ) (P : ℕ → List ℕ → Type 0) → getD r 0 0 ≡ t
-      → ((j : ℕ) → j < length (recordsWith t (l .records)) → P j (getD (recordsWith t (l .records)) j [])) → P (length (recordsWith t (l .records))) r
+  pub cells-after : (t : ℕ) (P : ℕ → List ℕ → Type 0) → ((j : ℕ) → j < length (recordsWith t (l .records)) → P j (getD (recordsWith t (l .records)) j []))
+      → (getD r 0 0 ≡ t → P (length (recordsWith t (l .records))) r)
       → (j : ℕ) → j < length (recordsWith t (withCell .records)) → P j (getD (recordsWith t (withCell .records)) j [])
-  cells-more t P e old new j h =
-      let h′ : j < suc (length (recordsWith t (l .records))) = rw (cell-more t e) at h in
-      ⊎-elim
-      (λ (q : j ≡ length (recordsWith t (l .records))). rw q (rw (cell-new t e) new))
-      (λ (b : j < length (recordsWith t (l .records))). rw (with-old grew-cell t j b) (old j b))
-      (eq-or-lt-of-le (le-of-suc-le-suc h′))
-
-  -- none of another kind
-  pub cells-same : (t : ℕ) (P : ℕ → List ℕ → Type 0) → recordsWith t (r ∷ []) ≡ []
-      → ((j : ℕ) → j < length (recordsWith t (l .records)) → P j (getD (recordsWith t (l .records)) j []))
-      → (j : ℕ) → j < length (recordsWith t (withCell .records)) → P j (getD (recordsWith t (withCell .records)) j [])
-  cells-same t P e old j h =
-      let s : recordsWith t (withCell .records) ≡ recordsWith t (l .records) = with-cell t ∙ rw e (append-nil (recordsWith t (l .records))) in
-      rw s (old j (rw s at h))
+  cells-after t P old new = rw same-records (with-after t (l .records) r P old new)
 
   -- the netlist with it is sound, if its nodes and its record are
-  pub sound-cell : Sound l → count l + length xs ≤ l .maxNets → used (l .records) + length r ≤ l .maxList → Formed r
+  pub sound-cell : Sound l → count l + length xs ≤ l .maxNets → used (l .records) + length r ≤ l .maxList → Formed r → (getD r 0 0 ≡ 0 → ⊥)
       → ((i : ℕ) → i < length xs → Wired withCell (count l + i) (decode (getD xs i noNode)))
       → ((j : ℕ) → j < length (recordsWith 3 (withCell .records)) → ArithmeticCell withCell j (arithmeticRecord withCell j))
       → ((j : ℕ) → j < length (recordsWith 4 (withCell .records)) → ComparisonCell withCell j (comparisonRecord withCell j))
       → Sound withCell
-  sound-cell q room list f new a b =
+  sound-cell q room list f z new a b =
       let m = nodes-limits xs l in
       record {
         few = rw (count-cell, m .0) room;
@@ -204,6 +188,7 @@ module _ (xs : List Node) (r : List ℕ) (l : Netlist) where
         short = rw (used-snoc, m .1, m .2) list;
         formed = formed-snoc (withNodes xs l .records) r (rw (m .2) (q .formed)) f;
         wired = λ k h. wired k (rw count-cell at h) (decLt k (count l));
+        ports = cells-after 0 (λ j r. PortNets withCell r) (λ j o i h. le-trans (q .ports j o i h) (count-grew grew-cell)) (λ e. absurd (z e));
         arithmetic = a;
         comparison = b;
       }

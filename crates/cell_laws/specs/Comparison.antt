@@ -30,7 +30,7 @@ use Rattle.gate_laws.specs.Gates.{constant-later}
 use Rattle.gate_laws.specs.Many.{constants-run}
 use Rattle.gate_laws.specs.Added.{withNodes, length-from, getD-from, nodes-added, Recorded, recorded}
 use Rattle.cell_laws.specs.Records.{operationOf, relationOf, operation-word, relation-word, arithmeticWords, arithmetic-of, arithmetic-outputs, arithmetic-length, arithmetic-formed, comparisonWords, comparison-of, comparison-output, comparison-length, comparison-formed}
-use Rattle.cell_laws.specs.Cells.{arithmetic-stands, comparison-stands, FoundCell, found-cell, count-with, withCell, grew-cell, count-cell, node-cell, cell-more, cell-new, cells-more, cells-same, sound-cell}
+use Rattle.cell_laws.specs.Cells.{arithmetic-stands, comparison-stands, FoundCell, found-cell, count-with, withCell, grew-cell, count-cell, node-cell, cell-more, cell-new, cells-after, sound-cell}
 
 -- the comparison's answer
 abbrev pub answer : ComparisonOp → List Bool → List Bool → Bool
@@ -110,14 +110,10 @@ module _ (lhs rhs : List ℕ) (l : Netlist) (q : Sound l) (bl : AllBelow (count 
     rhs = rw (the-record, comparison-of lhs rhs (count l ∷ []) same op) br;
   })
 
-  none-3 : recordsWith 3 (record′ ∷ []) ≡ []
-  unfolding recordsWith only pick _≡?_
-  none-3 = refl
-
   sound-after : count l + length nodes ≤ l .maxNets → W.used (l .records) + length record′ ≤ l .maxList → Sound after
-  sound-after room list = sound-cell nodes record′ l q room list (comparison-formed lhs rhs (count l ∷ []) same op refl) new-node
-      (cells-same nodes record′ l 3 (ArithmeticCell after) none-3 (λ j b. arithmetic-grew (grew-cell nodes record′ l) j _ (q .arithmetic j b)))
-      (cells-more nodes record′ l 4 (ComparisonCell after) refl (λ j b. comparison-grew (grew-cell nodes record′ l) j _ (q .comparison j b)) the-cell)
+  sound-after room list = sound-cell nodes record′ l q room list (comparison-formed lhs rhs (count l ∷ []) same op refl) (omega arith) new-node
+      (cells-after nodes record′ l 3 (ArithmeticCell after) (λ j b. arithmetic-grew (grew-cell nodes record′ l) j _ (q .arithmetic j b)) (λ e. absurd (omega arith)))
+      (cells-after nodes record′ l 4 (ComparisonCell after) (λ j b. comparison-grew (grew-cell nodes record′ l) j _ (q .comparison j b)) (λ e. the-cell))
 
   compare-run : Run l (λ zs l′. StandsAll l′ zs (Compares op lhs rhs)) (addComparison op lhs rhs l)
   unfolding addComparison nodes

@@ -18,44 +18,36 @@ use Rattle.netlist_view.specs.Records.{used-snoc, formed-snoc}
 use Rattle.netlist_view.specs.Laws.{withNode, withRecord}
 use Rattle.word_laws.specs.Widths.{AllBelow}
 use Rattle.netlist_laws.specs.Meaning.{decode, nodeAt, recordsWith, meaningOf, netValue}
-use Rattle.netlist_laws.specs.Sound.{count, Wired, Sound, Grew, Later, At, Stands, StandsAll}
+use Rattle.netlist_laws.specs.Sound.{count, PortNets, ArithmeticCell, ComparisonCell, Wired, Sound, Grew, Later, At, Stands, StandsAll}
 use Rattle.netlist_laws.specs.Run.{grew-refl, grew-trans, stands-later, all-as, Meets, meets-map, Limit, Run}
-use Rattle.netlist_laws.specs.Nodes.{count-grew, at-grew, wired-grew, arithmetic-grew, comparison-grew, with-append, with-old, node-grew, getD-map-in}
+use Rattle.netlist_laws.specs.Nodes.{count-grew, at-grew, wired-grew, arithmetic-grew, comparison-grew, with-after, node-grew, getD-map-in}
 use Rattle.gate_laws.specs.Nodes.{noNode, Is, is-node, grew-node, sound-node}
 use Rattle.gate_laws.specs.Many.{All}
 use Rattle.gate_laws.specs.Added.{withNodes, grew-nodes, count-nodes, nodes-limits, node-added, length-from, getD-from, NodesAdded, Adds, nodes-added, pairs, both-adds, grew-record, pushed, Recorded, recorded}
 
 -- ---- a record of no cell ----
 
-none-with : (t : ℕ) (r : List ℕ) → (getD r 0 0 ≡ t → ⊥) → recordsWith t (r ∷ []) ≡ []
-unfolding recordsWith only pick
-none-with t r h = rw (eq-no (getD r 0 0) t h)
-
-pub with-same : (t : ℕ) (r : List ℕ) (l : Netlist) → (getD r 0 0 ≡ t → ⊥) → recordsWith t (withRecord r l .records) ≡ recordsWith t (l .records)
-with-same t r l h = with-append t (l .records) (r ∷ []) ∙ rw (none-with t r h) (append-nil (recordsWith t (l .records)))
-
-pub sound-record : (r : List ℕ) (l : Netlist) → Sound l → used (l .records) + length r ≤ l .maxList → Formed r → (getD r 0 0 ≡ 3 → ⊥) → (getD r 0 0 ≡ 4 → ⊥)
+pub sound-record : (r : List ℕ) (l : Netlist) → Sound l → used (l .records) + length r ≤ l .maxList → Formed r → getD r 0 0 < 3 → (getD r 0 0 ≡ 0 → PortNets l r)
     → Sound (withRecord r l)
-sound-record r l q h f a b =
+sound-record r l q h f k p =
     let g = grew-record r l in
-    let ea = with-same 3 r l a in
-    let eb = with-same 4 r l b in
     record {
       few = q .few;
       small = q .small;
       short = rw used-snoc h;
       formed = formed-snoc (l .records) r (q .formed) f;
       wired = λ k i. rw (at-grew g k i) (wired-grew g k (omega arith) (nodeAt l k) (q .wired k i));
-      arithmetic = λ j i. let i′ : j < length (recordsWith 3 (l .records)) = rw ea at i in rw (with-old g 3 j i′) (arithmetic-grew g j _ (q .arithmetic j i′));
-      comparison = λ j i. let i′ : j < length (recordsWith 4 (l .records)) = rw eb at i in rw (with-old g 4 j i′) (comparison-grew g j _ (q .comparison j i′));
+      ports = with-after 0 (l .records) r (λ j r. PortNets l r) (q .ports) p;
+      arithmetic = with-after 3 (l .records) r (ArithmeticCell (withRecord r l)) (λ j i. arithmetic-grew g j _ (q .arithmetic j i)) (λ e. absurd (omega arith));
+      comparison = with-after 4 (l .records) r (ComparisonCell (withRecord r l)) (λ j i. comparison-grew g j _ (q .comparison j i)) (λ e. absurd (omega arith));
     }
 
--- a register's, a memory's or a port's record
-pub push-run : (r : List ℕ) (l : Netlist) → Sound l → Formed r → (getD r 0 0 ≡ 3 → ⊥) → (getD r 0 0 ≡ 4 → ⊥)
-    → Meets Limit (λ (l′ : Netlist). (l′ ≡ withRecord r l) × Later l l′) (push r l)
+-- a register's or a memory's record
+pub push-run : (r : List ℕ) (l : Netlist) → Sound l → Formed r → 0 < getD r 0 0 → getD r 0 0 < 3 → Meets Limit (λ (l′ : Netlist). (l′ ≡ withRecord r l) × Later l l′) (push r l)
 push-run r l q f a b =
     meets-map Limit Limit (λ (l′ : Netlist). (l′ ≡ withRecord r l) × (used (l .records) + length r ≤ l .maxList)) (λ (l′ : Netlist). (l′ ≡ withRecord r l) × Later l l′)
-    (push r l) (pushed r l) (λ n x y h. h) (λ l′ p. (p .0, subst (λ (h : Netlist). Later l h) (sym (p .0)) (record { grew = grew-record r l; sound = sound-record r l q (p .1) f a b })))
+    (push r l) (pushed r l) (λ n x y h. h)
+    (λ l′ p. (p .0, subst (λ (h : Netlist). Later l h) (sym (p .0)) (record { grew = grew-record r l; sound = sound-record r l q (p .1) f b (λ e. absurd (omega arith)) })))
 
 -- ---- nodes that read at most nets below n ----
 
