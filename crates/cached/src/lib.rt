@@ -54,7 +54,17 @@ fn is_node(net: &[u32], k: u32, kind: u32, owner: u32, a: u32, b: u32, c: u32) -
 }
 
 // The newest node equal to the given one, whose hash is h.
-fn find_gate(net: &[u32], idx: &[u32], n: u32, h: u32, kind: u32, owner: u32, a: u32, b: u32, c: u32) -> Found
+fn find_gate(
+    net: &[u32],
+    idx: &[u32],
+    n: u32,
+    h: u32,
+    kind: u32,
+    owner: u32,
+    a: u32,
+    b: u32,
+    c: u32,
+) -> Found
     requires { ⌜ (Held n (now net) (now idx)) × (h ≡ hashNode n (node kind owner absent a b c)) × (h < n) × (0 < kind) × (kind < 7) ⌝ }
     ensures { λ r. ⌜ find (node kind owner absent a b c) (nodesOf (now (net .entry)) (getD (now (net .entry)) 1 0)) ≡ foundOf r ⌝ }
 {
@@ -79,7 +89,16 @@ fn link(idx: &mut [u32], n: u32, k: u32, h: u32)
 }
 
 // An equal node shared, else one node more.
-pub fn add_cached(net: &mut [u32], idx: &mut [u32], n: u32, kind: u32, owner: u32, a: u32, b: u32, c: u32) -> Added
+pub fn add_cached(
+    net: &mut [u32],
+    idx: &mut [u32],
+    n: u32,
+    kind: u32,
+    owner: u32,
+    a: u32,
+    b: u32,
+    c: u32,
+) -> Added
     requires { ⌜ (Held n (now net) (now idx)) × (0 < kind) × (kind < 7) ⌝ }
     ensures { λ r. ⌜ Gives (addCached (node kind owner absent a b c) (netlistOf n (now (net .entry)))) n r (now (net .exit)) (now (idx .exit)) ⌝ }
 {

@@ -8,10 +8,10 @@ ghost use Rattle.netlist_view.specs.View.{netlistOf};
 ghost use Rattle.netlist_index.specs.Index.{Held};
 ghost use Rattle.nodes.specs.Gives.{Gives};
 use cached::add_cached;
-use nodes::constant_value;
 use nodes::ABSENT;
 use nodes::Added;
 use nodes::Constant;
+use nodes::constant_value;
 
 // Whether net k is the constant v.
 pub fn is_constant(net: &[u32], k: u32, v: bool) -> bool

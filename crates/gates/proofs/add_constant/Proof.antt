@@ -4,6 +4,7 @@ use Rattle.gates.proofs.add_constant.Tie as tie
 use Rattle.gates.proofs.add_constant.Reads as reads
 use Rattle.gates.proofs.add_constant.Lts as lts
 use Rattle.cached.proofs.add_cached.Reads as add-cached-reads
+use Rattle.model.specs.Builder.{addConstant}
 
 -- src/lib.rt:33:9
 add-cached-requires : tie.Need-add-cached-requires
@@ -23,7 +24,8 @@ same-length-2 c = search needs
 
 -- src/lib.rt:28:1
 returns : tie.Need-returns
-returns c = ?
+unfolding addConstant
+returns c = rw (c .before .before .before .before .before .before .before .if1 .taken) (c .before .before .before .before .add-cached .ensures)
 
 -- src/lib.rt:28:1
 same-length-3 : tie.Need-same-length-3
@@ -35,7 +37,8 @@ same-length-4 c = search needs
 
 -- src/lib.rt:28:1
 returns-2 : tie.Need-returns-2
-returns-2 c = ?
+unfolding addConstant
+returns-2 c = rw (c .before .before .before .before .before .before .before .if1 .left) (c .before .before .before .before .add-cached2 .ensures)
 
 pub add-constant-spec : {M : Type 1} → statement M
 add-constant-spec =

@@ -8,6 +8,13 @@ use Rattle.gates.proofs.add_constant.Reads as add-constant-reads
 use Rattle.nodes.proofs.constant_value.Reads as constant-value-reads
 use Rattle.nodes.proofs.input_of.Reads as input-of-reads
 use Rattle.nodes.proofs.kind_of.Reads as kind-of-reads
+use mathlib.Core.Path.{_≡_, _∙_}
+use Rattle.netlist_view.specs.View.{netlistOf}
+use Rattle.gates.proofs.Ways.{gives-by, gives-net, not-value, not-not, not-gate}
+use mathlib.Core.Path.{sym, ap}
+use mathlib.Core.Bool.{true, false}
+use Rattle.nodes.specs.Gives.{valueOf}
+use Rattle.model.specs.Builder.{done}
 
 -- src/lib.rt:43:11
 constant-value-requires : tie.Need-constant-value-requires
@@ -47,7 +54,8 @@ same-length c = search needs
 
 -- src/lib.rt:48:17
 returns : tie.Need-returns
-returns c = ?
+returns c =
+    let s = c .before .before .before .before .before .before .before .before .before .before .before .args in let l = netlistOf (s .n) (s .net .now) in gives-net _ _ _ _ _ (c .before .before .before .before .before .before .before .before .before .before .before .pre) (not-not l (s .a) (c .before .before .before .before .before .before .before .constant-value .ensures (s .n) ∙ ap valueOf (c .before .before .before .before .before .enum-told3 .given .1)) (sym (c .before .before .before .kind-of .ensures (s .n)) ∙ c .before .before .if1 .taken) ∙ λ i. done (sym (c .input-of .ensures (s .n)) i, l))
 
 -- src/lib.rt:50:13
 add-cached-requires : tie.Need-add-cached-requires
@@ -63,7 +71,7 @@ same-length-3 c = search needs
 
 -- src/lib.rt:39:1
 returns-2 : tie.Need-returns-2
-returns-2 c = ?
+returns-2 c = let s = c .before .before .before .before .before .before .before .before .before .before .before .before .before .args in let l = netlistOf (s .n) (s .net .now) in gives-by _ _ _ _ _ _ (not-value l (s .a) false (c .before .before .before .before .before .before .before .before .before .constant-value .ensures (s .n) ∙ ap valueOf (c .before .before .before .before .before .before .before .enum-told .given .1))) (c .before .before .before .before .add-constant .ensures)
 
 -- src/lib.rt:39:1
 same-length-4 : tie.Need-same-length-4
@@ -75,7 +83,7 @@ same-length-5 c = search needs
 
 -- src/lib.rt:39:1
 returns-3 : tie.Need-returns-3
-returns-3 c = ?
+returns-3 c = let s = c .before .before .before .before .before .before .before .before .before .before .before .before .before .args in let l = netlistOf (s .n) (s .net .now) in gives-by _ _ _ _ _ _ (not-value l (s .a) true (c .before .before .before .before .before .before .before .before .before .constant-value .ensures (s .n) ∙ ap valueOf (c .before .before .before .before .before .before .before .enum-told2 .given .1))) (c .before .before .before .before .add-constant2 .ensures)
 
 -- src/lib.rt:39:1
 same-length-6 : tie.Need-same-length-6
@@ -87,7 +95,7 @@ same-length-7 c = search needs
 
 -- src/lib.rt:39:1
 returns-4 : tie.Need-returns-4
-returns-4 c = ?
+returns-4 c = let s = c .before .before .before .before .before .before .before .before .before .before .before .before .before .before .before .before .args in let l = netlistOf (s .n) (s .net .now) in gives-by _ _ _ _ _ _ (not-gate l (s .a) (c .before .before .before .before .before .before .before .before .before .before .before .before .constant-value .ensures (s .n) ∙ ap valueOf (c .before .before .before .before .before .before .before .before .before .before .enum-told3 .given .1)) (λ e. c .before .before .before .before .before .before .before .if1 .left (c .before .before .before .before .before .before .before .before .kind-of .ensures (s .n) ∙ e))) (c .before .before .before .before .add-cached .ensures)
 
 pub add-not-spec : {M : Type 1} → statement M
 add-not-spec =
