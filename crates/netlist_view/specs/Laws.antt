@@ -13,7 +13,7 @@ use Rattle.meaning.specs.NetlistImage.{recordsOf, split}
 use Rattle.model.specs.Words.{absent, Node, node, gate, Netlist, bitWord, used, count, nodesWords, listWords, headerWords, words}
 use Rattle.model.specs.Builder.{nodeForNet}
 use Rattle.netlist_view.specs.View.{nodeAt, nodesOf, room, netlistOf, Formed, AllFormed, Fit, Built}
-use Rattle.netlist_view.specs.Records.{used-length, used-snoc, listWords-snoc, count-snoc, formed-snoc, split-list}
+use Rattle.netlist_view.specs.Records.{used-length, used-snoc, listWords-snoc, count-snoc, count-le, formed-snoc, split-list}
 
 pub nodesOf-suc : (w : List ℕ) (k : ℕ) → nodesOf w (suc k) ≡ nodeAt w k ∷ nodesOf w k
 unfolding nodesOf
@@ -269,6 +269,38 @@ module _ (n : ℕ) (w : List ℕ) (b : Built n w) where
       (ap (λ (u : List ℕ). set (sets u (16 + 6 * getD w 1 0) (nodeWords x)) 1 (suc (getD w 1 0))) (b .told)
       ∙ ap (λ (c : ℕ). set (sets (words n p l) (16 + 6 * c) (nodeWords x)) 1 (suc c)) (sym count-is)
       ∙ node-stored n p l (b .fit) x k)
+
+module _ (n : ℕ) (w : List ℕ) (b : Built n w) (k : ℕ) (q : k < 5) where
+  header-count : (l : Netlist) (t : List ℕ) (j : ℕ) → j < 5 → getD (headerWords n l ++ t) (5 + j) 0 ≡ count j (l .records)
+  header-count l t zero h = refl
+  header-count l t (suc zero) h = refl
+  header-count l t (suc (suc zero)) h = refl
+  header-count l t (suc (suc (suc zero))) h = refl
+  header-count l t (suc (suc (suc (suc zero)))) h = refl
+  header-count l t (suc (suc (suc (suc (suc j))))) h = absurd (omega arith)
+
+  -- how many records of a kind there are
+  pub records-count : getD w (5 + k) 0 ≡ count k (netlistOf n w .records)
+  records-count =
+      let l = netlistOf n w in
+      ap (λ (u : List ℕ). getD u (5 + k) 0) (b .told ∙ words-parts n (room n w) (netlistOf n w)) ∙ header-count l (nodesPart n (room n w) l ++ (listWords (l .records) ++ zeros (room n w - used (l .records)))) k q
+
+  pub records-few : getD w (5 + k) 0 ≤ 65535
+  records-few = omega (arith, records-count, count-le k (netlistOf n w .records) (b .fit .formed), b .fit .short, b .list)
+
+  -- one record more, as the code writes it
+  pub record-pushed : (r : List ℕ) → getD w 3 0 + length r ≤ room n w → Formed r → getD r 0 absent ≡ k
+      → Holds n (withRecord r (netlistOf n w))
+      (set (set (sets w (16 + 6 * n + getD w 3 0) r) 3 (getD w 3 0 + length r)) (5 + k) (getD w (5 + k) 0 + 1))
+  record-pushed r h g e =
+      let l = netlistOf n w in
+      let p = room n w in
+      let u = used-is n w b in
+      let s : used (l .records) + length r ≤ p = omega arith in
+      holds n p (withRecord r l) _ (fit-record n p l (b .fit) r s g) (b .some) (b .nets) (b .list)
+      (ap (λ (x : List ℕ). set (set (sets x (16 + 6 * n + getD w 3 0) r) 3 (getD w 3 0 + length r)) (5 + k) (getD w (5 + k) 0 + 1)) (b .told)
+      ∙ (λ i. set (set (sets (words n p l) (16 + 6 * n + sym u i) r) 3 (sym u i + length r)) (5 + k) (records-count i + 1))
+      ∙ record-stored n p l (b .fit) r s k q e)
 
 pub node-in : (w : List ℕ) (c k : ℕ) (d : Node) → k < c → getD (nodesOf w c) (c - suc k) d ≡ nodeAt w k
 unfolding nodesOf
