@@ -24,14 +24,14 @@ use Rattle.netlist_view.specs.Laws.{withRecord}
 use Rattle.word_laws.specs.Widths.{AllBelow}
 use Rattle.netlist_laws.specs.Meaning.{decode, nodeAt, recordsWith, netValue}
 use Rattle.netlist_laws.specs.Sound.{count, CarryBelow, arithmeticRecord, comparisonRecord, arithmeticOutputs, comparisonOutput, widthWord, ArithmeticCell, ComparisonCell, OfArithmetic, OfComparison, Wired, Sound, Later, At, Stands, StandsAll}
-use Rattle.netlist_laws.specs.Run.{later-refl, later-trans, below-more, all-as, all-nil, all-cons, Meets, meets-map, Limit, Run, run-done, run-map}
+use Rattle.netlist_laws.specs.Run.{later-refl, later-trans, below-more, all-as, all-nil, all-cons, Meets, meets-map, Limit, Built, Run, run-here, run-map}
 use Rattle.netlist_laws.specs.Nodes.{arithmetic-grew, comparison-grew, getD-map-in}
 use Rattle.gate_laws.specs.Nodes.{noNode}
 use Rattle.gate_laws.specs.Gates.{constant-later}
 use Rattle.gate_laws.specs.Many.{constants-run}
 use Rattle.gate_laws.specs.Added.{withNodes, length-from, getD-from, nodes-added, Recorded, recorded}
 use Rattle.cell_laws.specs.Records.{operationOf, relationOf, operation-word, relation-word, arithmeticWords, arithmetic-of, arithmetic-outputs, arithmetic-length, arithmetic-formed, comparisonWords, comparison-of, comparison-output, comparison-length, comparison-formed}
-use Rattle.cell_laws.specs.Cells.{arithmetic-stands, comparison-stands, FoundCell, found-cell, count-with, withCell, grew-cell, count-cell, node-cell, cell-more, cell-new, cells-after, sound-cell}
+use Rattle.cell_laws.specs.Cells.{arithmetic-stands, comparison-stands, FoundCell, found-cell, count-with, withCell, grew-cell, count-cell, node-cell, cell-more, cell-new, cells-after, only-cell, sound-cell}
 
 -- only an addition has a carry
 abbrev pub Carried : ArithmeticOp → Option ℕ → Type 0
@@ -158,20 +158,21 @@ module _ (lhs rhs : List ℕ) (l : Netlist) (q : Sound l) (bl : AllBelow (count 
 
     made-run : Run l (λ zs l′. StandsAll l′ zs (Computes op lhs rhs carry)) (addRecorded key (addNodes (source 10 (W.count 3 (l .records))) 0 (length lhs) l))
     made-run = record {
-      run = meets-map Limit Limit (λ (r : List ℕ × Netlist). Recorded key nodes l (r .0) (r .1)) (λ (r : List ℕ × Netlist). Later l (r .1) × StandsAll (r .1) (r .0) (Computes op lhs rhs carry))
+      run = meets-map Limit Limit (λ (r : List ℕ × Netlist). Recorded key nodes l (r .0) (r .1)) (Built l (λ zs l′. StandsAll l′ zs (Computes op lhs rhs carry)))
           (addRecorded key (addNodes (source 10 (W.count 3 (l .records))) 0 (length lhs) l))
           (recorded key nodes l (addNodes (source 10 (W.count 3 (l .records))) 0 (length lhs) l) (nodes-added (source 10 (W.count 3 (l .records))) 0 (length lhs) l (q .few)))
           (λ n x y h. h) (λ r a. go (r .0) (r .1) a);
     }
       where
-        go : (ns : List ℕ) (l′ : Netlist) → Recorded key nodes l ns l′ → Later l l′ × StandsAll l′ ns (Computes op lhs rhs carry)
+        go : (ns : List ℕ) (l′ : Netlist) → Recorded key nodes l ns l′ → Built l (λ zs l′. StandsAll l′ zs (Computes op lhs rhs carry)) (ns, l′)
         go ns l′ a =
             let en : ns ≡ from (count l) (length lhs) = a .nets ∙ ap (from (count l)) length-nodes in
             let s = sound-after ns en (a .room) (a .list) in
-            subst (λ (h : Netlist). Later l h × StandsAll h ns (Computes op lhs rhs carry)) (sym (a .then)) (
-              record { grew = grew-cell nodes (record′ ns en) l; sound = s },
-              at-cell (after ns en) s (length (recordsWith 3 (l .records))) (rw (cell-more nodes (record′ ns en) l 3 refl) (omega arith)) ns (the-record ns en),
-            )
+            subst (λ (h : Netlist). Built l (λ zs l′. StandsAll l′ zs (Computes op lhs rhs carry)) (ns, h)) (sym (a .then)) (record {
+              later = record { grew = grew-cell nodes (record′ ns en) l; sound = s };
+              cells = only-cell nodes (record′ ns en) l (omega arith);
+              post = at-cell (after ns en) s (length (recordsWith 3 (l .records))) (rw (cell-more nodes (record′ ns en) l 3 refl) (omega arith)) ns (the-record ns en);
+            })
 
     -- ---- folded ----
 
@@ -205,5 +206,5 @@ module _ (lhs rhs : List ℕ) (l : Netlist) (q : Sound l) (bl : AllBelow (count 
         go : (o : Option (List ℕ)) → findCell key (l .records) ≡ o → Run l (λ zs l′. StandsAll l′ zs (Computes op lhs rhs carry)) (orMade o l (addArithmetic op lhs rhs carry l))
         go (some outs) e =
             let f = found-cell 3 (arithmeticWord op ∷ length lhs ∷ optionWord carry ∷ (lhs ++ rhs)) (l .records) outs e in
-            run-done (later-refl q) (at-cell l q (f .at) (f .inside) outs (f .is))
+            run-here q (at-cell l q (f .at) (f .inside) outs (f .is))
         go none e = add-run

@@ -23,14 +23,14 @@ use Rattle.netlist_view.specs.Laws.{withRecord}
 use Rattle.word_laws.specs.Widths.{AllBelow}
 use Rattle.netlist_laws.specs.Meaning.{decode, nodeAt, recordsWith, netValue}
 use Rattle.netlist_laws.specs.Sound.{count, CarryBelow, arithmeticRecord, comparisonRecord, arithmeticOutputs, comparisonOutput, widthWord, ArithmeticCell, ComparisonCell, OfArithmetic, OfComparison, Wired, Sound, Later, At, Stands, StandsAll}
-use Rattle.netlist_laws.specs.Run.{later-refl, later-trans, below-more, all-as, all-nil, all-cons, Meets, meets-map, Limit, Run, run-done, run-map}
+use Rattle.netlist_laws.specs.Run.{later-refl, later-trans, below-more, all-as, all-nil, all-cons, Meets, meets-map, Limit, Built, Run, run-here, run-map}
 use Rattle.netlist_laws.specs.Nodes.{arithmetic-grew, comparison-grew, getD-map-in}
 use Rattle.gate_laws.specs.Nodes.{noNode}
 use Rattle.gate_laws.specs.Gates.{constant-later}
 use Rattle.gate_laws.specs.Many.{constants-run}
 use Rattle.gate_laws.specs.Added.{withNodes, length-from, getD-from, nodes-added, Recorded, recorded}
 use Rattle.cell_laws.specs.Records.{operationOf, relationOf, operation-word, relation-word, arithmeticWords, arithmetic-of, arithmetic-outputs, arithmetic-length, arithmetic-formed, comparisonWords, comparison-of, comparison-output, comparison-length, comparison-formed}
-use Rattle.cell_laws.specs.Cells.{arithmetic-stands, comparison-stands, FoundCell, found-cell, count-with, withCell, grew-cell, count-cell, node-cell, cell-more, cell-new, cells-after, sound-cell}
+use Rattle.cell_laws.specs.Cells.{arithmetic-stands, comparison-stands, FoundCell, found-cell, count-with, withCell, grew-cell, count-cell, node-cell, cell-more, cell-new, cells-after, only-cell, sound-cell}
 
 -- the comparison's answer
 abbrev pub answer : ComparisonOp → List Bool → List Bool → Bool
@@ -118,21 +118,22 @@ module _ (lhs rhs : List ℕ) (l : Netlist) (q : Sound l) (bl : AllBelow (count 
   compare-run : Run l (λ zs l′. StandsAll l′ zs (Compares op lhs rhs)) (addComparison op lhs rhs l)
   unfolding addComparison nodes
   compare-run = record {
-    run = meets-map Limit Limit (λ (r : List ℕ × Netlist). Recorded key nodes l (r .0) (r .1)) (λ (r : List ℕ × Netlist). Later l (r .1) × StandsAll (r .1) (r .0) (Compares op lhs rhs))
+    run = meets-map Limit Limit (λ (r : List ℕ × Netlist). Recorded key nodes l (r .0) (r .1)) (Built l (λ zs l′. StandsAll l′ zs (Compares op lhs rhs)))
         (addRecorded key (addNodes (source 11 (W.count 4 (l .records))) 0 1 l))
         (recorded key nodes l (addNodes (source 11 (W.count 4 (l .records))) 0 1 l) (nodes-added (source 11 (W.count 4 (l .records))) 0 1 l (q .few)))
         (λ n x y h. h) (λ r a. go (r .0) (r .1) a);
   }
     where
-      go : (ns : List ℕ) (l′ : Netlist) → Recorded key nodes l ns l′ → Later l l′ × StandsAll l′ ns (Compares op lhs rhs)
+      go : (ns : List ℕ) (l′ : Netlist) → Recorded key nodes l ns l′ → Built l (λ zs l′. StandsAll l′ zs (Compares op lhs rhs)) (ns, l′)
       go ns l′ a =
           let en : ns ≡ count l ∷ [] = a .nets ∙ one (length nodes) length-nodes in
           let e : l′ ≡ after = a .then ∙ ap (λ (z : List ℕ). withRecord (key ++ z) (withNodes nodes l)) en in
           let s = sound-after (a .room) (subst (λ (z : List ℕ). W.used (l .records) + length (key ++ z) ≤ l .maxList) en (a .list)) in
-          subst (λ (h : List ℕ × Netlist). Later l (h .1) × StandsAll (h .1) (h .0) (Compares op lhs rhs)) {x = (count l ∷ [], after)} {y = (ns, l′)} (λ i. (sym en i, sym e i)) (
-            record { grew = grew-cell nodes record′ l; sound = s },
-            at-comparison after s (length (recordsWith 4 (l .records))) (rw (cell-more nodes record′ l 4 refl) (omega arith)) (count l) the-record,
-          )
+          subst (Built l (λ zs l′. StandsAll l′ zs (Compares op lhs rhs))) {x = (count l ∷ [], after)} {y = (ns, l′)} (λ i. (sym en i, sym e i)) (record {
+            later = record { grew = grew-cell nodes record′ l; sound = s };
+            cells = only-cell nodes record′ l (omega arith);
+            post = at-comparison after s (length (recordsWith 4 (l .records))) (rw (cell-more nodes record′ l 4 refl) (omega arith)) (count l) the-record;
+          })
         where
           one : (w : ℕ) → w ≡ 1 → from (count l) w ≡ count l ∷ []
           one w e = ap (from (count l)) e ∙ from-one (count l)
@@ -155,5 +156,5 @@ module _ (lhs rhs : List ℕ) (l : Netlist) (q : Sound l) (bl : AllBelow (count 
       go : (o : Option (List ℕ)) → findCell key (l .records) ≡ o → Run l (λ zs l′. StandsAll l′ zs (Compares op lhs rhs)) (orMade o l (addComparison op lhs rhs l))
       go (some outs) e =
           let f = found-cell 4 (comparisonWord op ∷ length lhs ∷ (lhs ++ rhs)) (l .records) outs e in
-          run-done (later-refl q) (found-comparison outs (f .at) (f .inside) (f .is))
+          run-here q (found-comparison outs (f .at) (f .inside) (f .is))
       go none e = compare-run

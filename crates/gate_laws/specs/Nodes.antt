@@ -18,7 +18,7 @@ use Rattle.model.specs.Builder.{Made, done, refused, addNode, same, find, orMad
 use Rattle.netlist_view.specs.Laws.{withNode}
 use Rattle.netlist_laws.specs.Meaning.{decode, nodeAt, meaningOf, netValue}
 use Rattle.netlist_laws.specs.Sound.{count, Wired, Sound, Grew, Later, At, Stands}
-use Rattle.netlist_laws.specs.Run.{later-refl, Limit, Run, run-done}
+use Rattle.netlist_laws.specs.Run.{Limit, Run, run-done, run-here}
 use Rattle.netlist_laws.specs.Nodes.{count-grew, node-at, wired-grew, at-grew, arithmetic-grew, comparison-grew, later-net}
 
 -- a test decides a call
@@ -65,7 +65,7 @@ is-node x l k b e = record { there = b; is = λ h a s c. later-net a k b s c ∙
 pub node-run : (x : Node) (l : Netlist) → Sound l → Wired l (count l) (decode x) → Run l (λ k l′. Stands l′ k (Is x)) (addNode x l)
 unfolding addNode
 node-run x l q w = run-if (ltb (count l) (l .maxNets))
-    (λ t. run-done (record { grew = grew-node x l; sound = sound-node x l q (ltb-true (count l) (l .maxNets) t) (wired-grew (grew-node x l) (count l) (omega arith) (decode x) w) })
+    (λ t. run-done (record { grew = grew-node x l; sound = sound-node x l q (ltb-true (count l) (l .maxNets) t) (wired-grew (grew-node x l) (count l) (omega arith) (decode x) w) }) (record { cells = λ t h. refl })
     (is-node x (withNode x l) (count l) (omega arith) (ap decode (newest x l))))
     (λ t. record { run = Limit.nets })
 
@@ -125,6 +125,6 @@ cached-run x l q w b = go (find x (l .nodes)) refl
     go : (o : Option ℕ) → find x (l .nodes) ≡ o → Run l (λ k l′. Stands l′ k (Is x)) (orMade o l (addNode x l))
     go (some k) e =
         let f = found x (l .nodes) k e in
-        run-done (later-refl q) (is-node x l k (f .inside)
+        run-here q (is-node x l k (f .inside)
         (ap decode (node-at l k (f .inside)) ∙ same-decode x (getD (l .nodes) (count l - suc k) noNode) b (f .alike (count l - suc k) refl)))
     go none e = node-run x l q w

@@ -19,7 +19,7 @@ use Rattle.netlist_view.specs.Laws.{withNode, withRecord}
 use Rattle.word_laws.specs.Widths.{AllBelow}
 use Rattle.netlist_laws.specs.Meaning.{decode, nodeAt, recordsWith, meaningOf, netValue}
 use Rattle.netlist_laws.specs.Sound.{count, PortNets, ArithmeticCell, ComparisonCell, Wired, Sound, Grew, Later, At, Stands, StandsAll}
-use Rattle.netlist_laws.specs.Run.{grew-refl, grew-trans, stands-later, all-as, Meets, meets-map, Limit, Run}
+use Rattle.netlist_laws.specs.Run.{grew-refl, grew-trans, stands-later, all-as, Meets, meets-map, Limit, Built, Run}
 use Rattle.netlist_laws.specs.Nodes.{count-grew, at-grew, wired-grew, arithmetic-grew, comparison-grew, with-after, node-grew, getD-map-in}
 use Rattle.gate_laws.specs.Nodes.{noNode, Is, is-node, grew-node, sound-node}
 use Rattle.gate_laws.specs.Many.{All}
@@ -100,16 +100,23 @@ sources-stand x b w l l′ ns g e =
 sources-run : (x : ℕ → Node) (b w : ℕ) (l : Netlist) → Sound l → ((i : ℕ) → Free 0 (x i))
     → Run l (Made (map x (from b w)) (λ h s c. tab w (λ i. Is (x (b + i)) h s c)) l) (addNodes x b w l)
 sources-run x b w l q f = record {
-  run = meets-map Limit Limit (λ (r : List ℕ × Netlist). NodesAdded (map x (from b w)) l (r .0) (r .1))
-      (λ (r : List ℕ × Netlist). Later l (r .1) × Made (map x (from b w)) (λ h s c. tab w (λ i. Is (x (b + i)) h s c)) l (r .0) (r .1)) (addNodes x b w l)
-      (nodes-added x b w l (q .few)) (λ n y z h. h) (λ r a. (
-        subst (λ (h : Netlist). Later l h) (sym (a .then)) (record {
-          grew = grew-nodes (map x (from b w)) l;
-          sound = sound-nodes 0 (map x (from b w)) l q (omega arith) (a .room) (all-map (Free 0) x (from b w) f);
-        }),
-        record { added = a; stands = sources-stand x b w l (r .1) (r .0) (subst (λ (h : Netlist). Grew (withNodes (map x (from b w)) l) h) (sym (a .then)) (grew-refl _)) (a .nets) },
-      ));
+  run = meets-map Limit Limit (λ (r : List ℕ × Netlist). NodesAdded xs l (r .0) (r .1)) (Built l (Made xs word l)) (addNodes x b w l)
+      (nodes-added x b w l (q .few)) (λ n y z h. h) (λ r a. go (r .0) (r .1) a);
 }
+  where
+    xs : List Node
+    xs = map x (from b w)
+
+    word : At (List Bool)
+    word h s c = tab w (λ i. Is (x (b + i)) h s c)
+
+    go : (ns : List ℕ) (l′ : Netlist) → NodesAdded xs l ns l′ → Built l (Made xs word l) (ns, l′)
+    go ns l′ a = record {
+      later = subst (λ (h : Netlist). Later l h) (sym (a .then))
+          (record { grew = grew-nodes xs l; sound = sound-nodes 0 xs l q (omega arith) (a .room) (all-map (Free 0) x (from b w) f) });
+      cells = record { cells = λ t h. ap (λ (k : Netlist). recordsWith t (k .records)) (a .then) ∙ ap (recordsWith t) (nodes-limits xs l .2) };
+      post = record { added = a; stands = sources-stand x b w l l′ ns (subst (λ (h : Netlist). Grew (withNodes xs l) h) (sym (a .then)) (grew-refl (withNodes xs l))) (a .nets) };
+    }
 
 -- a register's nets, a memory port's nets
 pub register-run : (r b w : ℕ) (l : Netlist) → Sound l → Run l (Made (map (source 7 r) (from b w)) (λ h s c. tab w (λ i. c .reg r (b + i))) l) (addNodes (source 7 r) b w l)

@@ -3,3 +3,4 @@ pub mod Meaning
 pub mod Sound
 pub mod Run
 pub mod Nodes
+pub mod Image

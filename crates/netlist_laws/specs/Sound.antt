@@ -123,6 +123,10 @@ pub record Later (l l′ : Netlist) : Type 0 where
   pub grew : Grew l l′
   pub sound : Sound l′
 
+-- the records of ports, registers and memories are as they were
+pub record Cells (l l′ : Netlist) : Type 0 where
+  pub cells : (t : ℕ) → t < 3 → recordsWith t (l′ .records) ≡ recordsWith t (l .records)
+
 -- ---- what nets stand for ----
 
 -- a value in each netlist, setting and contents
