@@ -1,17 +1,16 @@
 -- A cell that is in a sound netlist: its outputs stand for its operation. A cell that is found, and a cell that is made. Assumes nothing.
 use mathlib.Core.Path.{_≡_, refl, sym, ap, subst, _∙_}
 use mathlib.Core.Bool.{Bool, true, false}
-use mathlib.Core.List.{List, [], _∷_, _++_, map, append-nil}
-use mathlib.Core.Logic.{⊎-elim}
-use mathlib.Core.Option.{Option, none, some}
-use Prim.Native.Nat.{ℕ, zero, suc, _+_, _*_, _-_, _≤_, _<_, suc-le-suc}
-use native.Mathlib.Nat.{le-trans, eq-or-lt-of-le, le-of-suc-le-suc, not-suc-le-zero}
+use mathlib.Core.List.{List, [], _∷_, _++_, map}
+use mathlib.Core.Option.{some}
+use Prim.Native.Nat.{ℕ, suc, _+_, _*_, _-_, _≤_, _<_, suc-le-suc}
+use native.Mathlib.Nat.{le-trans}
 use native.Mathlib.Decide.{decLt}
 use native.Mathlib.Omega.{arith}
 use lib.Dec.{eqb}
-use lib.ListN.{length, getD, drop, length-append, length-map, length-drop, List·getD-append}
+use lib.ListN.{length, getD, drop, length-append, length-map, length-drop}
 use lib.Seq.{getD-append-seam, ext-getD}
-use borrow.Author.Tests.{eqb-true, eq-eqb, ne-eqb}
+use borrow.Author.Tests.{eqb-true}
 use Rattle.rules.specs.Rules.{_≡?_, pick, only}
 use Rattle.rules.specs.Laws.{eq-yes}
 use Rattle.rtl.specs.Word.{length-bits}
@@ -27,7 +26,7 @@ use Rattle.netlist_view.specs.Laws.{withRecord}
 use Rattle.word_laws.specs.Widths.{AllBelow}
 use Rattle.netlist_laws.specs.Meaning.{decode, nodeAt, recordsWith, meaningOf, netValue}
 use Rattle.netlist_laws.specs.Sound.{count, PortNets, widthWord, arithmeticRecord, comparisonRecord, arithmeticOutputs, comparisonOutput, ArithmeticCell, ComparisonCell, Wired, Sound, Grew, Later, Cells, Stands, StandsAll}
-use Rattle.netlist_laws.specs.Run.{grew-trans, later-count}
+use Rattle.netlist_laws.specs.Run.{grew-trans}
 use Rattle.netlist_laws.specs.Nodes.{at-grew, count-grew, wired-grew, with-old, with-more, with-new, with-same, with-after, later-net, cell-is, compare-is, getD-map-in}
 use Rattle.gate_laws.specs.Nodes.{noNode}
 use Rattle.gate_laws.specs.Added.{withNodes, grew-nodes, count-nodes, nodes-limits, node-added, grew-record}

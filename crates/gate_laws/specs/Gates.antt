@@ -1,9 +1,8 @@
 -- Gates: the net that each call gives stands for its operation on its operands' nets, folded or not, found or made. Assumes nothing.
 use mathlib.Core.Path.{_≡_, refl, sym, ap, subst, _∙_}
-use mathlib.Core.Bool.{Bool, true, false, not, cond, _&&_, _||_, Bool·not-not, and-false, and-true, and-comm, and-self, or-true, or-false, or-comm, or-self}
-use mathlib.Core.List.{List}
+use mathlib.Core.Bool.{Bool, true, false, not, cond, _&&_, _||_, Bool·not-not, and-comm, and-self, or-comm, or-self}
 use mathlib.Core.Option.{Option, none, some}
-use Prim.Native.Nat.{ℕ, _≤_, _<_, min, max}
+use Prim.Native.Nat.{ℕ, _<_, min, max}
 use native.Mathlib.Decide.{decLt}
 use native.Mathlib.Omega.{arith}
 use lib.Dec.{eqb}
@@ -13,11 +12,11 @@ use Rattle.rtl.specs.Ops.{xorB}
 use Rattle.meaning.specs.NetlistImage as N
 use Rattle.meaning.specs.NetlistImage.{nodeOf}
 use Rattle.meaning.specs.Step.{Setting, Contents, nodeValue}
-use Rattle.model.specs.Words.{absent, Node, node, gate, Netlist, bitWord}
+use Rattle.model.specs.Words.{absent, Node, node, gate, Netlist}
 use Rattle.model.specs.Builder.{Made, done, nodeForNet, constantOf, constantValue, isValue, isConstant, addCached, addConstant, notBy, addNot, addAnd, addOr, addXor, muxBy, addMux}
-use Rattle.netlist_laws.specs.Meaning.{decode, nodeAt, meaningOf, netValue}
-use Rattle.netlist_laws.specs.Sound.{count, Plain, Wired, Sound, Later, At, Stands}
-use Rattle.netlist_laws.specs.Run.{later-refl, later-trans, stands-self, stands-as, Run, run-here, run-map}
+use Rattle.netlist_laws.specs.Meaning.{decode, meaningOf, netValue}
+use Rattle.netlist_laws.specs.Sound.{count, Plain, Wired, Sound, Stands}
+use Rattle.netlist_laws.specs.Run.{later-trans, stands-as, Run, run-here, run-map}
 use Rattle.netlist_laws.specs.Nodes.{later-net}
 use Rattle.gate_laws.specs.Nodes.{run-if, Is, Bitless, cached-run}
 

@@ -10,7 +10,7 @@ use Rattle.model.specs.Builder.{Made, each, both, addConstant, addNot}
 use Rattle.word_laws.specs.Widths.{AllBelow}
 use Rattle.netlist_laws.specs.Meaning.{netValue}
 use Rattle.netlist_laws.specs.Sound.{count, Sound, At, Stands, StandsAll}
-use Rattle.netlist_laws.specs.Run.{later-refl, later-count, below-more, stands-later, all-nil, all-cons, Run, run-here, run-bind, run-map, all-as}
+use Rattle.netlist_laws.specs.Run.{later-count, below-more, stands-later, all-nil, all-cons, Run, run-here, run-bind, run-map, all-as}
 use Rattle.gate_laws.specs.Gates.{constant-run, not-run}
 
 abbrev pub All : {A : Type 0} → (A → Type 0) → List A → Type 0

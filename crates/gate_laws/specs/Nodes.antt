@@ -1,23 +1,22 @@
 -- One node more, made or found. Assumes nothing.
-use mathlib.Core.Path.{_≡_, refl, sym, ap, subst, _∙_}
+use mathlib.Core.Path.{_≡_, refl, sym, ap, _∙_}
 use mathlib.Core.Bool.{Bool, true, false, cond, _&&_}
-use mathlib.Core.List.{List, [], _∷_, _++_, append-nil}
+use mathlib.Core.List.{List, [], _∷_, append-nil}
 use mathlib.Core.Logic.{⊎-elim}
 use mathlib.Core.Option.{Option, none, some}
-use Prim.Native.Nat.{ℕ, zero, suc, _+_, _-_, _≤_, _<_}
+use Prim.Native.Nat.{ℕ, zero, suc, _-_, _<_}
 use native.Mathlib.Nat.{eq-or-lt-of-le, le-trans}
 use native.Mathlib.Omega.{arith}
 use lib.Dec.{eqb, ltb}
 use lib.ListN.{length, getD}
 use borrow.Author.Tests.{eqb-true, ltb-true}
-use Rattle.meaning.specs.NetlistImage as N
 use Rattle.meaning.specs.NetlistImage.{nodeOf}
 use Rattle.meaning.specs.Step.{nodeValue}
-use Rattle.model.specs.Words.{absent, Node, node, gate, Netlist}
-use Rattle.model.specs.Builder.{Made, done, refused, addNode, same, find, orMade, addCached, nodeForNet}
+use Rattle.model.specs.Words.{absent, Node, gate, Netlist}
+use Rattle.model.specs.Builder.{Made, addNode, same, find, orMade, addCached, nodeForNet}
 use Rattle.netlist_view.specs.Laws.{withNode}
 use Rattle.netlist_laws.specs.Meaning.{decode, nodeAt, meaningOf, netValue}
-use Rattle.netlist_laws.specs.Sound.{count, Wired, Sound, Grew, Later, At, Stands}
+use Rattle.netlist_laws.specs.Sound.{count, Wired, Sound, Grew, At, Stands}
 use Rattle.netlist_laws.specs.Run.{Limit, Run, run-done, run-here}
 use Rattle.netlist_laws.specs.Nodes.{count-grew, node-at, wired-grew, at-grew, arithmetic-grew, comparison-grew, later-net}
 

@@ -1,17 +1,17 @@
 -- The words of a netlist within its limits are read back as what it means. Assumes nothing.
 use mathlib.Core.Path.{_≡_, refl, sym, ap, ap₂, _∙_, fun-ext}
 use mathlib.Core.Bool.{Bool, true, false, not}
-use mathlib.Core.List.{List, [], _∷_, _++_, map}
-use Prim.Native.Nat.{ℕ, zero, suc, _+_, _*_, _-_, _≤_, _<_}
+use mathlib.Core.List.{List, [], _∷_, _++_}
+use Prim.Native.Nat.{ℕ, zero, suc, _+_, _*_, _-_, _<_}
 use native.Mathlib.Omega.{arith}
 use native.Mathlib.Nat.{add-zero}
-use lib.ListN.{length, getD, length-append}
+use lib.ListN.{length, getD}
 use Rattle.rules.specs.Rules as Q
-use Rattle.rules.specs.Rules.{_<?_, _≢?_, _or_, any, only, listOf}
+use Rattle.rules.specs.Rules.{_<?_, _≢?_, _or_, any, listOf}
 use Rattle.rules.specs.Laws.{yes-lt}
 use Rattle.meaning.specs.NetlistImage as N
-use Rattle.meaning.specs.NetlistImage.{netlist, nodeOf, nodeWord, recordsOf}
-use Rattle.model.specs.Words.{Node, Netlist, used, words}
+use Rattle.meaning.specs.NetlistImage.{netlist, nodeWord, recordsOf}
+use Rattle.model.specs.Words.{Node, Netlist, words}
 use Rattle.model.specs.Builder.{nodeForNet}
 use Rattle.netlist_view.specs.View as Held
 use Rattle.netlist_view.specs.View.{Fit, nodesOf, netlistOf}

@@ -2,22 +2,21 @@
 use mathlib.Core.Path.{_≡_, refl, sym, ap, _∙_}
 use mathlib.Core.Bool.{Bool, true, false, cond}
 use mathlib.Core.List.{List, [], _∷_, map}
-use Prim.Native.Nat.{ℕ, zero, suc, pred, _+_, _*_, _-_, _^_, _≤_, _<_, min}
-use native.Mathlib.Nat.{le-trans, add-comm, add-zero, zero-add}
+use Prim.Native.Nat.{ℕ, zero, suc, pred, _+_, _*_, _-_, _^_, _<_, min}
+use native.Mathlib.Nat.{add-comm, add-zero, zero-add}
 use native.Mathlib.Omega.{arith}
 use lib.Dec.{ltb}
 use lib.ListN.{length, getD, length-map, List·getD-map}
 use Rattle.rtl.specs.Word.{value}
 use Rattle.rtl.specs.Ops.{tab, top, shl, shr, map2}
-use Rattle.meaning.specs.Step.{Setting, Contents}
 use Rattle.model.specs.Words.{Netlist}
-use Rattle.model.specs.Builder.{Made, done, andThen, from, addConstant, addMux, both}
+use Rattle.model.specs.Builder.{from, addMux}
 use Rattle.model.specs.Lowering.{Shift, LeftS, RightS, ArithmeticS, movedDown, shifted, stages, shift}
 use Rattle.word_laws.specs.Widths.{AllBelow}
 use Rattle.word_laws.specs.Shift.{length-tab, tab-ext, mux-word, stagesL, stagesL-shl, stagesR, stagesR-shr, stagesA, stagesA-shr}
 use Rattle.netlist_laws.specs.Meaning.{netValue}
-use Rattle.netlist_laws.specs.Sound.{count, Sound, At, Stands, StandsAll}
-use Rattle.netlist_laws.specs.Run.{later-refl, later-trans, later-count, below-more, stands-later, all-self, all-as, Run, run-here, run-bind, run-map}
+use Rattle.netlist_laws.specs.Sound.{count, Sound, Stands, StandsAll}
+use Rattle.netlist_laws.specs.Run.{later-trans, later-count, below-more, stands-later, all-self, all-as, Run, run-here, run-bind, run-map}
 use Rattle.gate_laws.specs.Gates.{constant-run, mux-run}
 use Rattle.gate_laws.specs.Many.{both-run}
 

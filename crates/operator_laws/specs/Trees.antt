@@ -1,23 +1,23 @@
 -- Trees of gates, and equality. Assumes nothing.
 use mathlib.Core.Path.{_≡_, refl, sym, ap, _∙_}
-use mathlib.Core.Bool.{Bool, true, false, not, cond, _&&_, _||_, and-assoc, or-assoc, and-true, or-false}
+use mathlib.Core.Bool.{Bool, true, false, not, _&&_, _||_, and-assoc, or-assoc, and-true, or-false}
 use mathlib.Core.List.{List, [], _∷_, map, foldr}
-use Prim.Native.Nat.{ℕ, zero, suc, _+_, _≤_, _<_}
+use Prim.Native.Nat.{ℕ, zero, suc, _≤_, _<_}
 use native.Mathlib.Omega.{arith}
 use lib.Dec.{ltb}
 use lib.ListN.{length, length-map}
-use borrow.Author.Tests.{ltb-true, ltb-false}
-use Rattle.rtl.specs.Ops.{xorB, map2, eqW, allR}
-use Rattle.meaning.specs.Step.{Setting, Contents}
+use borrow.Author.Tests.{ltb-false}
+use Rattle.rtl.specs.Ops.{xorB, eqW, allR}
+use Rattle.meaning.specs.Step.{Contents}
 use Rattle.model.specs.Words.{Netlist}
-use Rattle.model.specs.Builder.{Made, done, andThen, addXor, addNot, both}
+use Rattle.model.specs.Builder.{done, andThen}
 use Rattle.model.specs.Ranges.{Gate, AndGate, OrGate, XorGate}
 use Rattle.model.specs.Lowering.{addGate, level, levels, reduceTree, addEqual, equalWords}
 use Rattle.word_laws.specs.Widths.{AllBelow}
 use Rattle.word_laws.specs.Tree.{pairs, pairs-fold, fewer-pairs, alike, alike-all}
 use Rattle.netlist_laws.specs.Meaning.{netValue}
-use Rattle.netlist_laws.specs.Sound.{count, Sound, At, Stands, StandsAll}
-use Rattle.netlist_laws.specs.Run.{later-refl, later-count, later-trans, below-more, stands-later, stands-as, all-self, all-as, all-nil, all-cons, all-length, Run, run-here, run-bind, run-map}
+use Rattle.netlist_laws.specs.Sound.{count, Sound, At, StandsAll}
+use Rattle.netlist_laws.specs.Run.{later-count, later-trans, below-more, stands-later, stands-as, all-self, all-as, all-nil, all-cons, all-length, Run, run-here, run-bind, run-map}
 use Rattle.gate_laws.specs.Gates.{Op2, and-run, or-run, xor-run, not-run}
 use Rattle.gate_laws.specs.Many.{both-run, constants-run}
 
