@@ -8,6 +8,8 @@ use Rattle.rules.specs.Rules.{_<?_, _≡?_, _or_, pick, first, any, sumTo}
 use Rattle.rules.specs.Laws.{or-no, no-lt, yes-lt, no-eq, no-ne, lt-yes, lt-no, eq-yes, eq-no, not-any, none, inside}
 use Rattle.meaning.specs.Image.{countAt, field, listWord, signalWidth, exprWidth, constantWords}
 use Rattle.meaning.specs.Checks.{noSignal, late, badUnary, badBinary, badConcat, badKind, badExpr}
+use Rattle.shared.specs.Tests.{not-no, pick-yes, pick-no}
+use Rattle.shared.specs.Good.{is-signal}
 use Rattle.exprs.specs.Kinds.{lateWord, partWidth, badRead, badConstant, badUnaryOf, badBinaryOf, badMux, badConcatOf, badSlice, kind-read, kind-constant, kind-unary, kind-binary, kind-mux, kind-concat, kind-slice, kind-none}
 
 -- a reading of w bits of signal a from bit b on
@@ -80,26 +82,9 @@ pub record GoodExpr (s : List ℕ) (r : ℕ) : Type 0 where
 
 -- ---- what a failed test tells ----
 
-pub not-no : {b : Bool} → not b ≡ false → b ≡ true
-not-no {b = true} e = refl
-not-no {b = false} e = absurd (true≢false e)
-
 pub not-late : (r e : ℕ) → late r e ≡ false → e < r
 unfolding late
 not-late r e h = yes-lt e r (not-no h)
-
-pub is-signal : (s : List ℕ) (p : ℕ) → noSignal s p ≡ false → p < countAt s 0
-unfolding noSignal
-is-signal s p h = yes-lt p (countAt s 0) (not-no h)
-
--- a choice is its first or its second side
-pub pick-yes : {A : Type 0} {t : Bool} {a r : A} (b : A) → t ≡ true → pick t a b ≡ r → a ≡ r
-unfolding pick
-pick-yes b e q = rw e at q
-
-pub pick-no : {A : Type 0} {t : Bool} {b r : A} (a : A) → t ≡ false → pick t a b ≡ r → b ≡ r
-unfolding pick
-pick-no a e q = rw e at q
 
 -- ---- each kind ----
 

@@ -79,15 +79,3 @@ kind-none s r k w a b c h =
   where
     far : (n : ℕ) → n < 7 → (k ≡? n) ≡ false
     far n l = eq-no k n (λ e. omega arith)
-
--- a comparison that the code answers with
-pub le-not : (a b : ℕ) → leb a b ≡ not (b <? a)
-le-not a b = go (leb a b) refl
-  where
-    go : (t : Bool) → leb a b ≡ t → t ≡ not (b <? a)
-    go true e = sym (ap not (lt-no b a (leb-true a b e)))
-    go false e = sym (ap not (lt-yes b a (leb-false a b e)))
-
--- a number that is at least n and not n
-pub beyond : (n k : ℕ) → n ≤ k → (k ≡ n → ⊥) → n + 1 ≤ k
-beyond n k l h = omega arith

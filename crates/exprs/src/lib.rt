@@ -1,9 +1,9 @@
 // The rules of the expression records, kind by kind, and the first record that breaks one. For all bytes: a reader past the end gives 0.
 ghost use mathlib.Core.Path.{_≡_};
 ghost use Prim.Native.Nat.{_+_, _≤_};
-ghost use Rattle.rules.specs.Rules.{_<?_, _≢?_, first, any, sumTo};
+ghost use Rattle.rules.specs.Rules.{first, any, sumTo};
 ghost use Rattle.meaning.specs.Image.{countAt, exprWidth};
-ghost use Rattle.meaning.specs.Checks.{noSignal, late, badUnary, badBinary, badConcat, badKind, badExpr};
+ghost use Rattle.meaning.specs.Checks.{late, badUnary, badBinary, badConcat, badKind, badExpr};
 ghost use Rattle.exprs.specs.Kinds.{lateWord, partWidth, badRead, badConstant, badUnaryOf, badBinaryOf, badMux, badConcatOf, badSlice, badFields};
 
 // Operand e of record r has no lower number.
@@ -11,20 +11,6 @@ pub fn is_late(r: u32, e: u32) -> bool
     ensures { λ b. ⌜ b ≡ late r e ⌝ }
 {
     r <= e
-}
-
-// x is below a + b.
-pub fn below_sum(x: u32, a: u32, b: u32) -> bool
-    ensures { λ r. ⌜ r ≡ (x <? a + b) ⌝ }
-{
-    (x as u64) < (a as u64) + (b as u64)
-}
-
-// There is no signal p.
-pub fn no_signal(s: &[u8], p: u32) -> bool
-    ensures { λ b. ⌜ b ≡ noSignal (now (s .entry)) p ⌝ }
-{
-    fields::count(s, 0) <= p
 }
 
 // Unary operator op of width w, on a width x.
@@ -88,7 +74,7 @@ fn bad_concat(s: &[u8], r: u32, w: u32, start: u32, count: u32) -> bool
     if count == 0 {
         return true;
     }
-    if below_sum(fields::count(s, 2), start, count) {
+    if shared::below_sum(fields::count(s, 2), start, count) {
         return true;
     }
     if has_late_part(s, r, start, count) {
@@ -102,10 +88,10 @@ fn bad_concat(s: &[u8], r: u32, w: u32, start: u32, count: u32) -> bool
 fn bad_read(s: &[u8], w: u32, a: u32, b: u32, c: u32) -> bool
     ensures { λ t. ⌜ t ≡ badRead (now (s .entry)) w a b c ⌝ }
 {
-    if no_signal(s, a) {
+    if shared::no_signal(s, a) {
         return true;
     }
-    if below_sum(fields::signal_width(s, a), b, w) {
+    if shared::below_sum(fields::signal_width(s, a), b, w) {
         return true;
     }
     c != 0
@@ -115,7 +101,7 @@ fn bad_constant(s: &[u8], w: u32, a: u32, b: u32, c: u32) -> bool
     requires { ⌜ w ≤ 1024 ⌝ }
     ensures { λ t. ⌜ t ≡ badConstant (now (s .entry)) w a b c ⌝ }
 {
-    if below_sum(fields::count(s, 2), a, 2 * ((w + 63) / 64)) {
+    if shared::below_sum(fields::count(s, 2), a, 2 * ((w + 63) / 64)) {
         return true;
     }
     if b != 0 {
@@ -184,7 +170,7 @@ fn bad_slice(s: &[u8], r: u32, w: u32, a: u32, b: u32, c: u32) -> bool
     if is_late(r, a) {
         return true;
     }
-    if below_sum(fields::expr_width(s, a), b, w) {
+    if shared::below_sum(fields::expr_width(s, a), b, w) {
         return true;
     }
     c != 0

@@ -4,7 +4,8 @@ use Rattle.exprs.proofs.bad_kind.Tie as tie
 use mathlib.Core.Path.{_∙_}
 use native.Mathlib.Omega.{arith}
 use borrow.Author.Needs.{needs}
-use Rattle.exprs.specs.Kinds.{kind-read, kind-constant, kind-unary, kind-binary, kind-mux, kind-concat, kind-slice, kind-none, beyond}
+use Rattle.shared.specs.Tests.{beyond}
+use Rattle.exprs.specs.Kinds.{kind-read, kind-constant, kind-unary, kind-binary, kind-mux, kind-concat, kind-slice, kind-none}
 
 bad-read-requires : tie.Need-bad-read-requires
 bad-read-requires c κs = search needs

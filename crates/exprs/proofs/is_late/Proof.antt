@@ -2,7 +2,7 @@
 use Rattle.exprs.proofs.is_late.Statement.{statement}
 use Rattle.exprs.proofs.is_late.Tie as tie
 use Rattle.meaning.specs.Checks.{late}
-use Rattle.exprs.specs.Kinds.{le-not}
+use Rattle.shared.specs.Tests.{le-not}
 
 returns : tie.Need-returns
 unfolding late

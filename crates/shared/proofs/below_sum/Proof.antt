@@ -1,6 +1,6 @@
--- `exprs::below_sum` meets its contract. Assumes nothing.
-use Rattle.exprs.proofs.below_sum.Statement.{statement}
-use Rattle.exprs.proofs.below_sum.Tie as tie
+-- `shared::below_sum` meets its contract. Assumes nothing.
+use Rattle.shared.proofs.below_sum.Statement.{statement}
+use Rattle.shared.proofs.below_sum.Tie as tie
 use mathlib.Core.Path.{refl}
 use borrow.Author.Needs.{needs}
 use Rattle.rules.specs.Rules.{_<?_}

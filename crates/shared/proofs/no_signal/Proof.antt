@@ -1,9 +1,9 @@
--- `exprs::no_signal` meets its contract. Assumes nothing.
-use Rattle.exprs.proofs.no_signal.Statement.{statement}
-use Rattle.exprs.proofs.no_signal.Tie as tie
+-- `shared::no_signal` meets its contract. Assumes nothing.
+use Rattle.shared.proofs.no_signal.Statement.{statement}
+use Rattle.shared.proofs.no_signal.Tie as tie
 use borrow.Author.Needs.{needs}
 use Rattle.meaning.specs.Checks.{noSignal}
-use Rattle.exprs.specs.Kinds.{le-not}
+use Rattle.shared.specs.Tests.{le-not}
 
 count-requires : tie.Need-count-requires
 count-requires c κs = search needs
