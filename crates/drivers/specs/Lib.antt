@@ -1,0 +1,2 @@
+-- Drivers by the columns of their sections.
+pub mod Columns
