@@ -9,7 +9,7 @@ use native.Mathlib.Nat.{eq-or-lt-of-le}
 use lib.ListN.{length, getD, set}
 use lib.Seq.{getD-set-same, getD-set-other}
 use Rattle.rules.specs.Rules.{_<?_, _≡?_, _or_, _and_, pick, upTo, first, any}
-use Rattle.meaning.specs.Image.{field, firstPort, hasSecond, secondPort}
+use Rattle.meaning.specs.Image.{countAt, field, firstPort, hasSecond, secondPort}
 use Rattle.meaning.specs.Checks.{assigned, targeted, readInto}
 
 -- element j of a is field f of record j of section k, for the first n records
@@ -26,6 +26,13 @@ pub record Columns (s : List ℕ) (n : ℕ) (signal lsb width : List ℕ) : Type
   pub signals : Column s 3 0 n signal
   pub lsbs : Column s 3 1 n lsb
   pub widths : Column s 3 2 n width
+
+-- the columns of the m assignments and of the first n registers
+pub record Drivers (s : List ℕ) (m n : ℕ) (signal lsb width targets : List ℕ) : Type 0 where
+  pub assigns : m ≡ countAt s 3
+  pub columns : Columns s m signal lsb width
+  pub few : n ≤ 1024
+  pub targets-of : Column s 4 2 n targets
 
 -- target j is signal p
 unfoldable pub listedIn : List ℕ → ℕ → ℕ → Bool
@@ -79,4 +86,12 @@ columns-less s n i signal lsb width l c = record {
   signals = column-less s 3 0 n i signal l (c .signals);
   lsbs = column-less s 3 1 n i lsb l (c .lsbs);
   widths = column-less s 3 2 n i width l (c .widths);
+}
+
+pub drivers-less : (s : List ℕ) (m n i : ℕ) (signal lsb width targets : List ℕ) → i ≤ n → Drivers s m n signal lsb width targets → Drivers s m i signal lsb width targets
+drivers-less s m n i signal lsb width targets l d = record {
+  assigns = d .assigns;
+  columns = d .columns;
+  few = omega (arith, d .few);
+  targets-of = column-less s 4 2 n i targets l (d .targets-of);
 }

@@ -3,9 +3,8 @@
 ghost use mathlib.Core.Path.{_≡_};
 ghost use Prim.Native.Nat.{_+_, _≤_};
 ghost use Rattle.rules.specs.Rules.{_<?_, _≡?_, _and_, any};
-ghost use Rattle.meaning.specs.Image.{countAt};
 ghost use Rattle.meaning.specs.Checks.{isInput, readInto, driven};
-ghost use Rattle.drivers.specs.Columns.{Column, Columns, drivesIn, listedIn, readsInto};
+ghost use Rattle.drivers.specs.Columns.{Column, Drivers, drivesIn, listedIn, readsInto};
 
 // Field f of the first n records of section k.
 pub fn column(s: &[u8], k: u32, f: u32, n: u32) -> [u32; 1024]
@@ -107,7 +106,7 @@ fn is_read_into(s: &[u8], n: u32, p: u32) -> bool
     false
 }
 
-// Signal p has a driver before the first i registers and the first j memories end; n assignments, and targets of the registers.
+// Signal p has a driver before the first i registers and the first j memories end; n assignments.
 pub fn is_driven(
     s: &[u8],
     signal: &[u32; 1024],
@@ -119,7 +118,7 @@ pub fn is_driven(
     j: u32,
     p: u32,
 ) -> bool
-    requires { ⌜ (n ≡ countAt (now s) 3) × (Columns (now s) n (now signal) (now lsb) (now width)) × (i ≤ 1024) × (Column (now s) 4 2 i (now targets)) ⌝ }
+    requires { ⌜ Drivers (now s) n i (now signal) (now lsb) (now width) (now targets) ⌝ }
     ensures { λ b. ⌜ b ≡ driven (now (s .entry)) i j p ⌝ }
 {
     if is_input(s, p) {

@@ -5,7 +5,7 @@ ghost use Prim.Native.Nat.{_≤_};
 ghost use Rattle.rules.specs.Rules.{first};
 ghost use Rattle.meaning.specs.Image.{countAt};
 ghost use Rattle.meaning.specs.Checks.{badReset, badRegister};
-ghost use Rattle.drivers.specs.Columns.{Column, Columns};
+ghost use Rattle.drivers.specs.Columns.{Drivers};
 ghost use Rattle.registers.specs.Register.{badRest, badRestOf};
 
 // The reset of register r, whose target is w wide.
@@ -24,7 +24,7 @@ fn bad_reset(s: &[u8], r: u32, w: u32) -> bool
     shared::bad_value(s, fields::record_field(s, 4, r, 11), w)
 }
 
-// Register r, whose target is signal p, but for its name; n assignments, and the columns of drivers.
+// Register r, whose target is signal p, but for its name; n assignments.
 fn bad_rest_of(
     s: &[u8],
     signal: &[u32; 1024],
@@ -35,7 +35,7 @@ fn bad_rest_of(
     r: u32,
     p: u32,
 ) -> bool
-    requires { ⌜ (n ≡ countAt (now s) 3) × (Columns (now s) n (now signal) (now lsb) (now width)) × (r ≤ 1024) × (Column (now s) 4 2 r (now targets)) ⌝ }
+    requires { ⌜ Drivers (now s) n r (now signal) (now lsb) (now width) (now targets) ⌝ }
     ensures { λ b. ⌜ b ≡ badRestOf (now (s .entry)) r p ⌝ }
 {
     if shared::no_signal(s, p) {
@@ -70,7 +70,7 @@ fn first_among(
     m: u32,
     n: u32,
 ) -> u32
-    requires { ⌜ (m ≡ countAt (now s) 3) × (Columns (now s) m (now signal) (now lsb) (now width)) × (n ≤ 1024) × (Column (now s) 4 2 n (now targets)) ⌝ }
+    requires { ⌜ Drivers (now s) m n (now signal) (now lsb) (now width) (now targets) ⌝ }
     ensures { λ r. ⌜ r ≡ first (badRest (now (s .entry))) n ⌝ }
 {
     let mut r: u32 = 0;

@@ -7,7 +7,7 @@ use native.Mathlib.Omega.{arith}
 use Rattle.rules.specs.Rules.{first}
 use Rattle.rules.specs.Laws.{from, begins, passed, found, ended}
 use Rattle.registers.specs.Register.{badRest}
-use Rattle.drivers.specs.Columns.{column-less}
+use Rattle.drivers.specs.Columns.{drivers-less}
 
 abbrev Inv-loop : tie.InvT-loop
 Inv-loop s signal lsb width targets m n r₀ r = (r ≤ n) × (first (badRest s) n ≡ from (badRest s) n r)
@@ -22,7 +22,7 @@ record-field-requires : tie.Need-record-field-requires Inv-loop μ-loop
 record-field-requires c κs = tt
 
 bad-rest-of-requires : tie.Need-bad-rest-of-requires Inv-loop μ-loop
-bad-rest-of-requires c κs = (c .before .before .before .before .pre .0, c .before .before .before .before .pre .1, omega arith, column-less _ _ _ _ _ _ (omega arith) (c .before .before .before .before .pre .3))
+bad-rest-of-requires c κs = drivers-less _ _ _ _ _ _ _ _ (omega arith) (c .before .before .before .before .pre)
 
 returns : tie.Need-returns Inv-loop μ-loop
 unfolding badRest

@@ -26,7 +26,7 @@ column-requires-4 : tie.Need-column-requires-4
 column-requires-4 c κs = search needs
 
 first-among-requires : tie.Need-first-among-requires
-first-among-requires c κs = (c .before .before .before .before .before .before .before .before .before .count .ensures, record { few = omega arith; signals = c .before .before .before .before .before .before .before .column .ensures; lsbs = c .before .before .before .before .before .before .column2 .ensures; widths = c .before .before .before .before .before .column3 .ensures }, omega arith, c .before .before .before .before .column4 .ensures)
+first-among-requires c κs = record { assigns = c .before .before .before .before .before .before .before .before .before .count .ensures; columns = record { few = omega arith; signals = c .before .before .before .before .before .before .before .column .ensures; lsbs = c .before .before .before .before .before .before .column2 .ensures; widths = c .before .before .before .before .before .column3 .ensures }; few = omega arith; targets-of = c .before .before .before .before .column4 .ensures }
 
 returns : tie.Need-returns
 returns c = c .first-among .ensures ∙ ap (first (badRest _)) (c .before .before .before .before .before .before .before .before .before .count2 .ensures)
