@@ -54,8 +54,9 @@ impl Workplace {
         fs::read_to_string(self.path.join(name)).map_err(|error| format!("{name}: {error}"))
     }
 
-    /// What a program prints here, both streams, and whether it went well.
-    fn run(&self, program: &str, arguments: &[&str]) -> Result<(String, bool), String> {
+    /// What a program prints here, both streams, and whether it went well;
+    /// nothing where it does not end in time.
+    fn run(&self, program: &str, arguments: &[&str]) -> Result<Option<(String, bool)>, String> {
         let failed = |error| format!("{program}: {error}");
         let output = File::create(self.path.join("printed.txt")).map_err(failed)?;
         let errors = output.try_clone().map_err(failed)?;
@@ -75,14 +76,11 @@ impl Workplace {
             if start.elapsed() > MOST_TIME {
                 let _ = child.kill();
                 let _ = child.wait();
-                return Err(format!(
-                    "{program} did not end in {} seconds",
-                    MOST_TIME.as_secs()
-                ));
+                return Ok(None);
             }
             sleep(Duration::from_millis(2));
         };
-        Ok((self.read("printed.txt")?, status.success()))
+        Ok(Some((self.read("printed.txt")?, status.success())))
     }
 }
 
@@ -117,11 +115,16 @@ pub fn simulate(
         "netlist.v",
         "bench.v",
     ];
-    let (printed, good) = place.run("iverilog", &compile)?;
+    let late = |program: &str| format!("{program} did not end in {MOST_TIME:?}");
+    let (printed, good) = place
+        .run("iverilog", &compile)?
+        .ok_or_else(|| late("iverilog"))?;
     if !good || !printed.is_empty() {
         return Err(format!("iverilog says: {printed}"));
     }
-    let (printed, good) = place.run("vvp", &["-n", "bench.vvp"])?;
+    let (printed, good) = place
+        .run("vvp", &["-n", "bench.vvp"])?
+        .ok_or_else(|| late("vvp"))?;
     if good {
         Ok(printed)
     } else {
@@ -150,7 +153,9 @@ pub fn prove_equal(
         "read_verilog -sv rtl.v netlist.v; proc; miter -equiv -flatten -make_outputs rtl netlist miter; \
          hierarchy -top miter; opt; sat -verify-no-timeout -timeout {seconds} -prove trigger 0 miter"
     );
-    let (printed, good) = place.run("yosys", &["-Q", "-T", "-p", &script])?;
+    let Some((printed, good)) = place.run("yosys", &["-Q", "-T", "-p", &script])? else {
+        return Ok(Proof::Open);
+    };
     if good && printed.contains("SAT proof finished - no model found: SUCCESS!") {
         Ok(Proof::Equal)
     } else if good && printed.contains("TIMEOUT") {

@@ -1,7 +1,7 @@
 //! Holds images to outside tools: Icarus runs module and netlist and must show
 //! what our simulators show; Yosys proves both equal for all settings.
 
-use driver::{Answer, Contents, ModuleSim, NetlistSim, NoRun, Setting, lower, words};
+use driver::{Answer, Contents, ModuleSim, NetlistSim, NoRun, Observation, Setting, lower, words};
 use image::{Image, MOST_LIMIT, Random, disassemble, kind};
 
 use crate::bench::{Run, bench};
@@ -15,8 +15,8 @@ use crate::{module_verilog, netlist_verilog};
 /// and kept bit by bit.
 const MOST_MEMORY_BITS: usize = 1 << 20;
 /// Larger netlists and wider multipliers are not given to the prover.
-const MOST_PROOF_NETS: usize = 3_000;
-const MOST_PROOF_FACTOR: u32 = 6;
+const MOST_PROOF_NETS: usize = 6_000;
+const MOST_PROOF_FACTOR: u32 = 64;
 
 /// What came of the images so far.
 #[derive(Default, Debug)]
@@ -26,7 +26,8 @@ pub struct Counts {
     pub controls_not_inputs: usize,
     pub memory_too_large: usize,
     pub simulated: usize,
-    pub with_contents: usize,
+    /// Of those, the ones whose contents changed in the run.
+    pub changing: usize,
     pub settings: usize,
     pub proved: usize,
     pub proved_opened: usize,
@@ -105,7 +106,8 @@ fn witness_run(
     agreed.map_err(|difference| kept(&mut place, &difference))?;
     counts.simulated += 1;
     counts.settings += run.settings.len();
-    counts.with_contents += usize::from(!image.registers.is_empty() || !image.memories.is_empty());
+    let changes = |seen: &Observation| seen.contents != run.first;
+    counts.changing += usize::from(run.observations.iter().any(changes));
     Ok(())
 }
 
@@ -230,13 +232,11 @@ fn witness_proof(image: &Image, seconds: u32, counts: &mut Counts) -> Result<(),
     Ok(())
 }
 
-/// Small enough for the prover, with an output and an input.
+/// Small enough for the prover, and with an output.
 fn is_small(image: &Image, words: &[u32]) -> bool {
     let is_wide_product =
         |e: &[u32; 5]| e[0] == kind::BINARY && e[2] == 5 && e[1] > MOST_PROOF_FACTOR;
-    let has = |direction: u32| image.signals.iter().any(|signal| signal[3] == direction);
     words[1] as usize <= MOST_PROOF_NETS
         && !image.expressions.iter().any(is_wide_product)
-        && has(1)
-        && has(2)
+        && image.signals.iter().any(|signal| signal[3] == 2)
 }

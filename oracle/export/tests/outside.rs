@@ -8,7 +8,7 @@ use export::{Netlist, Style, module_verilog, netlist_verilog};
 use image::{BINARY_OPS, Builder, Image, Random, UNARY_OPS, assemble};
 
 const EFFORT: Effort = Effort {
-    settings: 24,
+    settings: 40,
     proof_seconds: 20,
 };
 
@@ -91,7 +91,7 @@ fn wide_products_by_simulation() {
         return;
     }
     let mut counts = Counts::default();
-    let image = binary_image(5, &[(33, 33), (64, 64), (130, 130)]);
+    let image = binary_image(5, &[(33, 33), (64, 64), (130, 130)]); // too wide for a proof
     witness(&image, &mut Random::new(3), EFFORT, &mut counts)
         .unwrap_or_else(|difference| panic!("{difference}"));
     assert_eq!((counts.simulated, counts.proof_left_out), (1, 1));
@@ -121,6 +121,31 @@ fn registers_and_memories() {
         return;
     }
     hold(&image(CLOCKED));
+}
+
+/// Two ports that write one word, each on one of these clocks.
+fn collision(first: &str, second: &str) -> Image {
+    image(&format!(
+        "input c 1\ninput d 1\ninput x 3\ninput y 3\noutput m 3\noutput n 3\ninput on 1\n\
+         memory m depth 1 port raddr on rdata m waddr 1'd0 wdata x wenable on clock {first} \
+         port raddr on rdata n waddr 1'd0 wdata y wenable on clock {second}\n"
+    ))
+}
+
+#[test]
+fn the_second_port_s_word_stays() {
+    if !installed(&["iverilog", "vvp", "yosys"]) {
+        return;
+    }
+    for [first, second] in [
+        ["c", "c"],
+        ["c", "d"],
+        ["d", "c"],
+        ["c falling", "d"],
+        ["c", "c falling"],
+    ] {
+        hold(&collision(first, second));
+    }
 }
 
 /// A register beside the settings it sees and what it must hold after each.

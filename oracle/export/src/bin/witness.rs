@@ -7,7 +7,7 @@ use std::process::ExitCode;
 
 use export::tools::is_installed;
 use export::witness::{Counts, Effort, witness};
-use image::{Image, Random, Size, assemble, generate};
+use image::{Image, Random, Size, assemble, deepest, generate};
 
 const HELP: &str = "usage: witness [--images N] [--seed S] [--corpus] [--settings K] [--seconds T]
 
@@ -122,7 +122,7 @@ fn size(seed: u64) -> Size {
     }
 }
 
-/// The corpus texts that are images at all.
+/// The corpus texts that are images at all, and the two deepest chains.
 fn corpus() -> Result<Vec<(String, Image)>, String> {
     let directory = Path::new(env!("CARGO_MANIFEST_DIR")).join("../../corpus");
     let entries = fs::read_dir(&directory).map_err(|error| format!("the corpus: {error}"))?;
@@ -142,6 +142,8 @@ fn corpus() -> Result<Vec<(String, Image)>, String> {
         let bytes = assemble(&text).map_err(|error| format!("{name}: {error}"))?;
         images.extend(Image::decode(&bytes).map(|image| (name, image)));
     }
+    images.push(("deepest-32-1000".to_string(), deepest(32, 1_000)));
+    images.push(("deepest-128-250".to_string(), deepest(128, 250)));
     Ok(images)
 }
 
@@ -157,11 +159,11 @@ fn print_counts(counts: &Counts) {
         counts.memory_too_large
     );
     println!(
-        "Icarus: {} images ({} with registers or memories), {} settings",
-        counts.simulated, counts.with_contents, counts.settings
+        "Icarus: {} images ({} of them with changing contents), {} settings",
+        counts.simulated, counts.changing, counts.settings
     );
     println!(
-        "Yosys: {} equivalences, {} more with contents opened; {} too large or without ports, {} out of time",
+        "Yosys: {} equivalences, {} more with contents opened; {} too large or without outputs, {} out of time",
         counts.proved, counts.proved_opened, counts.proof_left_out, counts.proof_open
     );
 }
