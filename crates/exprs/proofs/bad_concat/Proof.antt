@@ -40,8 +40,9 @@ parts-sum-requires c κs = omega (arith, no-lt _ _ (sym (c .before .before .befo
 returns-4 : tie.Need-returns-4
 unfolding badConcat lateWord partWidth
 returns-4 c =
-    or-skip (eq-no _ _ (c .before .before .before .before .before .before .if1 .left))
-    (or-skip (sym (rw (c .before .before .before .before .before .count .ensures) at (c .before .before .before .before .below-sum .ensures)) ∙ c .before .before .before .if2 .left)
+    let c4 = c .before .before .before .before in
+    or-skip (eq-no _ _ (c4 .before .before .if1 .left))
+    (or-skip (sym (rw (c4 .before .count .ensures) at (c4 .below-sum .ensures)) ∙ c .before .before .before .if2 .left)
     (or-skip (sym (c .before .before .has-late-part .ensures) ∙ c .before .if3 .left)
     (ne-same (c .parts-sum .ensures) refl)))
 

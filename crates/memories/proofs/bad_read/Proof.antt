@@ -31,7 +31,8 @@ signal-width-requires c κs = search needs
 returns-3 : tie.Need-returns-3
 unfolding badRead
 returns-3 c =
-    or-skip (sym (rw (c .before .before .before .before .before .before .record-field .ensures) at (c .before .before .before .before .before .bad-address .ensures)) ∙ c .before .before .before .before .if1 .left)
+    let c4 = c .before .before .before .before in
+    or-skip (sym (rw (c4 .before .before .record-field .ensures) at (c4 .before .bad-address .ensures)) ∙ c4 .if1 .left)
     (or-skip (sym (c .before .before .before .no-signal .ensures) ∙ c .before .before .if2 .left)
     (or-hit _ (ne-yes _ _ (λ e. c .if3 .taken (c .before .signal-width .ensures ∙ e)))))
 
@@ -44,8 +45,9 @@ bad-optional-requires c κs = search needs
 returns-4 : tie.Need-returns-4
 unfolding badRead
 returns-4 c =
-    or-skip (sym (rw (c .before .before .before .before .before .before .before .record-field .ensures) at (c .before .before .before .before .before .before .bad-address .ensures)) ∙ c .before .before .before .before .before .if1 .left)
-    (or-skip (sym (c .before .before .before .before .no-signal .ensures) ∙ c .before .before .before .if2 .left)
+    let c4 = c .before .before .before .before in
+    or-skip (sym (rw (c4 .before .before .before .record-field .ensures) at (c4 .before .before .bad-address .ensures)) ∙ c4 .before .if1 .left)
+    (or-skip (sym (c4 .no-signal .ensures) ∙ c .before .before .before .if2 .left)
     (or-skip (ne-no _ _ (sym (c .before .before .signal-width .ensures) ∙ c .before .if3 .left))
     (c .bad-optional .ensures)))
 

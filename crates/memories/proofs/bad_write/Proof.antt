@@ -43,8 +43,9 @@ bad-control-requires c κs = search needs
 returns-3 : tie.Need-returns-3
 unfolding badWrite
 returns-3 c =
-    or-skip (sym (rw (c .before .before .before .before .before .before .before .record-field .ensures) at (c .before .before .before .before .before .before .bad-address .ensures)) ∙ c .before .before .before .before .before .if1 .left)
-    (or-skip (sym (rw (c .before .before .before .before .record-field2 .ensures) at (c .before .before .before .bad-value .ensures)) ∙ c .before .before .if2 .left)
+    let c4 = c .before .before .before .before in
+    or-skip (sym (rw (c4 .before .before .before .record-field .ensures) at (c4 .before .before .bad-address .ensures)) ∙ c4 .before .if1 .left)
+    (or-skip (sym (rw (c4 .record-field2 .ensures) at (c .before .before .before .bad-value .ensures)) ∙ c .before .before .if2 .left)
     (or-hit _ (sym (c .before .bad-control .ensures) ∙ c .if3 .taken)))
 
 add-record-field-3 : tie.Need-add-record-field-3
@@ -59,9 +60,11 @@ bad-bit-requires c κs = search needs
 returns-4 : tie.Need-returns-4
 unfolding badWrite
 returns-4 c =
-    or-skip (sym (rw (c .before .before .before .before .before .before .before .before .before .before .record-field .ensures) at (c .before .before .before .before .before .before .before .before .before .bad-address .ensures)) ∙ c .before .before .before .before .before .before .before .before .if1 .left)
-    (or-skip (sym (rw (c .before .before .before .before .before .before .before .record-field2 .ensures) at (c .before .before .before .before .before .before .bad-value .ensures)) ∙ c .before .before .before .before .before .if2 .left)
-    (or-skip (sym (c .before .before .before .before .bad-control .ensures) ∙ c .before .before .before .if3 .left)
+    let c4 = c .before .before .before .before in
+    let c8 = c4 .before .before .before .before in
+    or-skip (sym (rw (c8 .before .before .record-field .ensures) at (c8 .before .bad-address .ensures)) ∙ c8 .if1 .left)
+    (or-skip (sym (rw (c4 .before .before .before .record-field2 .ensures) at (c4 .before .before .bad-value .ensures)) ∙ c4 .before .if2 .left)
+    (or-skip (sym (c4 .bad-control .ensures) ∙ c .before .before .before .if3 .left)
     (or-hit _ (sym (rw (c .before .before .record-field3 .ensures) at (c .before .bad-bit .ensures)) ∙ c .if4 .taken))))
 
 add-record-field-4 : tie.Need-add-record-field-4
@@ -73,9 +76,11 @@ record-field-requires-4 c κs = search needs
 returns-5 : tie.Need-returns-5
 unfolding badWrite
 returns-5 c =
-    or-skip (sym (rw (c .before .before .before .before .before .before .before .before .before .before .before .record-field .ensures) at (c .before .before .before .before .before .before .before .before .before .before .bad-address .ensures)) ∙ c .before .before .before .before .before .before .before .before .before .if1 .left)
-    (or-skip (sym (rw (c .before .before .before .before .before .before .before .before .record-field2 .ensures) at (c .before .before .before .before .before .before .before .bad-value .ensures)) ∙ c .before .before .before .before .before .before .if2 .left)
-    (or-skip (sym (c .before .before .before .before .before .bad-control .ensures) ∙ c .before .before .before .before .if3 .left)
+    let c4 = c .before .before .before .before in
+    let c8 = c4 .before .before .before .before in
+    or-skip (sym (rw (c8 .before .before .before .record-field .ensures) at (c8 .before .before .bad-address .ensures)) ∙ c8 .before .if1 .left)
+    (or-skip (sym (rw (c8 .record-field2 .ensures) at (c4 .before .before .before .bad-value .ensures)) ∙ c4 .before .before .if2 .left)
+    (or-skip (sym (c4 .before .bad-control .ensures) ∙ c4 .if3 .left)
     (or-skip (sym (rw (c .before .before .before .record-field3 .ensures) at (c .before .before .bad-bit .ensures)) ∙ c .before .if4 .left)
     (lt-same refl (c .record-field4 .ensures)))))
 

@@ -44,8 +44,9 @@ bad-value-requires c κs = search needs
 returns-4 : tie.Need-returns-4
 unfolding badReset
 returns-4 c =
-    pick-skip _ (eq-no _ _ (λ e. c .before .before .before .before .before .before .if1 .left (c .before .before .before .before .before .before .before .record-field .ensures ∙ e)))
-    (or-skip (sym (c .before .before .before .before .before .bad-control .ensures) ∙ c .before .before .before .before .if2 .left)
+    let c4 = c .before .before .before .before in
+    pick-skip _ (eq-no _ _ (λ e. c4 .before .before .if1 .left (c4 .before .before .before .record-field .ensures ∙ e)))
+    (or-skip (sym (c4 .before .bad-control .ensures) ∙ c4 .if2 .left)
     (or-skip (lt-no _ _ (rw (c .before .before .before .record-field2 .ensures) at (c .before .before .if3 .left))) (rw (c .before .record-field3 .ensures) at (c .bad-value .ensures))))
 
 pub bad-reset-spec : {M : Type 1} → statement M
