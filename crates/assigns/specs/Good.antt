@@ -2,7 +2,9 @@
 use Prim.Native.Nat.{ℕ, _+_, _≤_, _<_}
 use mathlib.Core.Bool.{false}
 use mathlib.Core.List.{List}
-use mathlib.Core.Path.{_≡_}
+use mathlib.Core.Logic.{⊎-elim}
+use mathlib.Core.Path.{_≡_, ap}
+use native.Mathlib.Omega.{arith}
 use Rattle.rules.specs.Rules.{first}
 use Rattle.rules.specs.Laws.{or-no, no-lt, no-ne, inside, none}
 use Rattle.meaning.specs.Image.{countAt, field, signalWidth}
@@ -51,3 +53,10 @@ good-assign s r e = good-of s r _ _ _ _ e
 -- the section has no record that breaks a rule
 pub good-assigns : (s : List ℕ) → first (badAssign s) (countAt s 3) ≡ countAt s 3 → (r : ℕ) → r < countAt s 3 → GoodAssign s r
 good-assigns s e r h = good-assign s r (none _ _ e r h)
+
+-- a signal that no assignment drives in any of its bits is the signal of no assignment
+pub never-assigned : (s : List ℕ) (j p : ℕ) → GoodAssign s j → Apart s j p 0 (signalWidth s p) → field s 3 j 0 ≡ p → ⊥
+never-assigned s j p g apart e =
+    let room = g .room in
+    let same = ap (signalWidth s) e in
+    ⊎-elim (λ h. omega (arith, g .least)) (λ h. omega (arith, g .least)) (apart e)

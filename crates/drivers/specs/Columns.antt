@@ -1,6 +1,6 @@
 -- Drivers by the columns of their sections: an array that holds a field of each record gives the same answers as the image.
 use Prim.Native.Nat.{ℕ, zero, suc, _+_, _≤_, _<_}
-use mathlib.Core.Bool.{Bool, true, false}
+use mathlib.Core.Bool.{Bool}
 use mathlib.Core.List.{List}
 use mathlib.Core.Logic.{⊎-elim}
 use mathlib.Core.Path.{_≡_, refl, sym, ap, _∙_}
@@ -8,9 +8,9 @@ use native.Mathlib.Omega.{arith}
 use native.Mathlib.Nat.{eq-or-lt-of-le}
 use lib.ListN.{length, getD, set}
 use lib.Seq.{getD-set-same, getD-set-other}
-use Rattle.rules.specs.Rules.{_<?_, _≡?_, _or_, _and_, pick, upTo, first, any}
+use Rattle.rules.specs.Rules.{_<?_, _≡?_, _or_, _and_, upTo, first, any}
 use Rattle.meaning.specs.Image.{countAt, field, firstPort, hasSecond, secondPort}
-use Rattle.meaning.specs.Checks.{assigned, targeted, readInto}
+use Rattle.meaning.specs.Checks.{assigned, targeted}
 
 -- element j of a is field f of record j of section k, for the first n records
 unfoldable pub Column : List ℕ → ℕ → ℕ → ℕ → List ℕ → Type 0

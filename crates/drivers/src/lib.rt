@@ -6,6 +6,17 @@ ghost use Rattle.rules.specs.Rules.{_<?_, _≡?_, _and_, any};
 ghost use Rattle.meaning.specs.Checks.{isInput, readInto, driven};
 ghost use Rattle.drivers.specs.Columns.{Column, Drivers, drivesIn, listedIn, readsInto};
 
+// Where the fields of a memory's ports begin, and the field that says whether there is a second; a port's read data is its second field.
+pub const FIRST_PORT: u32 = 5;
+
+pub const HAS_SECOND: u32 = FIRST_PORT + 10;
+
+pub const SECOND_PORT: u32 = HAS_SECOND + 1;
+
+pub const FIRST_DATA: u32 = FIRST_PORT + 1;
+
+pub const SECOND_DATA: u32 = SECOND_PORT + 1;
+
 // Field f of the first n records of section k.
 pub fn column(s: &[u8], k: u32, f: u32, n: u32) -> [u32; 1024]
     requires { ⌜ n ≤ 1024 ⌝ }
@@ -83,13 +94,13 @@ pub fn is_input(s: &[u8], p: u32) -> bool
 fn reads(s: &[u8], j: u32, p: u32) -> bool
     ensures { λ b. ⌜ b ≡ readsInto (now (s .entry)) p j ⌝ }
 {
-    if fields::record_field(s, 5, j, 6) == p {
+    if fields::record_field(s, 5, j, FIRST_DATA) == p {
         return true;
     }
-    if fields::record_field(s, 5, j, 15) != 1 {
+    if fields::record_field(s, 5, j, HAS_SECOND) != 1 {
         return false;
     }
-    fields::record_field(s, 5, j, 17) == p
+    fields::record_field(s, 5, j, SECOND_DATA) == p
 }
 
 // Signal p is read data of one of the first n memories.

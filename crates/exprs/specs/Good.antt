@@ -1,16 +1,16 @@
 -- What an expression record that breaks no rule tells, kind by kind: `good-expr`.
 use Prim.Native.Nat.{ℕ, _+_, _≤_, _<_}
-use mathlib.Core.Bool.{Bool, true, false, not, true≢false}
+use mathlib.Core.Bool.{Bool, true, false, true≢false}
 use mathlib.Core.List.{List}
-use mathlib.Core.Path.{_≡_, refl, sym, _∙_}
+use mathlib.Core.Path.{_≡_, refl, _∙_}
 use native.Mathlib.Omega.{arith}
-use Rattle.rules.specs.Rules.{_<?_, _≡?_, _or_, pick, first, any, sumTo}
+use Rattle.rules.specs.Rules.{_<?_, first, sumTo}
 use Rattle.rules.specs.Laws.{or-no, no-lt, yes-lt, no-eq, no-ne, lt-yes, lt-no, eq-yes, eq-no, not-any, none, inside}
 use Rattle.meaning.specs.Image.{countAt, field, listWord, signalWidth, exprWidth, constantWords}
-use Rattle.meaning.specs.Checks.{noSignal, late, badUnary, badBinary, badConcat, badKind, badExpr}
+use Rattle.meaning.specs.Checks.{late, badUnary, badBinary, badConcat, badKind, badExpr}
 use Rattle.shared.specs.Tests.{not-no, pick-yes, pick-no}
 use Rattle.shared.specs.Good.{is-signal}
-use Rattle.exprs.specs.Kinds.{lateWord, partWidth, badRead, badConstant, badUnaryOf, badBinaryOf, badMux, badConcatOf, badSlice, kind-read, kind-constant, kind-unary, kind-binary, kind-mux, kind-concat, kind-slice, kind-none}
+use Rattle.exprs.specs.Kinds.{badRead, badConstant, badUnaryOf, badBinaryOf, badMux, badConcatOf, badSlice, kind-read, kind-constant, kind-unary, kind-binary, kind-mux, kind-concat, kind-slice, kind-none}
 
 -- a reading of w bits of signal a from bit b on
 pub record GoodRead (s : List ℕ) (w a b c : ℕ) : Type 0 where

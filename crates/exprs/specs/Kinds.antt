@@ -1,13 +1,11 @@
 -- The rule of each kind of expression by a name: `badKind` picks one of them by the kind's number. Record r, width w, operands a, b, c.
 use Prim.Native.Nat.{ℕ, _+_, _≤_, _<_}
-use mathlib.Core.Bool.{Bool, true, false, not}
+use mathlib.Core.Bool.{Bool, true, false}
 use mathlib.Core.List.{List}
-use mathlib.Core.Path.{_≡_, refl, sym, ap}
+use mathlib.Core.Path.{_≡_, refl}
 use native.Mathlib.Omega.{arith}
 use Rattle.rules.specs.Rules.{_<?_, _≡?_, _≢?_, _or_, pick}
-use lib.Dec.{leb}
-use borrow.Author.Tests.{leb-true, leb-false}
-use Rattle.rules.specs.Laws.{pick-skip, eq-no, lt-yes, lt-no}
+use Rattle.rules.specs.Laws.{pick-skip, eq-no}
 use Rattle.meaning.specs.Image.{countAt, field, listWord, signalWidth, exprWidth, constantWords}
 use Rattle.meaning.specs.Checks.{noSignal, late, badUnary, badBinary, badConcat, badKind}
 

@@ -7,7 +7,7 @@ use native.Mathlib.Omega.{arith}
 use Rattle.rules.specs.Rules.{_≡?_, first}
 use Rattle.rules.specs.Laws.{or-no, no-lt, no-eq, no-ne, yes-eq, eq-yes, eq-no, inside, none as first-none}
 use Rattle.meaning.specs.Image.{countAt, field, signalWidth, exprWidth, firstPort, hasSecond, secondPort}
-use Rattle.meaning.specs.Checks.{badAddress, badPort, badSecond, badMemory}
+use Rattle.meaning.specs.Checks.{badName, nameTaken, badAddress, badPort, badSecond, badMemory}
 use Rattle.names.specs.Names.{wrongName}
 use Rattle.shared.specs.Tests.{pick-yes, pick-no}
 use Rattle.shared.specs.Good.{GoodBit, GoodValue, GoodControl, GoodOptional, is-signal, is-expr, good-bit, good-value, good-control, all-zero, good-optional}
@@ -114,13 +114,16 @@ good-rest s r h =
     }
 
 pub record GoodMemory (s : List ℕ) (r : ℕ) : Type 0 where
-  pub name : wrongName s 5 r ≡ false
+  pub name : badName s 5 r ≡ false
+  pub fresh : nameTaken s 5 r ≡ false
   pub rest : GoodRest s r (signalWidth s (field s 5 r (firstPort + 1)))
 
 pub good-memory : (s : List ℕ) (r : ℕ) → badMemory s r ≡ false → GoodMemory s r
+unfolding wrongName
 good-memory s r e =
     let f = or-no (sym (name-or-rest s r) ∙ e) in
-    record { name = f .0; rest = good-rest s r (f .1) }
+    let n = or-no (f .0) in
+    record { name = n .0; fresh = n .1; rest = good-rest s r (f .1) }
 
 -- the section has no record that breaks a rule
 pub good-memories : (s : List ℕ) → first (badMemory s) (countAt s 5) ≡ countAt s 5 → (r : ℕ) → r < countAt s 5 → GoodMemory s r

@@ -98,15 +98,27 @@ fn bad_second(
     ensures { λ b. ⌜ b ≡ badSecond (now (s .entry)) r k w ⌝ }
 {
     if k == 0 {
-        return shared::not_zero(s, 5, r, 16, 10);
+        return shared::not_zero(s, 5, r, drivers::SECOND_PORT, 10);
     }
     if k != 1 {
         return true;
     }
-    if bad_port(s, signal, lsb, width, targets, m, n, r, 16, w) {
+    if bad_port(
+        s,
+        signal,
+        lsb,
+        width,
+        targets,
+        m,
+        n,
+        r,
+        drivers::SECOND_PORT,
+        w,
+    ) {
         return true;
     }
-    fields::record_field(s, 5, r, 17) == fields::record_field(s, 5, r, 6)
+    fields::record_field(s, 5, r, drivers::SECOND_DATA)
+        == fields::record_field(s, 5, r, drivers::FIRST_DATA)
 }
 
 // Memory r but for its name.
@@ -132,8 +144,19 @@ fn bad_rest(
     if fields::record_field(s, 5, r, 4) != 1 {
         return true;
     }
-    let w = fields::signal_width(s, fields::record_field(s, 5, r, 6));
-    if bad_port(s, signal, lsb, width, targets, m, n, r, 5, w) {
+    let w = fields::signal_width(s, fields::record_field(s, 5, r, drivers::FIRST_DATA));
+    if bad_port(
+        s,
+        signal,
+        lsb,
+        width,
+        targets,
+        m,
+        n,
+        r,
+        drivers::FIRST_PORT,
+        w,
+    ) {
         return true;
     }
     bad_second(
@@ -145,7 +168,7 @@ fn bad_rest(
         m,
         n,
         r,
-        fields::record_field(s, 5, r, 15),
+        fields::record_field(s, 5, r, drivers::HAS_SECOND),
         w,
     )
 }

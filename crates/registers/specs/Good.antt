@@ -6,7 +6,7 @@ use mathlib.Core.Path.{_≡_, sym, _∙_}
 use Rattle.rules.specs.Rules.{first}
 use Rattle.rules.specs.Laws.{or-no, no-lt, eq-yes, eq-no, none as first-none}
 use Rattle.meaning.specs.Image.{absent, countAt, field, signalWidth}
-use Rattle.meaning.specs.Checks.{badReset, badRegister}
+use Rattle.meaning.specs.Checks.{badName, nameTaken, badReset, badRegister}
 use Rattle.names.specs.Names.{wrongName}
 use Rattle.shared.specs.Tests.{pick-yes, pick-no}
 use Rattle.shared.specs.Good.{GoodBit, GoodValue, GoodControl, GoodOptional, is-signal, good-bit, good-value, good-control, all-zero, good-optional}
@@ -61,14 +61,16 @@ good-of s r p h =
     }
 
 pub record GoodRegister (s : List ℕ) (r : ℕ) : Type 0 where
-  pub name : wrongName s 4 r ≡ false
+  pub name : badName s 4 r ≡ false
+  pub fresh : nameTaken s 4 r ≡ false
   pub rest : GoodRegisterOf s r (field s 4 r 2)
 
 pub good-register : (s : List ℕ) (r : ℕ) → badRegister s r ≡ false → GoodRegister s r
-unfolding badRest
+unfolding badRest wrongName
 good-register s r e =
     let f = or-no (sym (name-or-rest s r) ∙ e) in
-    record { name = f .0; rest = good-of s r _ (f .1) }
+    let n = or-no (f .0) in
+    record { name = n .0; fresh = n .1; rest = good-of s r _ (f .1) }
 
 -- the section has no record that breaks a rule
 pub good-registers : (s : List ℕ) → first (badRegister s) (countAt s 4) ≡ countAt s 4 → (r : ℕ) → r < countAt s 4 → GoodRegister s r

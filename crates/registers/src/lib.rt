@@ -12,7 +12,7 @@ ghost use Rattle.registers.specs.Register.{badRest, badRestOf};
 fn bad_reset(s: &[u8], r: u32, w: u32) -> bool
     ensures { λ b. ⌜ b ≡ badReset (now (s .entry)) r w ⌝ }
 {
-    if fields::record_field(s, 4, r, 8) == 4294967295 {
+    if fields::record_field(s, 4, r, 8) == shared::ABSENT {
         return shared::not_zero(s, 4, r, 9, 3);
     }
     if shared::bad_control(s, 4, r, 8) {

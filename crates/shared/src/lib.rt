@@ -4,6 +4,9 @@ ghost use Prim.Native.Nat.{_+_, _≤_};
 ghost use Rattle.rules.specs.Rules.{_<?_};
 ghost use Rattle.meaning.specs.Checks.{noSignal, noExpr, badBit, badControl, notZero, badOptional, badValue};
 
+// What a control that is absent has for its signal.
+pub const ABSENT: u32 = 4294967295;
+
 // x is below a + b.
 pub fn below_sum(x: u32, a: u32, b: u32) -> bool
     ensures { λ r. ⌜ r ≡ (x <? a + b) ⌝ }
@@ -76,7 +79,7 @@ pub fn bad_optional(s: &[u8], k: u32, r: u32, f: u32) -> bool
     requires { ⌜ f ≤ 32 ⌝ }
     ensures { λ b. ⌜ b ≡ badOptional (now (s .entry)) k r f ⌝ }
 {
-    if fields::record_field(s, k, r, f) == 4294967295 {
+    if fields::record_field(s, k, r, f) == ABSENT {
         return not_zero(s, k, r, f + 1, 1);
     }
     bad_control(s, k, r, f)

@@ -22,7 +22,9 @@ first-bad-requires : tie.Need-first-bad-requires
 first-bad-requires c κs = search needs
 
 returns : tie.Need-returns
-returns c = c .first-bad .ensures ∙ ap (first (badAssign _)) (c .before .before .before .before .before .before .before .count .ensures)
+returns c =
+    let c4 = c .before .before .before .before in
+    c .first-bad .ensures ∙ ap (first (badAssign _)) (c4 .before .before .before .count .ensures)
 
 pub first-assign-spec : {M : Type 1} → statement M
 first-assign-spec =

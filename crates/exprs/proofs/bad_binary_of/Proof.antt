@@ -19,7 +19,9 @@ is-late-requires-2 c κs = search needs
 
 returns-2 : tie.Need-returns-2
 unfolding badBinaryOf
-returns-2 c = or-skip (sym (c .before .before .before .is-late .ensures) ∙ c .before .before .if1 .left) (or-hit _ (sym (c .before .is-late2 .ensures) ∙ c .if2 .taken))
+returns-2 c =
+    or-skip (sym (c .before .before .before .is-late .ensures) ∙ c .before .before .if1 .left)
+    (or-hit _ (sym (c .before .is-late2 .ensures) ∙ c .if2 .taken))
 
 expr-width-requires : tie.Need-expr-width-requires
 expr-width-requires c κs = search needs
@@ -32,7 +34,11 @@ bad-binary-requires c κs = search needs
 
 returns-3 : tie.Need-returns-3
 unfolding badBinaryOf
-returns-3 c = or-skip (sym (c .before .before .before .before .before .before .is-late .ensures) ∙ c .before .before .before .before .before .if1 .left) (or-skip (sym (c .before .before .before .before .is-late2 .ensures) ∙ c .before .before .before .if2 .left) (c .bad-binary .ensures ∙ ap₂ (badBinary _ _) (c .before .before .expr-width .ensures) (c .before .expr-width2 .ensures)))
+returns-3 c =
+    let c4 = c .before .before .before .before in
+    or-skip (sym (c4 .before .before .is-late .ensures) ∙ c4 .before .if1 .left)
+    (or-skip (sym (c4 .is-late2 .ensures) ∙ c .before .before .before .if2 .left)
+    (c .bad-binary .ensures ∙ ap₂ (badBinary _ _) (c .before .before .expr-width .ensures) (c .before .expr-width2 .ensures)))
 
 pub bad-binary-of-spec : {M : Type 1} → statement M
 bad-binary-of-spec =

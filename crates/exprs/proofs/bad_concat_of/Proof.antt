@@ -15,7 +15,9 @@ returns c = or-hit _ (sym (c .before .bad-concat .ensures) ∙ c .if1 .taken)
 
 returns-2 : tie.Need-returns-2
 unfolding badConcatOf
-returns-2 c = or-skip (sym (c .before .bad-concat .ensures) ∙ c .if1 .left) (ne-same refl refl)
+returns-2 c =
+    or-skip (sym (c .before .bad-concat .ensures) ∙ c .if1 .left)
+    (ne-same refl refl)
 
 pub bad-concat-of-spec : {M : Type 1} → statement M
 bad-concat-of-spec = tie.close (tie.spec bad-concat-requires returns returns-2)

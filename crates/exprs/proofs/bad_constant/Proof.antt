@@ -25,11 +25,16 @@ returns c = or-hit _ (sym (rw (c .before .before .count .ensures) at (c .before 
 
 returns-2 : tie.Need-returns-2
 unfolding badConstant constantWords
-returns-2 c = or-skip (sym (rw (c .before .before .before .count .ensures) at (c .before .before .below-sum .ensures)) ∙ c .before .if1 .left) (or-hit _ (ne-yes _ _ (c .if2 .taken)))
+returns-2 c =
+    or-skip (sym (rw (c .before .before .before .count .ensures) at (c .before .before .below-sum .ensures)) ∙ c .before .if1 .left)
+    (or-hit _ (ne-yes _ _ (c .if2 .taken)))
 
 returns-3 : tie.Need-returns-3
 unfolding badConstant constantWords
-returns-3 c = or-skip (sym (rw (c .before .before .before .count .ensures) at (c .before .before .below-sum .ensures)) ∙ c .before .if1 .left) (or-skip (ne-no _ _ (c .if2 .left)) (ne-same refl refl))
+returns-3 c =
+    or-skip (sym (rw (c .before .before .before .count .ensures) at (c .before .before .below-sum .ensures)) ∙ c .before .if1 .left)
+    (or-skip (ne-no _ _ (c .if2 .left))
+    (ne-same refl refl))
 
 pub bad-constant-spec : {M : Type 1} → statement M
 bad-constant-spec =

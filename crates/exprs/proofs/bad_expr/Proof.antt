@@ -25,14 +25,19 @@ add-if2 c = omega (arith, inside _ _ _ (sym (c .before .is-outside .ensures) ∙
 
 returns-2 : tie.Need-returns-2
 unfolding badExpr badFields
-returns-2 c = or-skip (sym (rw (c .before .before .before .expr-width .ensures) at (c .before .before .is-outside .ensures)) ∙ c .before .if1 .left) (or-hit _ (lt-yes _ _ (omega (arith, sum-more (exprWidth (now (c .before .before .before .before .before .args .s))) (c .before .before .before .before .before .args .r)))))
+returns-2 c =
+    or-skip (sym (rw (c .before .before .before .expr-width .ensures) at (c .before .before .is-outside .ensures)) ∙ c .before .if1 .left)
+    (or-hit _ (lt-yes _ _ (omega (arith, sum-more (exprWidth (now (c .before .before .before .before .before .args .s))) (c .before .before .before .before .before .args .r)))))
 
 bad-fields-requires : tie.Need-bad-fields-requires
 bad-fields-requires c κs = omega (arith, inside _ _ _ (sym (c .before .before .is-outside .ensures) ∙ c .before .if1 .left))
 
 returns-3 : tie.Need-returns-3
 unfolding badExpr badFields
-returns-3 c = or-skip (sym (rw (c .before .before .before .before .expr-width .ensures) at (c .before .before .before .is-outside .ensures)) ∙ c .before .before .if1 .left) (or-skip (lt-no _ _ (omega (arith, sum-more (exprWidth (now (c .before .before .before .before .before .before .args .s))) (c .before .before .before .before .before .before .args .r)))) (rw (c .before .before .before .before .expr-width .ensures) at (c .bad-fields .ensures)))
+returns-3 c =
+    or-skip (sym (rw (c .before .before .before .before .expr-width .ensures) at (c .before .before .before .is-outside .ensures)) ∙ c .before .before .if1 .left)
+    (or-skip (lt-no _ _ (omega (arith, sum-more (exprWidth (now (c .before .before .before .before .before .before .args .s))) (c .before .before .before .before .before .before .args .r))))
+    (rw (c .before .before .before .before .expr-width .ensures) at (c .bad-fields .ensures)))
 
 pub bad-expr-spec : {M : Type 1} → statement M
 bad-expr-spec =

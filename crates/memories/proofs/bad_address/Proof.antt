@@ -21,7 +21,9 @@ is-outside-requires c κs = search needs
 
 returns-2 : tie.Need-returns-2
 unfolding badAddress
-returns-2 c = or-skip (sym (c .before .before .before .no-expr .ensures) ∙ c .before .before .if1 .left) (rw (c .before .expr-width .ensures) at (c .is-outside .ensures))
+returns-2 c =
+    or-skip (sym (c .before .before .before .no-expr .ensures) ∙ c .before .before .if1 .left)
+    (rw (c .before .expr-width .ensures) at (c .is-outside .ensures))
 
 pub bad-address-spec : {M : Type 1} → statement M
 bad-address-spec =

@@ -22,13 +22,18 @@ bad-write-requires : tie.Need-bad-write-requires
 bad-write-requires c κs = search needs
 
 returns-2 : tie.Need-returns-2
-returns-2 c = or-skip (sym (rw (c .before .before .before .before .record-field .ensures) at (c .before .before .before .bad-read .ensures)) ∙ c .before .before .if1 .left) (or-hit _ (sym (c .before .bad-write .ensures) ∙ c .if2 .taken)) ∙ port-halves _ _ _ _
+returns-2 c =
+    or-skip (sym (rw (c .before .before .before .before .record-field .ensures) at (c .before .before .before .bad-read .ensures)) ∙ c .before .before .if1 .left)
+    (or-hit _ (sym (c .before .bad-write .ensures) ∙ c .if2 .taken)) ∙ port-halves _ _ _ _
 
 is-driven-requires : tie.Need-is-driven-requires
 is-driven-requires c κs = search needs
 
 returns-3 : tie.Need-returns-3
-returns-3 c = or-skip (sym (rw (c .before .before .before .before .before .record-field .ensures) at (c .before .before .before .before .bad-read .ensures)) ∙ c .before .before .before .if1 .left) (or-skip (sym (c .before .before .bad-write .ensures) ∙ c .before .if2 .left) (rw (c .before .before .before .before .before .before .before .pre .1, c .before .before .before .before .before .record-field .ensures) at (c .is-driven .ensures))) ∙ port-halves _ _ _ _
+returns-3 c =
+    let c4 = c .before .before .before .before in
+    or-skip (sym (rw (c4 .before .record-field .ensures) at (c4 .bad-read .ensures)) ∙ c .before .before .before .if1 .left)
+    (or-skip (sym (c .before .before .bad-write .ensures) ∙ c .before .if2 .left) (rw (c4 .before .before .before .pre .1, c4 .before .record-field .ensures) at (c .is-driven .ensures))) ∙ port-halves _ _ _ _
 
 pub bad-port-spec : {M : Type 1} → statement M
 bad-port-spec =

@@ -21,14 +21,20 @@ no-signal-requires c κs = search needs
 
 returns-2 : tie.Need-returns-2
 unfolding badRead
-returns-2 c = or-skip (sym (rw (c .before .before .before .before .record-field .ensures) at (c .before .before .before .bad-address .ensures)) ∙ c .before .before .if1 .left) (or-hit _ (sym (c .before .no-signal .ensures) ∙ c .if2 .taken))
+returns-2 c =
+    or-skip (sym (rw (c .before .before .before .before .record-field .ensures) at (c .before .before .before .bad-address .ensures)) ∙ c .before .before .if1 .left)
+    (or-hit _ (sym (c .before .no-signal .ensures) ∙ c .if2 .taken))
 
 signal-width-requires : tie.Need-signal-width-requires
 signal-width-requires c κs = search needs
 
 returns-3 : tie.Need-returns-3
 unfolding badRead
-returns-3 c = or-skip (sym (rw (c .before .before .before .before .before .before .record-field .ensures) at (c .before .before .before .before .before .bad-address .ensures)) ∙ c .before .before .before .before .if1 .left) (or-skip (sym (c .before .before .before .no-signal .ensures) ∙ c .before .before .if2 .left) (or-hit _ (ne-yes _ _ (λ e. c .if3 .taken (c .before .signal-width .ensures ∙ e)))))
+returns-3 c =
+    let c4 = c .before .before .before .before in
+    or-skip (sym (rw (c4 .before .before .record-field .ensures) at (c4 .before .bad-address .ensures)) ∙ c4 .if1 .left)
+    (or-skip (sym (c .before .before .before .no-signal .ensures) ∙ c .before .before .if2 .left)
+    (or-hit _ (ne-yes _ _ (λ e. c .if3 .taken (c .before .signal-width .ensures ∙ e)))))
 
 add-bad-optional : tie.Need-add-bad-optional
 add-bad-optional c = search needs
@@ -38,7 +44,12 @@ bad-optional-requires c κs = search needs
 
 returns-4 : tie.Need-returns-4
 unfolding badRead
-returns-4 c = or-skip (sym (rw (c .before .before .before .before .before .before .before .record-field .ensures) at (c .before .before .before .before .before .before .bad-address .ensures)) ∙ c .before .before .before .before .before .if1 .left) (or-skip (sym (c .before .before .before .before .no-signal .ensures) ∙ c .before .before .before .if2 .left) (or-skip (ne-no _ _ (sym (c .before .before .signal-width .ensures) ∙ c .before .if3 .left)) (c .bad-optional .ensures)))
+returns-4 c =
+    let c4 = c .before .before .before .before in
+    or-skip (sym (rw (c4 .before .before .before .record-field .ensures) at (c4 .before .before .bad-address .ensures)) ∙ c4 .before .if1 .left)
+    (or-skip (sym (c4 .no-signal .ensures) ∙ c .before .before .before .if2 .left)
+    (or-skip (ne-no _ _ (sym (c .before .before .signal-width .ensures) ∙ c .before .if3 .left))
+    (c .bad-optional .ensures)))
 
 pub bad-read-spec : {M : Type 1} → statement M
 bad-read-spec =

@@ -22,7 +22,10 @@ bad-port-requires c κs = search needs
 
 returns-3 : tie.Need-returns-3
 unfolding badSecond
-returns-3 c = pick-skip _ (eq-no _ _ (c .before .before .before .if1 .left)) (pick-hit _ (eq-yes _ _ (c .before .before .if2 .left)) (or-hit _ (sym (c .before .bad-port .ensures) ∙ c .if3 .taken)))
+returns-3 c =
+    pick-skip _ (eq-no _ _ (c .before .before .before .if1 .left))
+    (pick-hit _ (eq-yes _ _ (c .before .before .if2 .left))
+    (or-hit _ (sym (c .before .bad-port .ensures) ∙ c .if3 .taken)))
 
 record-field-requires : tie.Need-record-field-requires
 record-field-requires c κs = search needs
@@ -32,7 +35,10 @@ record-field-requires-2 c κs = search needs
 
 returns-4 : tie.Need-returns-4
 unfolding badSecond
-returns-4 c = pick-skip _ (eq-no _ _ (c .before .before .before .before .before .if1 .left)) (pick-hit _ (eq-yes _ _ (c .before .before .before .before .if2 .left)) (or-skip (sym (c .before .before .before .bad-port .ensures) ∙ c .before .before .if3 .left) (eq-same (c .before .record-field .ensures) (c .record-field2 .ensures))))
+returns-4 c =
+    pick-skip _ (eq-no _ _ (c .before .before .before .before .before .if1 .left))
+    (pick-hit _ (eq-yes _ _ (c .before .before .before .before .if2 .left))
+    (or-skip (sym (c .before .before .before .bad-port .ensures) ∙ c .before .before .if3 .left) (eq-same (c .before .record-field .ensures) (c .record-field2 .ensures))))
 
 pub bad-second-spec : {M : Type 1} → statement M
 bad-second-spec =

@@ -28,7 +28,16 @@ count-requires-3 : tie.Need-count-requires-3
 count-requires-3 c κs = tt
 
 first-among-requires : tie.Need-first-among-requires
-first-among-requires c κs = (record { assigns = c .before .before .before .before .before .before .before .before .before .before .count .ensures; columns = record { few = omega arith; signals = c .before .before .before .before .before .before .before .before .column .ensures; lsbs = c .before .before .before .before .before .before .before .column2 .ensures; widths = c .before .before .before .before .before .before .column3 .ensures }; few = omega arith; targets-of = c .before .before .before .before .before .column4 .ensures }, c .before .before .before .before .before .before .before .before .before .count2 .ensures)
+first-among-requires c κs =
+    let b = c .before .before .before .before .before in (
+      record {
+        assigns = b .before .before .before .before .before .count .ensures;
+        columns = record { few = omega arith; signals = b .before .before .before .column .ensures; lsbs = b .before .before .column2 .ensures; widths = b .before .column3 .ensures };
+        few = omega arith;
+        targets-of = b .column4 .ensures;
+      },
+      b .before .before .before .before .count2 .ensures,
+    )
 
 returns : tie.Need-returns
 returns c = c .first-among .ensures ∙ ap (first (badRest _)) (c .before .count3 .ensures)

@@ -26,10 +26,20 @@ column-requires-4 : tie.Need-column-requires-4
 column-requires-4 c κs = search needs
 
 first-among-requires : tie.Need-first-among-requires
-first-among-requires c κs = record { assigns = c .before .before .before .before .before .before .before .before .before .count .ensures; columns = record { few = omega arith; signals = c .before .before .before .before .before .before .before .column .ensures; lsbs = c .before .before .before .before .before .before .column2 .ensures; widths = c .before .before .before .before .before .column3 .ensures }; few = omega arith; targets-of = c .before .before .before .before .column4 .ensures }
+first-among-requires c κs =
+    let b = c .before .before .before .before in
+    record {
+      assigns = b .before .before .before .before .before .count .ensures;
+      columns = record { few = omega arith; signals = b .before .before .before .column .ensures; lsbs = b .before .before .column2 .ensures; widths = b .before .column3 .ensures };
+      few = omega arith;
+      targets-of = b .column4 .ensures;
+    }
 
 returns : tie.Need-returns
-returns c = c .first-among .ensures ∙ ap (first (badRest _)) (c .before .before .before .before .before .before .before .before .before .count2 .ensures)
+returns c =
+    let c4 = c .before .before .before .before in
+    let c8 = c4 .before .before .before .before in
+    c .first-among .ensures ∙ ap (first (badRest _)) (c8 .before .count2 .ensures)
 
 pub first-rest-spec : {M : Type 1} → statement M
 first-rest-spec =

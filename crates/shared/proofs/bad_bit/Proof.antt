@@ -18,7 +18,9 @@ signal-width-requires c κs = search needs
 
 returns-2 : tie.Need-returns-2
 unfolding badBit
-returns-2 c = or-skip (sym (c .before .before .no-signal .ensures) ∙ c .before .if1 .left) (ne-same (c .signal-width .ensures) refl)
+returns-2 c =
+    or-skip (sym (c .before .before .no-signal .ensures) ∙ c .before .if1 .left)
+    (ne-same (c .signal-width .ensures) refl)
 
 pub bad-bit-spec : {M : Type 1} → statement M
 bad-bit-spec = tie.close (tie.spec no-signal-requires returns signal-width-requires returns-2)

@@ -24,7 +24,9 @@ record-field-requires-2 c κs = search needs
 
 returns-2 : tie.Need-returns-2
 unfolding badControl
-returns-2 c = or-skip (sym (rw (c .before .before .before .record-field .ensures) at (c .before .before .bad-bit .ensures)) ∙ c .before .if1 .left) (lt-same refl (c .record-field2 .ensures))
+returns-2 c =
+    or-skip (sym (rw (c .before .before .before .record-field .ensures) at (c .before .before .bad-bit .ensures)) ∙ c .before .if1 .left)
+    (lt-same refl (c .record-field2 .ensures))
 
 pub bad-control-spec : {M : Type 1} → statement M
 bad-control-spec =

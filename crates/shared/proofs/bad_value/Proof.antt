@@ -18,7 +18,9 @@ expr-width-requires c κs = search needs
 
 returns-2 : tie.Need-returns-2
 unfolding badValue
-returns-2 c = or-skip (sym (c .before .before .no-expr .ensures) ∙ c .before .if1 .left) (ne-same (c .expr-width .ensures) refl)
+returns-2 c =
+    or-skip (sym (c .before .before .no-expr .ensures) ∙ c .before .if1 .left)
+    (ne-same (c .expr-width .ensures) refl)
 
 pub bad-value-spec : {M : Type 1} → statement M
 bad-value-spec = tie.close (tie.spec no-expr-requires returns expr-width-requires returns-2)
