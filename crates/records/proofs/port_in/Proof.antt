@@ -50,7 +50,9 @@ field-requires-6 : tie.Need-field-requires-6
 field-requires-6 c κs = search needs
 
 returns : tie.Need-returns
-returns c = port-way _ _ _ _ _ _ _ _ _ _ _ (c .before .before .before .before .before .before .before .field .ensures) (c .before .before .before .before .before .before .field2 .ensures) (c .before .before .before .before .before .enable-in .ensures) (c .before .before .before .before .field3 .ensures) (c .before .before .before .field4 .ensures) (c .before .before .control-in .ensures) (c .before .field5 .ensures) (c .field6 .ensures)
+returns c =
+    let c4 = c .before .before .before .before in
+    port-way _ _ _ _ _ _ _ _ _ _ _ (c4 .before .before .before .field .ensures) (c4 .before .before .field2 .ensures) (c4 .before .enable-in .ensures) (c4 .field3 .ensures) (c .before .before .before .field4 .ensures) (c .before .before .control-in .ensures) (c .before .field5 .ensures) (c .field6 .ensures)
 
 pub port-in-spec : {M : Type 1} → statement M
 port-in-spec =

@@ -26,7 +26,9 @@ reset-in-requires : tie.Need-reset-in-requires
 reset-in-requires c κs = search needs
 
 returns : tie.Need-returns
-returns c = register-way _ _ _ _ _ _ _ _ _ (c .before .before .before .before .before .before .section .ensures) (c .before .before .before .before .before .field .ensures) (c .before .before .before .before .field2 .ensures) (c .before .before .before .field3 .ensures) (c .before .before .field4 .ensures) (c .before .enable-in .ensures) (c .reset-in .ensures)
+returns c =
+    let c4 = c .before .before .before .before in
+    register-way _ _ _ _ _ _ _ _ _ (c4 .before .before .section .ensures) (c4 .before .field .ensures) (c4 .field2 .ensures) (c .before .before .before .field3 .ensures) (c .before .before .field4 .ensures) (c .before .enable-in .ensures) (c .reset-in .ensures)
 
 pub register-at-spec : {M : Type 1} → statement M
 register-at-spec =
