@@ -40,8 +40,9 @@ check-records-requires c κs = counts _ (header-tells _ (header-fine _ _ (c .bef
 returns-4 : tie.Need-returns-4
 unfolding rule.checked
 returns-4 c =
-    then-fine (refuse-no 1 (sym (c .before .before .before .before .before .before .bad-limits .ensures) ∙ c .before .before .before .before .before .if1 .left))
-    (then-fine (refuse-no 2 (sym (c .before .before .before .before .netlist-short .ensures) ∙ c .before .before .before .if2 .left))
+    let c4 = c .before .before .before .before in
+    then-fine (refuse-no 1 (sym (c4 .before .before .bad-limits .ensures) ∙ c4 .before .if1 .left))
+    (then-fine (refuse-no 2 (sym (c4 .netlist-short .ensures) ∙ c .before .before .before .if2 .left))
     (then-fine (header-fine _ _ (c .before .before .first-field .ensures) (c .before .if3 .left)) (c .check-records .ensures ∙ in-order _ _ _)))
 
 pub check-spec : {M : Type 1} → statement M

@@ -37,8 +37,10 @@ count-requires-3 c κs = search needs
 returns-3 : tie.Need-returns-3
 unfolding answerOf driversThen
 returns-3 c =
-    then-fine (section-fine _ 3 _ _ _ (c .before .before .before .before .before .before .before .before .first-assign .ensures) (c .before .before .before .before .before .before .before .count .ensures) (c .before .before .before .before .before .before .if1 .left))
-    (then-fine (section-fine _ 4 _ _ _ (c .before .before .before .before .before .first-register .ensures) (c .before .before .before .before .count2 .ensures) (c .before .before .before .if2 .left))
+    let c4 = c .before .before .before .before in
+    let c8 = c4 .before .before .before .before in
+    then-fine (section-fine _ 3 _ _ _ (c8 .first-assign .ensures) (c4 .before .before .before .count .ensures) (c4 .before .before .if1 .left))
+    (then-fine (section-fine _ 4 _ _ _ (c4 .before .first-register .ensures) (c4 .count2 .ensures) (c .before .before .before .if2 .left))
     (then-refused _ 4 5 _ (section-bad _ 5 _ _ _ (c .before .before .first-memory .ensures) (c .before .count3 .ensures) (c .if3 .taken))))
 
 scratch-short-requires : tie.Need-scratch-short-requires
@@ -47,17 +49,21 @@ scratch-short-requires c κs = search needs
 returns-4 : tie.Need-returns-4
 unfolding answerOf driversThen
 returns-4 c =
-    then-fine (section-fine _ 3 _ _ _ (c .before .before .before .before .before .before .before .before .before .before .first-assign .ensures) (c .before .before .before .before .before .before .before .before .before .count .ensures) (c .before .before .before .before .before .before .before .before .if1 .left))
-    (then-fine (section-fine _ 4 _ _ _ (c .before .before .before .before .before .before .before .first-register .ensures) (c .before .before .before .before .before .before .count2 .ensures) (c .before .before .before .before .before .if2 .left))
-    (then-fine (section-fine _ 5 _ _ _ (c .before .before .before .before .first-memory .ensures) (c .before .before .before .count3 .ensures) (c .before .before .if3 .left))
+    let c4 = c .before .before .before .before in
+    let c8 = c4 .before .before .before .before in
+    then-fine (section-fine _ 3 _ _ _ (c8 .before .before .first-assign .ensures) (c8 .before .count .ensures) (c8 .if1 .left))
+    (then-fine (section-fine _ 4 _ _ _ (c4 .before .before .before .first-register .ensures) (c4 .before .before .count2 .ensures) (c4 .before .if2 .left))
+    (then-fine (section-fine _ 5 _ _ _ (c4 .first-memory .ensures) (c .before .before .before .count3 .ensures) (c .before .before .if3 .left))
     (sym (refuse-yes 5 (sym (c .before .scratch-short .ensures) ∙ c .if4 .taken)))))
 
 returns-5 : tie.Need-returns-5
 unfolding answerOf driversThen
 returns-5 c =
-    then-fine (section-fine _ 3 _ _ _ (c .before .before .before .before .before .before .before .before .before .before .first-assign .ensures) (c .before .before .before .before .before .before .before .before .before .count .ensures) (c .before .before .before .before .before .before .before .before .if1 .left))
-    (then-fine (section-fine _ 4 _ _ _ (c .before .before .before .before .before .before .before .first-register .ensures) (c .before .before .before .before .before .before .count2 .ensures) (c .before .before .before .before .before .if2 .left))
-    (then-fine (section-fine _ 5 _ _ _ (c .before .before .before .before .first-memory .ensures) (c .before .before .before .count3 .ensures) (c .before .before .if3 .left))
+    let c4 = c .before .before .before .before in
+    let c8 = c4 .before .before .before .before in
+    then-fine (section-fine _ 3 _ _ _ (c8 .before .before .first-assign .ensures) (c8 .before .count .ensures) (c8 .if1 .left))
+    (then-fine (section-fine _ 4 _ _ _ (c4 .before .before .before .first-register .ensures) (c4 .before .before .count2 .ensures) (c4 .before .if2 .left))
+    (then-fine (section-fine _ 5 _ _ _ (c4 .first-memory .ensures) (c .before .before .before .count3 .ensures) (c .before .before .if3 .left))
     (sym (refuse-no 5 (sym (c .before .scratch-short .ensures) ∙ c .if4 .left)))))
 
 pub check-drivers-spec : {M : Type 1} → statement M

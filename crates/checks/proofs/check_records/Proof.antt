@@ -37,7 +37,8 @@ check-drivers-requires c κs = (
 returns-3 : tie.Need-returns-3
 unfolding recordsThen
 returns-3 c =
-    then-fine (section-fine _ 0 _ _ _ (c .before .before .before .before .before .before .first-signal .ensures) (c .before .before .before .before .before .count .ensures) (c .before .before .before .before .if1 .left))
+    let c4 = c .before .before .before .before in
+    then-fine (section-fine _ 0 _ _ _ (c4 .before .before .first-signal .ensures) (c4 .before .count .ensures) (c4 .if1 .left))
     (then-fine (section-fine _ 1 _ _ _ (c .before .before .before .first-expr .ensures) (c .before .before .count2 .ensures) (c .before .if2 .left)) (c .check-drivers .ensures))
 
 pub check-records-spec : {M : Type 1} → statement M
