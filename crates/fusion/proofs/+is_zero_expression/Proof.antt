@@ -1,5 +1,7 @@
 -- `fusion::is_zero_expression` meet their contracts. Assumes nothing.
 use Prim.Native.Nat.{ℕ, _<_, _≤_, _-_}
+use Rattle.fields.proofs.list_word.Reads as list-word-reads
+use Rattle.fusion.proofs.zero_test.Reads as zero-test-reads
 use borrow.Fn.Kinds.{In}
 use borrow.Fn.PlainCycle.{Measures, is, falls, and}
 use Rattle.fusion.proofs.is_zero_expression.Reads as is-zero-expression
