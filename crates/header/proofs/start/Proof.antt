@@ -1,4 +1,4 @@
--- `header::start` meets its contract. Assumes nothing.
+-- `header::start` meets its contract. The loop's invariant: at is where section j has to start. Assumes nothing.
 use borrow.Author.Needs.{needs}
 use Rattle.header.proofs.start.Statement.{statement}
 use Rattle.header.proofs.start.Tie as tie
