@@ -1,0 +1,374 @@
+-- Laws of the scratch: what its tables read as, and what a store into one of them makes of the state. Assumes nothing.
+use mathlib.Core.Path.{_≡_, refl, sym, ap, ap₂, _∙_, subst}
+use mathlib.Core.Bool.{Bool, true, false}
+use mathlib.Core.List.{List, [], _∷_, _++_, map}
+use mathlib.Core.Logic.{⊎-elim, inl, inr, _⊎_}
+use mathlib.Core.Option.{Option, none, some}
+use Prim.Native.Nat.{ℕ, zero, suc, _+_, _*_, _-_, _≤_, _<_, min}
+use native.Mathlib.Nat.{sub-zero}
+use native.Mathlib.Omega.{arith}
+use lib.ListN.{length, getD, set, take, drop, length-set, length-append, length-take, length-drop, List·getD-append, List·getD-eq-default}
+use lib.Seq.{ext-getD, getD-set-same, getD-set-other, getD-take, getD-drop, getD-append-add, paste, length-paste, set-getD}
+use Rattle.rules.specs.Rules.{listOf, sumTo}
+use Rattle.meaning.specs.Image.{countAt, signalWidth, exprWidth, decode}
+use Rattle.meaning.specs.Checks.{signalBits, exprBits, scratchNeed}
+use Rattle.model.specs.Words.{Netlist, absent}
+use Rattle.model.specs.Lowering as M
+use Rattle.model.specs.Lowering.{State, state, netOf, cell, put}
+use Rattle.table_view.specs.Rows.{listOf-agree, at-listOf, is-listOf, set-listOf, map-listOf, part-listOf, length-listOf, sum-agree, sum-falls, stretch-before, stretch-apart, sum-most, same-or, rows-agree, put-rows, cell-rows}
+use Rattle.table_view.specs.View.{limitOf, signalColumn, exprColumn, bitColumn, signalBit, exprBit, netAt, driverAt, markAt, firstAt, exprAt, bitAt, known, netWord, isSet, wholeOf, rangesOf, isWhole, signalRows, markRows, wholeAt, rangesAt, stateAt, stateOf, unset, freeAt, free, Sized, LaidAt, Laid, Writes, Marks}
+
+-- ---- words ----
+
+pub known-some : (x : ℕ) → 0 < x → known x ≡ some (x - 1)
+unfolding known
+known-some zero h = absurd (omega arith)
+known-some (suc x) h = let e : x ≡ suc x - 1 = omega arith in ap some e
+
+pub known-none : (x : ℕ) → x ≡ 0 → known x ≡ none
+unfolding known
+known-none x h = rw h
+
+pub known-suc : (x : ℕ) → known (suc x) ≡ some x
+unfolding known
+known-suc x = refl
+
+pub netWord-suc : (x : ℕ) → netWord (suc x) ≡ x
+unfolding netWord known
+netWord-suc x = refl
+
+pub netWord-some : (x : ℕ) → 0 < x → netWord x ≡ x - 1
+unfolding netWord
+netWord-some x h = ap netOf (known-some x h)
+
+pub netWord-none : (x : ℕ) → x ≡ 0 → netWord x ≡ absent
+unfolding netWord
+netWord-none x h = ap netOf (known-none x h)
+
+pub isSet-yes : (x : ℕ) → (x ≡ 0 → ⊥) → isSet x ≡ true
+unfolding isSet
+isSet-yes zero h = absurd (h refl)
+isSet-yes (suc x) h = refl
+
+pub isSet-no : (x : ℕ) → x ≡ 0 → isSet x ≡ false
+unfolding isSet
+isSet-no x h = rw h
+
+set-not : (x : ℕ) → isSet x ≡ false → x ≡ 0
+unfolding isSet
+set-not zero h = refl
+set-not (suc x) h = let z : _≡_ {A = Bool} true false = h in let y : _≡_ {A = ℕ} 0 1 = cc in absurd (omega arith)
+
+unset-none : (x : ℕ) → (x ≡ 0 → ⊥) → unset x ≡ unset 1
+unfolding unset
+unset-none zero h = absurd (h refl)
+unset-none (suc x) h = refl
+
+unset-most : (x : ℕ) → unset x ≤ 1
+unfolding unset
+unset-most zero = omega arith
+unset-most (suc x) = omega arith
+
+-- ---- sizes ----
+
+pub need-is : (s : List ℕ) (n : ℕ) → scratchNeed s n ≡ bitColumn s n + 2 * exprBits s
+unfolding scratchNeed
+need-is s n = omega arith
+
+pub signal-inside : (s : List ℕ) (p b : ℕ) → p < countAt s 0 → b < signalWidth s p → signalBit s p b < signalBits s
+unfolding signalBits
+signal-inside s p b h u = omega (arith, stretch-before (signalWidth s) p (countAt s 0) h)
+
+pub signal-ends : (s : List ℕ) (p : ℕ) → p < countAt s 0 → signalBit s p (signalWidth s p) ≤ signalBits s
+unfolding signalBits
+signal-ends s p h = stretch-before (signalWidth s) p (countAt s 0) h
+
+pub expr-ends : (s : List ℕ) (e : ℕ) → e < countAt s 1 → exprBit s e (exprWidth s e) ≤ exprBits s
+unfolding exprBits
+expr-ends s e h = stretch-before (exprWidth s) e (countAt s 1) h
+
+bits-below : (s : List ℕ) (j : ℕ) → j < sumTo (signalWidth s) (countAt s 0) → j < signalBits s
+unfolding signalBits
+bits-below s j u = u
+
+pub signals-few : (s : List ℕ) → Sized s → countAt s 0 ≤ signalBits s
+unfolding signalBits
+signals-few s z = sum-most (signalWidth s) (countAt s 0) (λ p h. z .signalSome p h)
+
+-- ---- stores ----
+
+-- w becomes w′ by k words from at on, the values v
+pub record Stored (at k : ℕ) (v : ℕ → ℕ) (w w′ : List ℕ) : Type 0 where
+  pub long : length w′ ≡ length w
+  pub inside : (i : ℕ) → i < k → getD w′ (at + i) 0 ≡ v i
+  pub other : (j : ℕ) → ((i : ℕ) → i < k → j ≡ at + i → ⊥) → getD w′ j 0 ≡ getD w j 0
+
+pub stored-one : (at x : ℕ) (w : List ℕ) → at < length w → Stored at 1 (λ i. x) w (set w at x)
+stored-one at x w h = record {
+  long = length-set w at x;
+  inside = λ i u. let e : at + i ≡ at = omega arith in ap (λ (j : ℕ). getD (set w at x) j 0) e ∙ getD-set-same w at x 0 h;
+  other = λ j o. getD-set-other w at j x 0 (λ z. o 0 (omega arith) (omega arith));
+}
+
+below-or : (a b : ℕ) → (a < b) ⊎ (b ≤ a)
+below-or a zero = inr (omega arith)
+below-or zero (suc b) = inl (omega arith)
+below-or (suc a) (suc b) = ⊎-elim (λ (x : a < b). inl (omega arith)) (λ (x : b ≤ a). inr (omega arith)) (below-or a b)
+
+-- k words of vs pasted at a place
+module _ (w : List ℕ) (at k : ℕ) (vs : List ℕ) (h : at + k ≤ length w) (u : k ≤ length vs) where
+  pasted-in : (i : ℕ) → i < k → getD (paste w at vs k) (at + i) 0 ≡ getD vs i 0
+  pasted-in i v =
+      let la : length (take at w) ≡ at = length-take at w ∙ omega arith in
+      let lv : length (take k vs) ≡ k = length-take k vs ∙ omega arith in
+      ap (λ (m : ℕ). getD (paste w at vs k) (m + i) 0) (sym la)
+      ∙ ap (λ (xs : List ℕ). getD xs (length (take at w) + i) 0) (app-assoc (take at w) (take k vs) (drop (at + k) w))
+      ∙ getD-append-add (take at w) (take k vs ++ drop (at + k) w) i 0
+      ∙ List·getD-append (take k vs) (drop (at + k) w) 0 i (omega arith)
+      ∙ getD-take k vs i 0 v
+    where
+      app-assoc : (a b c : List ℕ) → (a ++ b) ++ c ≡ a ++ (b ++ c)
+      app-assoc [] b c = refl
+      app-assoc (x ∷ a) b c = ap (λ (t : List ℕ). x ∷ t) (app-assoc a b c)
+
+  pasted-before : (j : ℕ) → j < at → getD (paste w at vs k) j 0 ≡ getD w j 0
+  pasted-before j v =
+      let la : length (take at w) ≡ at = length-take at w ∙ omega arith in
+      let lv : length (take at w ++ take k vs) ≡ length (take at w) + length (take k vs) = length-append (take at w) (take k vs) in
+      List·getD-append (take at w ++ take k vs) (drop (at + k) w) 0 j (omega arith)
+      ∙ List·getD-append (take at w) (take k vs) 0 j (omega arith)
+      ∙ getD-take at w j 0 v
+
+  pasted-after : (j : ℕ) → at + k ≤ j → getD (paste w at vs k) j 0 ≡ getD w j 0
+  pasted-after j v =
+      let la : length (take at w) ≡ at = length-take at w ∙ omega arith in
+      let lk : length (take k vs) ≡ k = length-take k vs ∙ omega arith in
+      let lv : length (take at w ++ take k vs) ≡ at + k = length-append (take at w) (take k vs) ∙ omega arith in
+      let e : j ≡ length (take at w ++ take k vs) + (j - (at + k)) = omega arith in
+      let e′ : at + k + (j - (at + k)) ≡ j = omega arith in
+      ap (λ (m : ℕ). getD (paste w at vs k) m 0) e
+      ∙ getD-append-add (take at w ++ take k vs) (drop (at + k) w) (j - (at + k)) 0
+      ∙ getD-drop (at + k) w (j - (at + k)) 0
+      ∙ ap (λ (m : ℕ). getD w m 0) e′
+
+  pub stored-paste : Stored at k (λ i. getD vs i 0) w (paste w at vs k)
+  stored-paste = record {
+    long = length-paste w at vs k h u;
+    inside = pasted-in;
+    other = λ j o. ⊎-elim (λ (v : j < at). pasted-before j v)
+        (λ (v : at ≤ j). ⊎-elim (λ (x : j < at + k). absurd (o (j - at) (omega arith) (omega arith))) (λ (x : at + k ≤ j). pasted-after j x) (below-or j (at + k)))
+        (below-or j at);
+  }
+
+-- ---- what stays ----
+
+take-agree : (m : ℕ) (w w′ : List ℕ) → length w′ ≡ length w → ((j : ℕ) → j < m → getD w′ j 0 ≡ getD w j 0) → take m w′ ≡ take m w
+take-agree m w w′ l h =
+    let a : length (take m w′) ≡ min m (length w′) = length-take m w′ in
+    let b : length (take m w) ≡ min m (length w) = length-take m w in
+    ext-getD 0 (take m w′) (take m w) (omega arith) (λ j u.
+    let v : j < m = omega arith in
+    getD-take m w′ j 0 v ∙ h j v ∙ sym (getD-take m w j 0 v))
+
+-- the words that no writer of a table changes, and nets that stay small
+pub record Kept (s : List ℕ) (n : ℕ) (w w′ : List ℕ) : Type 0 where
+  pub long : length w′ ≡ length w
+  pub fixed : (j : ℕ) → j < signalColumn n → getD w′ j 0 ≡ getD w j 0
+  pub drivers : (j : ℕ) → j < signalBits s → getD w′ (signalColumn n + signalBits s + j) 0 ≡ getD w (signalColumn n + signalBits s + j) 0
+  pub firsts : (j : ℕ) → j < signalBits s → getD w′ (signalColumn n + 3 * signalBits s + j) 0 ≡ getD w (signalColumn n + 3 * signalBits s + j) 0
+  pub exprs : (e k : ℕ) → e < countAt s 1 → k < 8 → (k ≡ 1 → ⊥) → getD w′ (exprAt s n e k) 0 ≡ getD w (exprAt s n e k) 0
+  pub signalNets : (j : ℕ) → j < signalBits s → getD w′ (signalColumn n + j) 0 ≤ 65535
+  pub exprNets : (j : ℕ) → j < exprBits s → getD w′ (bitColumn s n + j) 0 ≤ 65535
+
+pub kept-laid : (s : List ℕ) (n : ℕ) (w w′ : List ℕ) → LaidAt s n w → Kept s n w w′ → LaidAt s n w′
+kept-laid s n w w′ h k = record {
+  image = h .image;
+  limited = h .limited;
+  long = k .long ∙ h .long;
+  limit = k .fixed 0 (omega arith) ∙ h .limit;
+  bits = k .fixed 1 (omega arith) ∙ h .bits;
+  exprs = k .fixed 2 (omega arith) ∙ h .exprs;
+  nets = k .fixed 3 (omega arith) ∙ h .nets;
+  firsts = λ p u. k .firsts p (omega (arith, signals-few s (h .image))) ∙ h .firsts p u;
+  starts = λ e u. k .exprs e 0 u (omega arith) (λ z. absurd (omega arith)) ∙ h .starts e u;
+  drivers = λ p b u v. k .drivers (signalBit s p b) (signal-inside s p b u v) ∙ h .drivers p b u v;
+  signalNets = k .signalNets;
+  exprNets = k .exprNets;
+}
+
+pub writes : (op : State → State) (s w w′ : List ℕ) → Laid s w → Kept s (limitOf w) w w′
+    → ((l : Netlist) → stateAt s (limitOf w) l w′ ≡ op (stateAt s (limitOf w) l w)) → freeAt s (limitOf w) w′ ≤ freeAt s (limitOf w) w → Writes op s w w′
+writes op s w w′ h k e f =
+    let n = limitOf w in
+    let q : limitOf w′ ≡ n = k .fixed 0 (omega arith) in
+    record {
+      says = λ l. ap (λ (m : ℕ). stateAt s m l w′) q ∙ e l;
+      laid = subst (λ (m : ℕ). LaidAt s m w′) (sym q) (kept-laid s n w w′ h k);
+      limit = q;
+      fixed = take-agree (64 + 4 * n) w w′ (k .long) (λ j u. k .fixed j u);
+      plan = λ e i u a b. k .exprs e i u b (λ z. absurd (omega arith));
+      fewer = subst (λ (m : ℕ). freeAt s m w′ ≤ freeAt s n w) (sym q) f;
+    }
+
+-- ---- the state's parts, where words agree ----
+
+module _ (s : List ℕ) (n : ℕ) (w w′ : List ℕ) where
+  signals-stay : ((j : ℕ) → j < signalBits s → getD w′ (signalColumn n + j) 0 ≡ getD w (signalColumn n + j) 0) → signalRows s n w′ ≡ signalRows s n w
+  unfolding signalBits
+  signals-stay h =
+      rows-agree (signalWidth s) (countAt s 0) (λ j. known (getD w′ (signalColumn n + j) 0)) (λ j. known (getD w (signalColumn n + j) 0)) (λ j u. ap known (h j u))
+
+  marks-stay : ((j : ℕ) → j < signalBits s → getD w′ (signalColumn n + 2 * signalBits s + j) 0 ≡ getD w (signalColumn n + 2 * signalBits s + j) 0) → markRows s n w′ ≡ markRows s n w
+  marks-stay h =
+      rows-agree (signalWidth s) (countAt s 0) (λ j. isSet (getD w′ (signalColumn n + 2 * signalBits s + j) 0))
+      (λ j. isSet (getD w (signalColumn n + 2 * signalBits s + j) 0)) (λ j u. ap isSet (h j (bits-below s j u)))
+
+  free-stays : ((j : ℕ) → j < signalBits s → getD w′ (signalColumn n + 2 * signalBits s + j) 0 ≡ getD w (signalColumn n + 2 * signalBits s + j) 0) → freeAt s n w′ ≡ freeAt s n w
+  unfolding freeAt
+  free-stays h =
+      sum-agree (λ j. unset (getD w′ (signalColumn n + 2 * signalBits s + j) 0)) (λ j. unset (getD w (signalColumn n + 2 * signalBits s + j) 0)) (signalBits s) (λ j u. ap unset (h j u))
+
+  -- the words of expression e agree
+  abbrev ExprSame : ℕ → Type 0
+  ExprSame e = (getD w′ (exprAt s n e 1) 0 ≡ getD w (exprAt s n e 1) 0) × ((b : ℕ) → b < exprWidth s e → getD w′ (bitAt s n e b) 0 ≡ getD w (bitAt s n e b) 0)
+
+  whole-stays : (e : ℕ) → ExprSame e → wholeAt s n w′ e ≡ wholeAt s n w e
+  whole-stays e h =
+      ap₂ wholeOf (ap isSet (h .0)) (listOf-agree (exprWidth s e) (λ b. netWord (getD w′ (bitAt s n e b) 0)) (λ b. netWord (getD w (bitAt s n e b) 0)) (λ b u. ap netWord (h .1 b u)))
+
+  ranges-stay : (e : ℕ) → ExprSame e → rangesAt s n w′ e ≡ rangesAt s n w e
+  ranges-stay e h =
+      ap₂ rangesOf (ap isSet (h .0)) (listOf-agree (exprWidth s e) (λ b. known (getD w′ (bitAt s n e b) 0)) (λ b. known (getD w (bitAt s n e b) 0)) (λ b u. ap known (h .1 b u)))
+
+  wholes-stay : ((e : ℕ) → e < countAt s 1 → ExprSame e) → listOf (countAt s 1) (wholeAt s n w′) ≡ listOf (countAt s 1) (wholeAt s n w)
+  wholes-stay h = listOf-agree (countAt s 1) (wholeAt s n w′) (wholeAt s n w) (λ e u. whole-stays e (h e u))
+
+  rangeses-stay : ((e : ℕ) → e < countAt s 1 → ExprSame e) → listOf (countAt s 1) (rangesAt s n w′) ≡ listOf (countAt s 1) (rangesAt s n w)
+  rangeses-stay h = listOf-agree (countAt s 1) (rangesAt s n w′) (rangesAt s n w) (λ e u. ranges-stay e (h e u))
+
+-- ---- stores into the tables ----
+
+-- a signal's net
+module _ (s w w′ : List ℕ) (p b x : ℕ) (h : Laid s w) (u : p < countAt s 0) (v : b < signalWidth s p) (small : x < 65535)
+    (st : Stored (netAt s (limitOf w) p b) 1 (λ i. suc x) w w′) where
+  here-net : signalBit s p b < signalBits s
+  here-net = signal-inside s p b u v
+
+  net-kept : Kept s (limitOf w) w w′
+  net-kept = record {
+    long = st .long;
+    fixed = λ j a. st .other j (λ i c z. absurd (omega arith));
+    drivers = λ j a. st .other _ (λ i c z. absurd (omega (arith, here-net)));
+    firsts = λ j a. st .other _ (λ i c z. absurd (omega (arith, here-net)));
+    exprs = λ e k a d q. st .other _ (λ i c z. absurd (omega (arith, here-net)));
+    signalNets = λ j a. ⊎-elim
+        (λ (z : j ≡ signalBit s p b).
+          let e : signalColumn (limitOf w) + j ≡ netAt s (limitOf w) p b + 0 = omega arith in
+          let y : getD w′ (signalColumn (limitOf w) + j) 0 ≡ suc x = ap (λ (m : ℕ). getD w′ m 0) e ∙ st .inside 0 (omega arith) in
+          omega arith)
+        (λ (z : j ≡ signalBit s p b → ⊥).
+          let y : getD w′ (signalColumn (limitOf w) + j) 0 ≡ getD w (signalColumn (limitOf w) + j) 0 = st .other _ (λ i c q. z (omega arith)) in
+          omega (arith, h .signalNets j a))
+        (same-or j (signalBit s p b));
+    exprNets = λ j a.
+        let y : getD w′ (bitColumn s (limitOf w) + j) 0 ≡ getD w (bitColumn s (limitOf w) + j) 0 = st .other _ (λ i c z. absurd (omega (arith, here-net))) in
+        omega (arith, h .exprNets j a);
+  }
+
+  net-exprs : (e : ℕ) → e < countAt s 1 → ExprSame s (limitOf w) w w′ e
+  net-exprs e a = (st .other _ (λ i c z. absurd (omega (arith, here-net))), λ b′ d. st .other _ (λ i c z. absurd (omega (arith, here-net))))
+
+  net-marks : (j : ℕ) → j < signalBits s → getD w′ (signalColumn (limitOf w) + 2 * signalBits s + j) 0 ≡ getD w (signalColumn (limitOf w) + 2 * signalBits s + j) 0
+  net-marks j a = st .other _ (λ i c z. absurd (omega (arith, here-net)))
+
+  pub store-net : Writes (λ q. M.setSignalBit q p b x) s w w′
+  unfolding M.setSignalBit
+  store-net =
+      let n = limitOf w in
+      writes _ s w w′ h net-kept
+      (λ l j. state l
+        (sym (put-rows (signalWidth s) (countAt s 0) (λ j. known (getD w (signalColumn n + j) 0)) (λ j. known (getD w′ (signalColumn n + j) 0)) p b (some x) u v
+          (let e : signalColumn n + signalBit s p b ≡ netAt s n p b + 0 = omega arith in
+            ap (λ (m : ℕ). known (getD w′ m 0)) e ∙ ap known (st .inside 0 (omega arith)) ∙ known-suc x)
+          (λ m o. ap known (st .other _ (λ i c z. o (omega arith))))) j)
+        (marks-stay s n w w′ net-marks j)
+        (wholes-stay s n w w′ net-exprs j)
+        (rangeses-stay s n w w′ net-exprs j))
+      (omega (arith, free-stays s n w w′ net-marks))
+
+-- a mark
+module _ (s w w′ : List ℕ) (p b : ℕ) (h : Laid s w) (u : p < countAt s 0) (v : b < signalWidth s p)
+    (st : Stored (markAt s (limitOf w) p b) 1 (λ i. 1) w w′) where
+  here-mark : signalBit s p b < signalBits s
+  here-mark = signal-inside s p b u v
+
+  mark-nets : (j : ℕ) → j < signalBits s → getD w′ (signalColumn (limitOf w) + j) 0 ≡ getD w (signalColumn (limitOf w) + j) 0
+  mark-nets j a = st .other _ (λ i c z. absurd (omega (arith, here-mark)))
+
+  mark-kept : Kept s (limitOf w) w w′
+  mark-kept = record {
+    long = st .long;
+    fixed = λ j a. st .other j (λ i c z. absurd (omega arith));
+    drivers = λ j a. st .other _ (λ i c z. absurd (omega (arith, here-mark)));
+    firsts = λ j a. st .other _ (λ i c z. absurd (omega (arith, here-mark)));
+    exprs = λ e k a d q. st .other _ (λ i c z. absurd (omega (arith, here-mark)));
+    signalNets = λ j a. omega (arith, mark-nets j a, h .signalNets j a);
+    exprNets = λ j a.
+        let y : getD w′ (bitColumn s (limitOf w) + j) 0 ≡ getD w (bitColumn s (limitOf w) + j) 0 = st .other _ (λ i c z. absurd (omega (arith, here-mark))) in
+        omega (arith, h .exprNets j a);
+  }
+
+  mark-exprs : (e : ℕ) → e < countAt s 1 → ExprSame s (limitOf w) w w′ e
+  mark-exprs e a = (st .other _ (λ i c z. absurd (omega (arith, here-mark))), λ b′ d. st .other _ (λ i c z. absurd (omega (arith, here-mark))))
+
+  mark-word : getD w′ (markAt s (limitOf w) p b) 0 ≡ 1
+  mark-word = let e : markAt s (limitOf w) p b ≡ markAt s (limitOf w) p b + 0 = omega arith in ap (λ (m : ℕ). getD w′ m 0) e ∙ st .inside 0 (omega arith)
+
+  marked-word : cell false (markRows s (limitOf w) w) p b ≡ isSet (getD w (markAt s (limitOf w) p b) 0)
+  marked-word = cell-rows (signalWidth s) (countAt s 0) (λ j. isSet (getD w (signalColumn (limitOf w) + 2 * signalBits s + j) 0)) false p b u v
+
+  free-less : getD w (markAt s (limitOf w) p b) 0 ≡ 0 → suc (freeAt s (limitOf w) w′) ≡ freeAt s (limitOf w) w
+  unfolding freeAt unset
+  free-less e =
+      let n = limitOf w in
+      sum-falls (λ j. unset (getD w (signalColumn n + 2 * signalBits s + j) 0)) (λ j. unset (getD w′ (signalColumn n + 2 * signalBits s + j) 0)) (signalBits s) (signalBit s p b) here-mark
+      (ap unset e) (ap unset mark-word) (λ j a q. ap unset (st .other _ (λ i c z. q (omega arith))))
+
+  free-same : (getD w (markAt s (limitOf w) p b) 0 ≡ 0 → ⊥) → freeAt s (limitOf w) w′ ≡ freeAt s (limitOf w) w
+  unfolding freeAt
+  free-same o =
+      let n = limitOf w in
+      sum-agree (λ j. unset (getD w′ (signalColumn n + 2 * signalBits s + j) 0)) (λ j. unset (getD w (signalColumn n + 2 * signalBits s + j) 0)) (signalBits s)
+      (λ j a. ⊎-elim
+        (λ (z : j ≡ signalBit s p b).
+          let e : signalColumn n + 2 * signalBits s + j ≡ markAt s n p b = omega arith in
+          ap (λ (m : ℕ). unset (getD w′ m 0)) e ∙ ap unset mark-word ∙ sym (ap (λ (m : ℕ). unset (getD w m 0)) e ∙ unset-none _ o))
+        (λ (z : j ≡ signalBit s p b → ⊥). ap unset (st .other _ (λ i c q. z (omega arith))))
+        (same-or j (signalBit s p b)))
+
+  free-fewer : freeAt s (limitOf w) w′ ≤ freeAt s (limitOf w) w
+  free-fewer =
+      ⊎-elim (λ (z : getD w (markAt s (limitOf w) p b) 0 ≡ 0). omega (arith, free-less z))
+      (λ (z : getD w (markAt s (limitOf w) p b) 0 ≡ 0 → ⊥). omega (arith, free-same z)) (same-or (getD w (markAt s (limitOf w) p b) 0) 0)
+
+  mark-writes : Writes (λ q. M.mark q p b) s w w′
+  unfolding M.mark
+  mark-writes =
+      let n = limitOf w in
+      writes _ s w w′ h mark-kept
+      (λ l j. state l
+        (signals-stay s n w w′ mark-nets j)
+        (sym (put-rows (signalWidth s) (countAt s 0) (λ j. isSet (getD w (signalColumn n + 2 * signalBits s + j) 0)) (λ j. isSet (getD w′ (signalColumn n + 2 * signalBits s + j) 0)) p b true u v
+          (ap isSet mark-word ∙ isSet-yes 1 (λ z. absurd (omega arith)))
+          (λ m o. ap isSet (st .other _ (λ i c z. o (omega arith))))) j)
+        (wholes-stay s n w w′ mark-exprs j)
+        (rangeses-stay s n w w′ mark-exprs j))
+      free-fewer
+
+  pub store-mark : Marks s p b w w′
+  store-mark = record {
+    writes = mark-writes;
+    falls = λ e.
+        let q : limitOf w′ ≡ limitOf w = mark-kept .fixed 0 (omega arith) in
+        ap (λ (m : ℕ). suc (freeAt s m w′)) q ∙ free-less (set-not _ (sym marked-word ∙ e));
+  }
