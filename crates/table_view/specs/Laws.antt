@@ -15,7 +15,7 @@ use Rattle.meaning.specs.Checks.{signalBits, exprBits, scratchNeed}
 use Rattle.model.specs.Words.{Netlist, absent}
 use Rattle.model.specs.Lowering as M
 use Rattle.model.specs.Lowering.{State, state, netOf, cell, put}
-use Rattle.table_view.specs.Rows.{listOf-agree, at-listOf, is-listOf, set-listOf, map-listOf, part-listOf, length-listOf, sum-agree, sum-falls, stretch-before, stretch-apart, sum-most, same-or, rows-agree, put-rows, cell-rows}
+use Rattle.table_view.specs.Rows.{listOf-agree, at-listOf, is-listOf, set-listOf, map-listOf, part-listOf, length-listOf, sum-agree, sum-falls, stretch-before, stretch-apart, sum-most, same-or, rows-agree, set-rows, put-rows, cell-rows}
 use Rattle.table_view.specs.View.{limitOf, signalColumn, exprColumn, bitColumn, signalBit, exprBit, netAt, driverAt, markAt, firstAt, exprAt, bitAt, known, netWord, isSet, wholeOf, rangesOf, isWhole, signalRows, markRows, wholeAt, rangesAt, stateAt, stateOf, unset, freeAt, free, Sized, LaidAt, Laid, Writes, Marks}
 
 -- ---- words ----
@@ -115,50 +115,50 @@ below-or a zero = inr (omega arith)
 below-or zero (suc b) = inl (omega arith)
 below-or (suc a) (suc b) = ⊎-elim (λ (x : a < b). inl (omega arith)) (λ (x : b ≤ a). inr (omega arith)) (below-or a b)
 
--- k words of vs pasted at a place
-module _ (w : List ℕ) (at k : ℕ) (vs : List ℕ) (h : at + k ≤ length w) (u : k ≤ length vs) where
-  pasted-in : (i : ℕ) → i < k → getD (paste w at vs k) (at + i) 0 ≡ getD vs i 0
+app-assoc : {A : Type 0} (a b c : List A) → (a ++ b) ++ c ≡ a ++ (b ++ c)
+app-assoc [] b c = refl
+app-assoc (x ∷ a) b c = ap (λ (t : List _). x ∷ t) (app-assoc a b c)
+
+-- k elements of vs pasted at a place; d past an end
+module _ {A : Type 0} (d : A) (w : List A) (at k : ℕ) (vs : List A) (h : at + k ≤ length w) (u : k ≤ length vs) where
+  pasted-in : (i : ℕ) → i < k → getD (paste w at vs k) (at + i) d ≡ getD vs i d
   pasted-in i v =
       let la : length (take at w) ≡ at = length-take at w ∙ omega arith in
       let lv : length (take k vs) ≡ k = length-take k vs ∙ omega arith in
-      ap (λ (m : ℕ). getD (paste w at vs k) (m + i) 0) (sym la)
-      ∙ ap (λ (xs : List ℕ). getD xs (length (take at w) + i) 0) (app-assoc (take at w) (take k vs) (drop (at + k) w))
-      ∙ getD-append-add (take at w) (take k vs ++ drop (at + k) w) i 0
-      ∙ List·getD-append (take k vs) (drop (at + k) w) 0 i (omega arith)
-      ∙ getD-take k vs i 0 v
-    where
-      app-assoc : (a b c : List ℕ) → (a ++ b) ++ c ≡ a ++ (b ++ c)
-      app-assoc [] b c = refl
-      app-assoc (x ∷ a) b c = ap (λ (t : List ℕ). x ∷ t) (app-assoc a b c)
+      ap (λ (m : ℕ). getD (paste w at vs k) (m + i) d) (sym la)
+      ∙ ap (λ (xs : List A). getD xs (length (take at w) + i) d) (app-assoc (take at w) (take k vs) (drop (at + k) w))
+      ∙ getD-append-add (take at w) (take k vs ++ drop (at + k) w) i d
+      ∙ List·getD-append (take k vs) (drop (at + k) w) d i (omega arith)
+      ∙ getD-take k vs i d v
 
-  pasted-before : (j : ℕ) → j < at → getD (paste w at vs k) j 0 ≡ getD w j 0
+  pasted-before : (j : ℕ) → j < at → getD (paste w at vs k) j d ≡ getD w j d
   pasted-before j v =
       let la : length (take at w) ≡ at = length-take at w ∙ omega arith in
       let lv : length (take at w ++ take k vs) ≡ length (take at w) + length (take k vs) = length-append (take at w) (take k vs) in
-      List·getD-append (take at w ++ take k vs) (drop (at + k) w) 0 j (omega arith)
-      ∙ List·getD-append (take at w) (take k vs) 0 j (omega arith)
-      ∙ getD-take at w j 0 v
+      List·getD-append (take at w ++ take k vs) (drop (at + k) w) d j (omega arith)
+      ∙ List·getD-append (take at w) (take k vs) d j (omega arith)
+      ∙ getD-take at w j d v
 
-  pasted-after : (j : ℕ) → at + k ≤ j → getD (paste w at vs k) j 0 ≡ getD w j 0
+  pasted-after : (j : ℕ) → at + k ≤ j → getD (paste w at vs k) j d ≡ getD w j d
   pasted-after j v =
       let la : length (take at w) ≡ at = length-take at w ∙ omega arith in
       let lk : length (take k vs) ≡ k = length-take k vs ∙ omega arith in
       let lv : length (take at w ++ take k vs) ≡ at + k = length-append (take at w) (take k vs) ∙ omega arith in
       let e : j ≡ length (take at w ++ take k vs) + (j - (at + k)) = omega arith in
       let e′ : at + k + (j - (at + k)) ≡ j = omega arith in
-      ap (λ (m : ℕ). getD (paste w at vs k) m 0) e
-      ∙ getD-append-add (take at w ++ take k vs) (drop (at + k) w) (j - (at + k)) 0
-      ∙ getD-drop (at + k) w (j - (at + k)) 0
-      ∙ ap (λ (m : ℕ). getD w m 0) e′
+      ap (λ (m : ℕ). getD (paste w at vs k) m d) e
+      ∙ getD-append-add (take at w ++ take k vs) (drop (at + k) w) (j - (at + k)) d
+      ∙ getD-drop (at + k) w (j - (at + k)) d
+      ∙ ap (λ (m : ℕ). getD w m d) e′
 
-  pub stored-paste : Stored at k (λ i. getD vs i 0) w (paste w at vs k)
-  stored-paste = record {
-    long = length-paste w at vs k h u;
-    inside = pasted-in;
-    other = λ j o. ⊎-elim (λ (v : j < at). pasted-before j v)
-        (λ (v : at ≤ j). ⊎-elim (λ (x : j < at + k). absurd (o (j - at) (omega arith) (omega arith))) (λ (x : at + k ≤ j). pasted-after j x) (below-or j (at + k)))
-        (below-or j at);
-  }
+  pasted-other : (j : ℕ) → ((i : ℕ) → i < k → j ≡ at + i → ⊥) → getD (paste w at vs k) j d ≡ getD w j d
+  pasted-other j o =
+      ⊎-elim (λ (v : j < at). pasted-before j v)
+      (λ (v : at ≤ j). ⊎-elim (λ (x : j < at + k). absurd (o (j - at) (omega arith) (omega arith))) (λ (x : at + k ≤ j). pasted-after j x) (below-or j (at + k)))
+      (below-or j at)
+
+pub stored-paste : (w : List ℕ) (at k : ℕ) (vs : List ℕ) → at + k ≤ length w → k ≤ length vs → Stored at k (λ i. getD vs i 0) w (paste w at vs k)
+stored-paste w at k vs h u = record { long = length-paste w at vs k h u; inside = pasted-in 0 w at k vs h u; other = pasted-other 0 w at k vs h u }
 
 -- ---- what stays ----
 
@@ -372,3 +372,176 @@ module _ (s w w′ : List ℕ) (p b : ℕ) (h : Laid s w) (u : p < countAt s 0) 
         let q : limitOf w′ ≡ limitOf w = mark-kept .fixed 0 (omega arith) in
         ap (λ (m : ℕ). suc (freeAt s m w′)) q ∙ free-less (set-not _ (sym marked-word ∙ e));
   }
+
+-- nets stored one more than they are, in a stretch: what they read as
+module _ (w′ ns : List ℕ) (at k : ℕ) (long : k ≤ length ns) (here : (i : ℕ) → i < k → getD w′ (at + i) 0 ≡ suc (getD ns i 0)) where
+  nets-there : listOf k (λ i. netWord (getD w′ (at + i) 0)) ≡ take k ns
+  nets-there =
+      sym (is-listOf 0 k (λ i. netWord (getD w′ (at + i) 0)) (take k ns) (length-take k ns ∙ omega arith)
+      (λ j u. getD-take k ns j 0 u ∙ sym (ap netWord (here j u) ∙ netWord-suc (getD ns j 0))))
+
+  somes-there : listOf k (λ i. known (getD w′ (at + i) 0)) ≡ map some (take k ns)
+  somes-there =
+      let e : take k ns ≡ listOf k (λ i. getD ns i 0) = is-listOf 0 k (λ i. getD ns i 0) (take k ns) (length-take k ns ∙ omega arith) (λ j u. getD-take k ns j 0 u) in
+      sym (ap (map some) e ∙ map-listOf some k (λ i. getD ns i 0)
+      ∙ listOf-agree k (λ i. some (getD ns i 0)) (λ i. known (getD w′ (at + i) 0)) (λ j u. sym (ap known (here j u) ∙ known-suc (getD ns j 0))))
+
+-- all nets of a signal
+module _ (s w w′ ns : List ℕ) (p : ℕ) (h : Laid s w) (u : p < countAt s 0) (long : signalWidth s p ≤ length ns)
+    (small : (i : ℕ) → i < signalWidth s p → getD ns i 0 < 65535)
+    (st : Stored (netAt s (limitOf w) p 0) (signalWidth s p) (λ i. suc (getD ns i 0)) w w′) where
+  here-signal : signalBit s p (signalWidth s p) ≤ signalBits s
+  here-signal = signal-ends s p u
+
+  signal-kept : Kept s (limitOf w) w w′
+  signal-kept = record {
+    long = st .long;
+    fixed = λ j a. st .other j (λ i c z. absurd (omega arith));
+    drivers = λ j a. st .other _ (λ i c z. absurd (omega (arith, here-signal)));
+    firsts = λ j a. st .other _ (λ i c z. absurd (omega (arith, here-signal)));
+    exprs = λ e k a d q. st .other _ (λ i c z. absurd (omega (arith, here-signal)));
+    signalNets = λ j a. ⊎-elim
+        (λ (z : j < signalBit s p 0).
+          let y : getD w′ (signalColumn (limitOf w) + j) 0 ≡ getD w (signalColumn (limitOf w) + j) 0 = st .other _ (λ i c q. absurd (omega arith)) in
+          omega (arith, h .signalNets j a))
+        (λ (z : signalBit s p 0 ≤ j). ⊎-elim
+          (λ (x : j < signalBit s p (signalWidth s p)).
+            let e : signalColumn (limitOf w) + j ≡ netAt s (limitOf w) p 0 + (j - signalBit s p 0) = omega arith in
+            let y : getD w′ (signalColumn (limitOf w) + j) 0 ≡ suc (getD ns (j - signalBit s p 0) 0) = ap (λ (m : ℕ). getD w′ m 0) e ∙ st .inside (j - signalBit s p 0) (omega arith) in
+            omega (arith, small (j - signalBit s p 0) (omega arith)))
+          (λ (x : signalBit s p (signalWidth s p) ≤ j).
+            let y : getD w′ (signalColumn (limitOf w) + j) 0 ≡ getD w (signalColumn (limitOf w) + j) 0 = st .other _ (λ i c q. absurd (omega arith)) in
+            omega (arith, h .signalNets j a))
+          (below-or j (signalBit s p (signalWidth s p))))
+        (below-or j (signalBit s p 0));
+    exprNets = λ j a.
+        let y : getD w′ (bitColumn s (limitOf w) + j) 0 ≡ getD w (bitColumn s (limitOf w) + j) 0 = st .other _ (λ i c z. absurd (omega (arith, here-signal))) in
+        omega (arith, h .exprNets j a);
+  }
+
+  signal-exprs : (e : ℕ) → e < countAt s 1 → ExprSame s (limitOf w) w w′ e
+  signal-exprs e a = (st .other _ (λ i c z. absurd (omega (arith, here-signal))), λ b′ d. st .other _ (λ i c z. absurd (omega (arith, here-signal))))
+
+  signal-marks : (j : ℕ) → j < signalBits s → getD w′ (signalColumn (limitOf w) + 2 * signalBits s + j) 0 ≡ getD w (signalColumn (limitOf w) + 2 * signalBits s + j) 0
+  signal-marks j a = st .other _ (λ i c z. absurd (omega (arith, here-signal)))
+
+  signal-row : map some (take (signalWidth s p) ns) ≡ listOf (signalWidth s p) (λ j. known (getD w′ (signalColumn (limitOf w) + signalBit s p j) 0))
+  signal-row =
+      sym (somes-there w′ ns (netAt s (limitOf w) p 0) (signalWidth s p) long (λ i c. st .inside i c))
+      ∙ listOf-agree (signalWidth s p) (λ i. known (getD w′ (netAt s (limitOf w) p 0 + i) 0)) (λ j. known (getD w′ (signalColumn (limitOf w) + signalBit s p j) 0))
+        (λ j c. let e : netAt s (limitOf w) p 0 + j ≡ signalColumn (limitOf w) + signalBit s p j = omega arith in ap (λ (m : ℕ). known (getD w′ m 0)) e)
+
+  pub store-signal : Writes (λ q. M.setSignal q p (take (signalWidth s p) ns)) s w w′
+  unfolding M.setSignal
+  store-signal =
+      let n = limitOf w in
+      writes _ s w w′ h signal-kept
+      (λ l j. state l
+        (sym (set-rows (signalWidth s) (countAt s 0) (λ j. known (getD w (signalColumn n + j) 0)) (λ j. known (getD w′ (signalColumn n + j) 0)) p
+          (map some (take (signalWidth s p) ns)) signal-row
+          (λ i′ j′ a q c. ap known (st .other _ (λ i d z. stretch-apart (signalWidth s) p i i′ j′ d c q (omega arith))))) j)
+        (marks-stay s n w w′ signal-marks j)
+        (wholes-stay s n w w′ signal-exprs j)
+        (rangeses-stay s n w w′ signal-exprs j))
+      (omega (arith, free-stays s n w w′ signal-marks))
+
+-- words of expression e's stretch, from bit lsb on; f is what its flag becomes
+module _ (s w w′ ns : List ℕ) (e lsb k f : ℕ) (h : Laid s w) (u : e < countAt s 1) (fits : lsb + k ≤ exprWidth s e) (long : k ≤ length ns)
+    (small : (i : ℕ) → i < k → getD ns i 0 < 65535)
+    (len : length w′ ≡ length w)
+    (inside : (i : ℕ) → i < k → getD w′ (bitAt s (limitOf w) e lsb + i) 0 ≡ suc (getD ns i 0))
+    (flag : getD w′ (exprAt s (limitOf w) e 1) 0 ≡ f)
+    (other : (j : ℕ) → (j ≡ exprAt s (limitOf w) e 1 → ⊥) → ((i : ℕ) → i < k → j ≡ bitAt s (limitOf w) e lsb + i → ⊥) → getD w′ j 0 ≡ getD w j 0) where
+  here-expr : exprBit s e (exprWidth s e) ≤ exprBits s
+  here-expr = expr-ends s e u
+
+  low : (j : ℕ) → j < exprColumn s (limitOf w) → getD w′ j 0 ≡ getD w j 0
+  low j a = other j (λ z. absurd (omega arith)) (λ i c z. absurd (omega arith))
+
+  expr-kept : Kept s (limitOf w) w w′
+  expr-kept = record {
+    long = len;
+    fixed = λ j a. low j (omega arith);
+    drivers = λ j a. low _ (omega arith);
+    firsts = λ j a. low _ (omega arith);
+    exprs = λ e′ k′ a d q. other _ (λ z. q (omega arith)) (λ i c z. absurd (omega arith));
+    signalNets = λ j a. omega (arith, low (signalColumn (limitOf w) + j) (omega arith), h .signalNets j a);
+    exprNets = λ j a. ⊎-elim
+        (λ (z : j < exprBit s e lsb).
+          let y : getD w′ (bitColumn s (limitOf w) + j) 0 ≡ getD w (bitColumn s (limitOf w) + j) 0 = other _ (λ q. absurd (omega arith)) (λ i c q. absurd (omega arith)) in
+          omega (arith, h .exprNets j a))
+        (λ (z : exprBit s e lsb ≤ j). ⊎-elim
+          (λ (x : j < exprBit s e lsb + k).
+            let m : bitColumn s (limitOf w) + j ≡ bitAt s (limitOf w) e lsb + (j - exprBit s e lsb) = omega arith in
+            let y : getD w′ (bitColumn s (limitOf w) + j) 0 ≡ suc (getD ns (j - exprBit s e lsb) 0) = ap (λ (i : ℕ). getD w′ i 0) m ∙ inside (j - exprBit s e lsb) (omega arith) in
+            omega (arith, small (j - exprBit s e lsb) (omega arith)))
+          (λ (x : exprBit s e lsb + k ≤ j).
+            let y : getD w′ (bitColumn s (limitOf w) + j) 0 ≡ getD w (bitColumn s (limitOf w) + j) 0 = other _ (λ q. absurd (omega arith)) (λ i c q. absurd (omega arith)) in
+            omega (arith, h .exprNets j a))
+          (below-or j (exprBit s e lsb + k)))
+        (below-or j (exprBit s e lsb));
+  }
+
+  others-same : (e′ : ℕ) → e′ < countAt s 1 → (e′ ≡ e → ⊥) → ExprSame s (limitOf w) w w′ e′
+  others-same e′ a q =
+      (other _ (λ z. q (omega arith)) (λ i c z. absurd (omega arith)),
+      λ b d. other _ (λ z. absurd (omega arith)) (λ i c z. stretch-apart (exprWidth s) e (lsb + i) e′ b (omega arith) d q (omega arith)))
+
+  expr-marks : (j : ℕ) → j < signalBits s → getD w′ (signalColumn (limitOf w) + 2 * signalBits s + j) 0 ≡ getD w (signalColumn (limitOf w) + 2 * signalBits s + j) 0
+  expr-marks j a = low _ (omega arith)
+
+  expr-writes : (op : State → State)
+      → ((l : Netlist) → state l (signalRows s (limitOf w) w) (markRows s (limitOf w) w) (listOf (countAt s 1) (wholeAt s (limitOf w) w′)) (listOf (countAt s 1) (rangesAt s (limitOf w) w′)) ≡ op (stateAt s (limitOf w) l w))
+      → Writes op s w w′
+  expr-writes op q =
+      let n = limitOf w in
+      writes op s w w′ h expr-kept
+      (λ l. (λ j. state l (signals-stay s n w w′ (λ j a. low _ (omega arith)) j) (marks-stay s n w w′ expr-marks j) (listOf (countAt s 1) (wholeAt s n w′)) (listOf (countAt s 1) (rangesAt s n w′))) ∙ q l)
+      (omega (arith, free-stays s n w w′ expr-marks))
+
+whole-entry : (s : List ℕ) (n : ℕ) (w ns : List ℕ) (e : ℕ) → isWhole s n w e ≡ true → exprWidth s e ≤ length ns
+    → ((i : ℕ) → i < exprWidth s e → getD w (bitAt s n e 0 + i) 0 ≡ suc (getD ns i 0)) → wholeAt s n w e ≡ some (take (exprWidth s e) ns)
+unfolding wholeOf
+whole-entry s n w ns e f long h =
+    ap₂ wholeOf f
+    (listOf-agree (exprWidth s e) (λ b. netWord (getD w (bitAt s n e b) 0)) (λ i. netWord (getD w (bitAt s n e 0 + i) 0))
+      (λ b u. let m : bitAt s n e b ≡ bitAt s n e 0 + b = omega arith in ap (λ (i : ℕ). netWord (getD w i 0)) m)
+    ∙ nets-there w ns (bitAt s n e 0) (exprWidth s e) long h)
+
+ranges-gone : (s : List ℕ) (n : ℕ) (w : List ℕ) (e : ℕ) → isWhole s n w e ≡ true → rangesAt s n w e ≡ []
+unfolding rangesOf
+ranges-gone s n w e f = ap (λ (t : Bool). rangesOf t (listOf (exprWidth s e) (λ b. known (getD w (bitAt s n e b) 0)))) f
+
+pub whole-none : (s : List ℕ) (n : ℕ) (w : List ℕ) (e : ℕ) → isWhole s n w e ≡ false → wholeAt s n w e ≡ none
+unfolding wholeOf
+whole-none s n w e f = ap (λ (t : Bool). wholeOf t (listOf (exprWidth s e) (λ b. netWord (getD w (bitAt s n e b) 0)))) f
+
+pub whole-some : (s : List ℕ) (n : ℕ) (w : List ℕ) (e : ℕ) → isWhole s n w e ≡ true → wholeAt s n w e ≡ some (listOf (exprWidth s e) (λ b. netWord (getD w (bitAt s n e b) 0)))
+unfolding wholeOf
+whole-some s n w e f = ap (λ (t : Bool). wholeOf t (listOf (exprWidth s e) (λ b. netWord (getD w (bitAt s n e b) 0)))) f
+
+ranges-there : (s : List ℕ) (n : ℕ) (w : List ℕ) (e : ℕ) → isWhole s n w e ≡ false → rangesAt s n w e ≡ listOf (exprWidth s e) (λ b. known (getD w (bitAt s n e b) 0))
+unfolding rangesOf
+ranges-there s n w e f = ap (λ (t : Bool). rangesOf t (listOf (exprWidth s e) (λ b. known (getD w (bitAt s n e b) 0)))) f
+
+-- a whole expression: its stretch, then its flag
+pub store-whole : (s w w₁ w′ ns : List ℕ) (e : ℕ) → Laid s w → e < countAt s 1 → exprWidth s e ≤ length ns
+    → ((i : ℕ) → i < exprWidth s e → getD ns i 0 < 65535)
+    → Stored (bitAt s (limitOf w) e 0) (exprWidth s e) (λ i. suc (getD ns i 0)) w w₁ → Stored (exprAt s (limitOf w) e 1) 1 (λ i. 1) w₁ w′
+    → Writes (λ q. M.setWhole q e (take (exprWidth s e) ns)) s w w′
+unfolding M.setWhole
+store-whole s w w₁ w′ ns e h u long small st st′ =
+    let n = limitOf w in
+    let len : length w′ ≡ length w = st′ .long ∙ st .long in
+    let inside : (i : ℕ) → i < exprWidth s e → getD w′ (bitAt s n e 0 + i) 0 ≡ suc (getD ns i 0) = λ i c. st′ .other _ (λ i′ c′ z. absurd (omega arith)) ∙ st .inside i c in
+    let flag : getD w′ (exprAt s n e 1) 0 ≡ 1 =
+        (let m : exprAt s n e 1 ≡ exprAt s n e 1 + 0 = omega arith in ap (λ (i : ℕ). getD w′ i 0) m ∙ st′ .inside 0 (omega arith)) in
+    let other : (j : ℕ) → (j ≡ exprAt s n e 1 → ⊥) → ((i : ℕ) → i < exprWidth s e → j ≡ bitAt s n e 0 + i → ⊥) → getD w′ j 0 ≡ getD w j 0 =
+        λ j a b. st′ .other j (λ i c z. a (omega arith)) ∙ st .other j b in
+    let is : isWhole s n w′ e ≡ true = ap isSet flag ∙ isSet-yes 1 (λ z. absurd (omega arith)) in
+    let same = others-same s w w′ ns e 0 (exprWidth s e) 1 h u (omega arith) long small len inside flag other in
+    expr-writes s w w′ ns e 0 (exprWidth s e) 1 h u (omega arith) long small len inside flag other (λ q. M.setWhole q e (take (exprWidth s e) ns))
+    (λ l j. state l (signalRows s n w) (markRows s n w)
+      (sym (set-listOf (countAt s 1) (wholeAt s n w) (wholeAt s n w′) e (some (take (exprWidth s e) ns)) (whole-entry s n w′ ns e is long inside)
+        (λ e′ a q. whole-stays s n w w′ e′ (same e′ a q))) j)
+      (sym (set-listOf (countAt s 1) (rangesAt s n w) (rangesAt s n w′) e [] (ranges-gone s n w′ e is) (λ e′ a q. ranges-stay s n w w′ e′ (same e′ a q))) j))
