@@ -8,7 +8,7 @@ use Prim.Native.Nat.{ℕ, zero, suc, _+_, _*_, _-_, _≤_, _<_, min}
 use native.Mathlib.Nat.{sub-zero}
 use native.Mathlib.Omega.{arith}
 use lib.ListN.{length, getD, set, take, drop, length-set, length-append, length-take, length-drop, List·getD-append, List·getD-eq-default}
-use lib.Seq.{ext-getD, getD-set-same, getD-set-other, getD-take, getD-drop, getD-append-add, paste, length-paste, set-getD}
+use lib.Seq.{ext-getD, getD-set-same, getD-set-other, getD-take, getD-drop, getD-append-add, paste, length-paste, set-getD, take-all}
 use Rattle.rules.specs.Rules.{listOf, sumTo}
 use Rattle.meaning.specs.Image.{countAt, signalWidth, exprWidth, decode}
 use Rattle.meaning.specs.Checks.{signalBits, exprBits, scratchNeed}
@@ -520,7 +520,7 @@ pub whole-some : (s : List ℕ) (n : ℕ) (w : List ℕ) (e : ℕ) → isWhole s
 unfolding wholeOf
 whole-some s n w e f = ap (λ (t : Bool). wholeOf t (listOf (exprWidth s e) (λ b. netWord (getD w (bitAt s n e b) 0)))) f
 
-ranges-there : (s : List ℕ) (n : ℕ) (w : List ℕ) (e : ℕ) → isWhole s n w e ≡ false → rangesAt s n w e ≡ listOf (exprWidth s e) (λ b. known (getD w (bitAt s n e b) 0))
+pub ranges-there : (s : List ℕ) (n : ℕ) (w : List ℕ) (e : ℕ) → isWhole s n w e ≡ false → rangesAt s n w e ≡ listOf (exprWidth s e) (λ b. known (getD w (bitAt s n e b) 0))
 unfolding rangesOf
 ranges-there s n w e f = ap (λ (t : Bool). rangesOf t (listOf (exprWidth s e) (λ b. known (getD w (bitAt s n e b) 0)))) f
 
@@ -545,3 +545,85 @@ store-whole s w w₁ w′ ns e h u long small st st′ =
       (sym (set-listOf (countAt s 1) (wholeAt s n w) (wholeAt s n w′) e (some (take (exprWidth s e) ns)) (whole-entry s n w′ ns e is long inside)
         (λ e′ a q. whole-stays s n w w′ e′ (same e′ a q))) j)
       (sym (set-listOf (countAt s 1) (rangesAt s n w) (rangesAt s n w′) e [] (ranges-gone s n w′ e is) (λ e′ a q. ranges-stay s n w w′ e′ (same e′ a q))) j))
+
+-- a row with ns in the place of its entries from lsb on, as a list by a function
+range-row : (s : List ℕ) (w w′ ns : List ℕ) (e lsb k n : ℕ) → lsb + k ≤ exprWidth s e → k ≤ length ns
+    → ((i : ℕ) → i < k → getD w′ (bitAt s n e lsb + i) 0 ≡ suc (getD ns i 0))
+    → ((j : ℕ) → ((i : ℕ) → i < k → j ≡ lsb + i → ⊥) → j < exprWidth s e → getD w′ (bitAt s n e j) 0 ≡ getD w (bitAt s n e j) 0)
+    → take lsb (listOf (exprWidth s e) (λ b. known (getD w (bitAt s n e b) 0))) ++ map some (take k ns) ++ drop (lsb + length (take k ns)) (listOf (exprWidth s e) (λ b. known (getD w (bitAt s n e b) 0)))
+      ≡ listOf (exprWidth s e) (λ b. known (getD w′ (bitAt s n e b) 0))
+range-row s w w′ ns e lsb k n fits long inside other =
+    let row = listOf (exprWidth s e) (λ b. known (getD w (bitAt s n e b) 0)) in
+    let lk : length (take k ns) ≡ k = length-take k ns ∙ omega arith in
+    let vs = listOf k (λ i. known (getD w′ (bitAt s n e lsb + i) 0)) in
+    let vk : length vs ≡ k = length-listOf k (λ i. known (getD w′ (bitAt s n e lsb + i) 0)) in
+    let lr : length row ≡ exprWidth s e = length-listOf (exprWidth s e) (λ b. known (getD w (bitAt s n e b) 0)) in
+    let h : lsb + k ≤ length row = omega arith in
+    let a : map some (take k ns) ≡ take k vs = sym (somes-there w′ ns (bitAt s n e lsb) k long inside) ∙ sym (take-all k vs (omega arith)) in
+    ap₂ (λ (x : List (Option ℕ)) (m : ℕ). take lsb row ++ x ++ drop (lsb + m) row) a lk
+    ∙ is-listOf none (exprWidth s e) (λ b. known (getD w′ (bitAt s n e b) 0)) (paste row lsb vs k) (length-paste row lsb vs k h (omega arith) ∙ lr)
+      (λ j u. ⊎-elim
+        (λ (z : j < lsb). pasted-before none row lsb k vs h (omega arith) j z ∙ at-listOf (exprWidth s e) (λ b. known (getD w (bitAt s n e b) 0)) j none u
+          ∙ sym (ap known (other j (λ i c q. absurd (omega arith)) u)))
+        (λ (z : lsb ≤ j). ⊎-elim
+          (λ (x : j < lsb + k).
+            let m : j ≡ lsb + (j - lsb) = omega arith in
+            let m′ : bitAt s n e lsb + (j - lsb) ≡ bitAt s n e j = omega arith in
+            ap (λ (i : ℕ). getD (paste row lsb vs k) i none) m ∙ pasted-in none row lsb k vs h (omega arith) (j - lsb) (omega arith)
+            ∙ at-listOf k (λ i. known (getD w′ (bitAt s n e lsb + i) 0)) (j - lsb) none (omega arith) ∙ ap (λ (i : ℕ). known (getD w′ i 0)) m′)
+          (λ (x : lsb + k ≤ j). pasted-after none row lsb k vs h (omega arith) j x ∙ at-listOf (exprWidth s e) (λ b. known (getD w (bitAt s n e b) 0)) j none u
+            ∙ sym (ap known (other j (λ i c q. absurd (omega arith)) u)))
+          (below-or j (lsb + k)))
+        (below-or j lsb))
+
+pub read-whole : (s : List ℕ) (n : ℕ) (l : Netlist) (w : List ℕ) (e : ℕ) → e < countAt s 1 → M.whole (stateAt s n l w) e ≡ wholeAt s n w e
+unfolding M.whole
+read-whole s n l w e u = at-listOf (countAt s 1) (wholeAt s n w) e none u
+
+pub read-ranges : (s : List ℕ) (n : ℕ) (w : List ℕ) (e : ℕ) → e < countAt s 1 → getD (listOf (countAt s 1) (rangesAt s n w)) e [] ≡ rangesAt s n w e
+read-ranges s n w e u = at-listOf (countAt s 1) (rangesAt s n w) e [] u
+
+-- a range of an expression that is not whole
+pub store-range : (s w w′ ns : List ℕ) (e lsb k : ℕ) → Laid s w → e < countAt s 1 → lsb + k ≤ exprWidth s e → k ≤ length ns
+    → ((i : ℕ) → i < k → getD ns i 0 < 65535) → isWhole s (limitOf w) w e ≡ false
+    → Stored (bitAt s (limitOf w) e lsb) k (λ i. suc (getD ns i 0)) w w′ → Writes (λ q. M.setRange q e lsb (take k ns)) s w w′
+unfolding M.setRange
+store-range s w w′ ns e lsb k h u fits long small not st =
+    let n = limitOf w in
+    let flag : getD w′ (exprAt s n e 1) 0 ≡ getD w (exprAt s n e 1) 0 = st .other _ (λ i c z. absurd (omega arith)) in
+    let other : (j : ℕ) → (j ≡ exprAt s n e 1 → ⊥) → ((i : ℕ) → i < k → j ≡ bitAt s n e lsb + i → ⊥) → getD w′ j 0 ≡ getD w j 0 = λ j a b. st .other j b in
+    let is : isWhole s n w′ e ≡ false = ap isSet flag ∙ not in
+    let same = others-same s w w′ ns e lsb k _ h u fits long small (st .long) (st .inside) flag other in
+    let row : rangesAt s n w′ e ≡ M.rangesBy (M.whole (stateAt s n (record { maxNets = 0; maxList = 0; nodes = []; records = [] }) w) e) (getD (listOf (countAt s 1) (rangesAt s n w)) e []) lsb (take k ns) =
+        ranges-there s n w′ e is
+        ∙ sym (ap₂ (λ (o : Option (List ℕ)) (r : List (Option ℕ)). M.rangesBy o r lsb (take k ns)) (read-whole s n _ w e u ∙ whole-none s n w e not) (read-ranges s n w e u ∙ ranges-there s n w e not)
+          ∙ range-row s w w′ ns e lsb k n fits long (st .inside) (λ j o c. st .other _ (λ i d z. o i d (omega arith)))) in
+    expr-writes s w w′ ns e lsb k _ h u fits long small (st .long) (st .inside) flag other (λ q. M.setRange q e lsb (take k ns))
+    (λ l j. state l (signalRows s n w) (markRows s n w)
+      (listOf-agree (countAt s 1) (wholeAt s n w′) (wholeAt s n w)
+        (λ e′ a. ⊎-elim (λ (q : e′ ≡ e). subst (λ (x : ℕ). wholeAt s n w′ x ≡ wholeAt s n w x) (sym q) (whole-none s n w′ e is ∙ sym (whole-none s n w e not)))
+          (λ (q : e′ ≡ e → ⊥). whole-stays s n w w′ e′ (same e′ a q)) (same-or e′ e)) j)
+      (sym (set-listOf (countAt s 1) (rangesAt s n w) (rangesAt s n w′) e
+        (M.rangesBy (M.whole (stateAt s n l w) e) (getD (listOf (countAt s 1) (rangesAt s n w)) e []) lsb (take k ns))
+        (row ∙ ap (λ (o : Option (List ℕ)). M.rangesBy o (getD (listOf (countAt s 1) (rangesAt s n w)) e []) lsb (take k ns)) (read-whole s n _ w e u ∙ sym (read-whole s n l w e u)))
+        (λ e′ a q. ranges-stay s n w w′ e′ (same e′ a q))) j))
+
+-- a range of a whole expression: nothing is stored
+pub skip-range : (s w ns : List ℕ) (e lsb : ℕ) → Laid s w → e < countAt s 1 → isWhole s (limitOf w) w e ≡ true → Writes (λ q. M.setRange q e lsb ns) s w w
+unfolding M.setRange
+skip-range s w ns e lsb h u is =
+    let n = limitOf w in
+    let ranges = listOf (countAt s 1) (rangesAt s n w) in
+    writes _ s w w h
+    (record {
+      long = refl;
+      fixed = λ j a. refl;
+      drivers = λ j a. refl;
+      firsts = λ j a. refl;
+      exprs = λ e k a b q. refl;
+      signalNets = h .signalNets;
+      exprNets = h .exprNets;
+    })
+    (λ l j. state l (signalRows s n w) (markRows s n w) (listOf (countAt s 1) (wholeAt s n w))
+      (sym (ap (λ (o : Option (List ℕ)). set ranges e (M.rangesBy o (getD ranges e []) lsb ns)) (read-whole s n l w e u ∙ whole-some s n w e is) ∙ set-getD ranges e []) j))
+    (omega arith)

@@ -2,3 +2,4 @@
 pub mod Rows
 pub mod View
 pub mod Laws
+pub mod Reads

@@ -24,10 +24,10 @@ same-or i j = go (eqb i j) refl
 
 -- ---- lists by a function ----
 
-each-length : {A : Type 0} (f : ℕ → A) (i n : ℕ) → length (each f i n) ≡ n
+pub length-each : {A : Type 0} (f : ℕ → A) (i n : ℕ) → length (each f i n) ≡ n
 unfolding each
-each-length f i zero = refl
-each-length f i (suc n) = ap suc (each-length f (suc i) n)
+length-each f i zero = refl
+length-each f i (suc n) = ap suc (length-each f (suc i) n)
 
 pub each-at : {A : Type 0} (f : ℕ → A) (i n j : ℕ) (d : A) → j < n → getD (each f i n) j d ≡ f (i + j)
 unfolding each
@@ -39,7 +39,7 @@ each-at f i (suc n) (suc j) d h =
 
 pub length-listOf : {A : Type 0} (n : ℕ) (f : ℕ → A) → length (listOf n f) ≡ n
 unfolding listOf
-length-listOf n f = each-length f 0 n
+length-listOf n f = length-each f 0 n
 
 pub at-listOf : {A : Type 0} (n : ℕ) (f : ℕ → A) (j : ℕ) (d : A) → j < n → getD (listOf n f) j d ≡ f j
 unfolding listOf
