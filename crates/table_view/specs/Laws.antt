@@ -1,6 +1,6 @@
 -- Laws of the scratch: what its tables read as, and what a store into one of them makes of the state. Assumes nothing.
 use mathlib.Core.Path.{_≡_, refl, sym, ap, ap₂, _∙_, subst}
-use mathlib.Core.Bool.{Bool, true, false}
+use mathlib.Core.Bool.{Bool, true, false, true≢false}
 use mathlib.Core.List.{List, [], _∷_, _++_, map}
 use mathlib.Core.Logic.{⊎-elim, inl, inr, _⊎_}
 use mathlib.Core.Option.{Option, none, some}
@@ -179,6 +179,7 @@ pub record Kept (s : List ℕ) (n : ℕ) (w w′ : List ℕ) : Type 0 where
   pub exprs : (e k : ℕ) → e < countAt s 1 → k < 8 → (k ≡ 1 → ⊥) → getD w′ (exprAt s n e k) 0 ≡ getD w (exprAt s n e k) 0
   pub signalNets : (j : ℕ) → j < signalBits s → getD w′ (signalColumn n + j) 0 ≤ 65535
   pub exprNets : (j : ℕ) → j < exprBits s → getD w′ (bitColumn s n + j) 0 ≤ 65535
+  pub wholes : (e b : ℕ) → e < countAt s 1 → b < exprWidth s e → isWhole s n w′ e ≡ true → 0 < getD w′ (bitAt s n e b) 0
 
 pub kept-laid : (s : List ℕ) (n : ℕ) (w w′ : List ℕ) → LaidAt s n w → Kept s n w w′ → LaidAt s n w′
 kept-laid s n w w′ h k = record {
@@ -194,7 +195,16 @@ kept-laid s n w w′ h k = record {
   drivers = λ p b u v. k .drivers (signalBit s p b) (signal-inside s p b u v) ∙ h .drivers p b u v;
   signalNets = k .signalNets;
   exprNets = k .exprNets;
+  wholes = k .wholes;
 }
+
+-- the words of expression e agree
+abbrev pub ExprSame : List ℕ → ℕ → List ℕ → List ℕ → ℕ → Type 0
+ExprSame s n w w′ e = (getD w′ (exprAt s n e 1) 0 ≡ getD w (exprAt s n e 1) 0) × ((b : ℕ) → b < exprWidth s e → getD w′ (bitAt s n e b) 0 ≡ getD w (bitAt s n e b) 0)
+
+still-whole : (s : List ℕ) (n : ℕ) (w w′ : List ℕ) (e b : ℕ) → LaidAt s n w → ExprSame s n w w′ e → e < countAt s 1 → b < exprWidth s e → isWhole s n w′ e ≡ true
+    → 0 < getD w′ (bitAt s n e b) 0
+still-whole s n w w′ e b h x u v q = subst (λ (m : ℕ). 0 < m) (sym (x .1 b v)) (h .wholes e b u v (sym (ap isSet (x .0)) ∙ q))
 
 pub writes : (op : State → State) (s w w′ : List ℕ) → Laid s w → Kept s (limitOf w) w w′
     → ((l : Netlist) → stateAt s (limitOf w) l w′ ≡ op (stateAt s (limitOf w) l w)) → freeAt s (limitOf w) w′ ≤ freeAt s (limitOf w) w → Writes op s w w′
@@ -228,22 +238,18 @@ module _ (s : List ℕ) (n : ℕ) (w w′ : List ℕ) where
   free-stays h =
       sum-agree (λ j. unset (getD w′ (signalColumn n + 2 * signalBits s + j) 0)) (λ j. unset (getD w (signalColumn n + 2 * signalBits s + j) 0)) (signalBits s) (λ j u. ap unset (h j u))
 
-  -- the words of expression e agree
-  abbrev ExprSame : ℕ → Type 0
-  ExprSame e = (getD w′ (exprAt s n e 1) 0 ≡ getD w (exprAt s n e 1) 0) × ((b : ℕ) → b < exprWidth s e → getD w′ (bitAt s n e b) 0 ≡ getD w (bitAt s n e b) 0)
-
-  whole-stays : (e : ℕ) → ExprSame e → wholeAt s n w′ e ≡ wholeAt s n w e
+  whole-stays : (e : ℕ) → ExprSame s n w w′ e → wholeAt s n w′ e ≡ wholeAt s n w e
   whole-stays e h =
       ap₂ wholeOf (ap isSet (h .0)) (listOf-agree (exprWidth s e) (λ b. netWord (getD w′ (bitAt s n e b) 0)) (λ b. netWord (getD w (bitAt s n e b) 0)) (λ b u. ap netWord (h .1 b u)))
 
-  ranges-stay : (e : ℕ) → ExprSame e → rangesAt s n w′ e ≡ rangesAt s n w e
+  ranges-stay : (e : ℕ) → ExprSame s n w w′ e → rangesAt s n w′ e ≡ rangesAt s n w e
   ranges-stay e h =
       ap₂ rangesOf (ap isSet (h .0)) (listOf-agree (exprWidth s e) (λ b. known (getD w′ (bitAt s n e b) 0)) (λ b. known (getD w (bitAt s n e b) 0)) (λ b u. ap known (h .1 b u)))
 
-  wholes-stay : ((e : ℕ) → e < countAt s 1 → ExprSame e) → listOf (countAt s 1) (wholeAt s n w′) ≡ listOf (countAt s 1) (wholeAt s n w)
+  wholes-stay : ((e : ℕ) → e < countAt s 1 → ExprSame s n w w′ e) → listOf (countAt s 1) (wholeAt s n w′) ≡ listOf (countAt s 1) (wholeAt s n w)
   wholes-stay h = listOf-agree (countAt s 1) (wholeAt s n w′) (wholeAt s n w) (λ e u. whole-stays e (h e u))
 
-  rangeses-stay : ((e : ℕ) → e < countAt s 1 → ExprSame e) → listOf (countAt s 1) (rangesAt s n w′) ≡ listOf (countAt s 1) (rangesAt s n w)
+  rangeses-stay : ((e : ℕ) → e < countAt s 1 → ExprSame s n w w′ e) → listOf (countAt s 1) (rangesAt s n w′) ≡ listOf (countAt s 1) (rangesAt s n w)
   rangeses-stay h = listOf-agree (countAt s 1) (rangesAt s n w′) (rangesAt s n w) (λ e u. ranges-stay e (h e u))
 
 -- ---- stores into the tables ----
@@ -253,6 +259,9 @@ module _ (s w w′ : List ℕ) (p b x : ℕ) (h : Laid s w) (u : p < countAt s 0
     (st : Stored (netAt s (limitOf w) p b) 1 (λ i. suc x) w w′) where
   here-net : signalBit s p b < signalBits s
   here-net = signal-inside s p b u v
+
+  net-exprs : (e : ℕ) → e < countAt s 1 → ExprSame s (limitOf w) w w′ e
+  net-exprs e a = (st .other _ (λ i c z. absurd (omega (arith, here-net))), λ b′ d. st .other _ (λ i c z. absurd (omega (arith, here-net))))
 
   net-kept : Kept s (limitOf w) w w′
   net-kept = record {
@@ -273,10 +282,8 @@ module _ (s w w′ : List ℕ) (p b x : ℕ) (h : Laid s w) (u : p < countAt s 0
     exprNets = λ j a.
         let y : getD w′ (bitColumn s (limitOf w) + j) 0 ≡ getD w (bitColumn s (limitOf w) + j) 0 = st .other _ (λ i c z. absurd (omega (arith, here-net))) in
         omega (arith, h .exprNets j a);
+    wholes = λ e b′ a d q. still-whole s (limitOf w) w w′ e b′ h (net-exprs e a) a d q;
   }
-
-  net-exprs : (e : ℕ) → e < countAt s 1 → ExprSame s (limitOf w) w w′ e
-  net-exprs e a = (st .other _ (λ i c z. absurd (omega (arith, here-net))), λ b′ d. st .other _ (λ i c z. absurd (omega (arith, here-net))))
 
   net-marks : (j : ℕ) → j < signalBits s → getD w′ (signalColumn (limitOf w) + 2 * signalBits s + j) 0 ≡ getD w (signalColumn (limitOf w) + 2 * signalBits s + j) 0
   net-marks j a = st .other _ (λ i c z. absurd (omega (arith, here-net)))
@@ -305,6 +312,9 @@ module _ (s w w′ : List ℕ) (p b : ℕ) (h : Laid s w) (u : p < countAt s 0) 
   mark-nets : (j : ℕ) → j < signalBits s → getD w′ (signalColumn (limitOf w) + j) 0 ≡ getD w (signalColumn (limitOf w) + j) 0
   mark-nets j a = st .other _ (λ i c z. absurd (omega (arith, here-mark)))
 
+  mark-exprs : (e : ℕ) → e < countAt s 1 → ExprSame s (limitOf w) w w′ e
+  mark-exprs e a = (st .other _ (λ i c z. absurd (omega (arith, here-mark))), λ b′ d. st .other _ (λ i c z. absurd (omega (arith, here-mark))))
+
   mark-kept : Kept s (limitOf w) w w′
   mark-kept = record {
     long = st .long;
@@ -316,10 +326,8 @@ module _ (s w w′ : List ℕ) (p b : ℕ) (h : Laid s w) (u : p < countAt s 0) 
     exprNets = λ j a.
         let y : getD w′ (bitColumn s (limitOf w) + j) 0 ≡ getD w (bitColumn s (limitOf w) + j) 0 = st .other _ (λ i c z. absurd (omega (arith, here-mark))) in
         omega (arith, h .exprNets j a);
+    wholes = λ e b′ a d q. still-whole s (limitOf w) w w′ e b′ h (mark-exprs e a) a d q;
   }
-
-  mark-exprs : (e : ℕ) → e < countAt s 1 → ExprSame s (limitOf w) w w′ e
-  mark-exprs e a = (st .other _ (λ i c z. absurd (omega (arith, here-mark))), λ b′ d. st .other _ (λ i c z. absurd (omega (arith, here-mark))))
 
   mark-word : getD w′ (markAt s (limitOf w) p b) 0 ≡ 1
   mark-word = let e : markAt s (limitOf w) p b ≡ markAt s (limitOf w) p b + 0 = omega arith in ap (λ (m : ℕ). getD w′ m 0) e ∙ st .inside 0 (omega arith)
@@ -393,6 +401,9 @@ module _ (s w w′ ns : List ℕ) (p : ℕ) (h : Laid s w) (u : p < countAt s 0)
   here-signal : signalBit s p (signalWidth s p) ≤ signalBits s
   here-signal = signal-ends s p u
 
+  signal-exprs : (e : ℕ) → e < countAt s 1 → ExprSame s (limitOf w) w w′ e
+  signal-exprs e a = (st .other _ (λ i c z. absurd (omega (arith, here-signal))), λ b′ d. st .other _ (λ i c z. absurd (omega (arith, here-signal))))
+
   signal-kept : Kept s (limitOf w) w w′
   signal-kept = record {
     long = st .long;
@@ -417,10 +428,8 @@ module _ (s w w′ ns : List ℕ) (p : ℕ) (h : Laid s w) (u : p < countAt s 0)
     exprNets = λ j a.
         let y : getD w′ (bitColumn s (limitOf w) + j) 0 ≡ getD w (bitColumn s (limitOf w) + j) 0 = st .other _ (λ i c z. absurd (omega (arith, here-signal))) in
         omega (arith, h .exprNets j a);
+    wholes = λ e b′ a d q. still-whole s (limitOf w) w w′ e b′ h (signal-exprs e a) a d q;
   }
-
-  signal-exprs : (e : ℕ) → e < countAt s 1 → ExprSame s (limitOf w) w w′ e
-  signal-exprs e a = (st .other _ (λ i c z. absurd (omega (arith, here-signal))), λ b′ d. st .other _ (λ i c z. absurd (omega (arith, here-signal))))
 
   signal-marks : (j : ℕ) → j < signalBits s → getD w′ (signalColumn (limitOf w) + 2 * signalBits s + j) 0 ≡ getD w (signalColumn (limitOf w) + 2 * signalBits s + j) 0
   signal-marks j a = st .other _ (λ i c z. absurd (omega (arith, here-signal)))
@@ -451,12 +460,18 @@ module _ (s w w′ ns : List ℕ) (e lsb k f : ℕ) (h : Laid s w) (u : e < coun
     (len : length w′ ≡ length w)
     (inside : (i : ℕ) → i < k → getD w′ (bitAt s (limitOf w) e lsb + i) 0 ≡ suc (getD ns i 0))
     (flag : getD w′ (exprAt s (limitOf w) e 1) 0 ≡ f)
-    (other : (j : ℕ) → (j ≡ exprAt s (limitOf w) e 1 → ⊥) → ((i : ℕ) → i < k → j ≡ bitAt s (limitOf w) e lsb + i → ⊥) → getD w′ j 0 ≡ getD w j 0) where
+    (other : (j : ℕ) → (j ≡ exprAt s (limitOf w) e 1 → ⊥) → ((i : ℕ) → i < k → j ≡ bitAt s (limitOf w) e lsb + i → ⊥) → getD w′ j 0 ≡ getD w j 0)
+    (full : (b : ℕ) → b < exprWidth s e → isWhole s (limitOf w) w′ e ≡ true → 0 < getD w′ (bitAt s (limitOf w) e b) 0) where
   here-expr : exprBit s e (exprWidth s e) ≤ exprBits s
   here-expr = expr-ends s e u
 
   low : (j : ℕ) → j < exprColumn s (limitOf w) → getD w′ j 0 ≡ getD w j 0
   low j a = other j (λ z. absurd (omega arith)) (λ i c z. absurd (omega arith))
+
+  others-same : (e′ : ℕ) → e′ < countAt s 1 → (e′ ≡ e → ⊥) → ExprSame s (limitOf w) w w′ e′
+  others-same e′ a q =
+      (other _ (λ z. q (omega arith)) (λ i c z. absurd (omega arith)),
+      λ b d. other _ (λ z. absurd (omega arith)) (λ i c z. stretch-apart (exprWidth s) e (lsb + i) e′ b (omega arith) d q (omega arith)))
 
   expr-kept : Kept s (limitOf w) w w′
   expr-kept = record {
@@ -480,12 +495,11 @@ module _ (s w w′ ns : List ℕ) (e lsb k f : ℕ) (h : Laid s w) (u : e < coun
             omega (arith, h .exprNets j a))
           (below-or j (exprBit s e lsb + k)))
         (below-or j (exprBit s e lsb));
+    wholes = λ e′ b a d q. ⊎-elim
+        (λ (z : e′ ≡ e). subst (λ (x : ℕ). b < exprWidth s x → isWhole s (limitOf w) w′ x ≡ true → 0 < getD w′ (bitAt s (limitOf w) x b) 0) (sym z) (λ d′ q′. full b d′ q′) d q)
+        (λ (z : e′ ≡ e → ⊥). still-whole s (limitOf w) w w′ e′ b h (others-same e′ a z) a d q)
+        (same-or e′ e);
   }
-
-  others-same : (e′ : ℕ) → e′ < countAt s 1 → (e′ ≡ e → ⊥) → ExprSame s (limitOf w) w w′ e′
-  others-same e′ a q =
-      (other _ (λ z. q (omega arith)) (λ i c z. absurd (omega arith)),
-      λ b d. other _ (λ z. absurd (omega arith)) (λ i c z. stretch-apart (exprWidth s) e (lsb + i) e′ b (omega arith) d q (omega arith)))
 
   expr-marks : (j : ℕ) → j < signalBits s → getD w′ (signalColumn (limitOf w) + 2 * signalBits s + j) 0 ≡ getD w (signalColumn (limitOf w) + 2 * signalBits s + j) 0
   expr-marks j a = low _ (omega arith)
@@ -539,8 +553,10 @@ store-whole s w w₁ w′ ns e h u long small st st′ =
     let other : (j : ℕ) → (j ≡ exprAt s n e 1 → ⊥) → ((i : ℕ) → i < exprWidth s e → j ≡ bitAt s n e 0 + i → ⊥) → getD w′ j 0 ≡ getD w j 0 =
         λ j a b. st′ .other j (λ i c z. a (omega arith)) ∙ st .other j b in
     let is : isWhole s n w′ e ≡ true = ap isSet flag ∙ isSet-yes 1 (λ z. absurd (omega arith)) in
-    let same = others-same s w w′ ns e 0 (exprWidth s e) 1 h u (omega arith) long small len inside flag other in
-    expr-writes s w w′ ns e 0 (exprWidth s e) 1 h u (omega arith) long small len inside flag other (λ q. M.setWhole q e (take (exprWidth s e) ns))
+    let full : (b : ℕ) → b < exprWidth s e → isWhole s n w′ e ≡ true → 0 < getD w′ (bitAt s n e b) 0 =
+        λ b c q. (let m : bitAt s n e b ≡ bitAt s n e 0 + b = omega arith in omega (arith, ap (λ (i : ℕ). getD w′ i 0) m ∙ inside b c)) in
+    let same = others-same s w w′ ns e 0 (exprWidth s e) 1 h u (omega arith) long small len inside flag other full in
+    expr-writes s w w′ ns e 0 (exprWidth s e) 1 h u (omega arith) long small len inside flag other full (λ q. M.setWhole q e (take (exprWidth s e) ns))
     (λ l j. state l (signalRows s n w) (markRows s n w)
       (sym (set-listOf (countAt s 1) (wholeAt s n w) (wholeAt s n w′) e (some (take (exprWidth s e) ns)) (whole-entry s n w′ ns e is long inside)
         (λ e′ a q. whole-stays s n w w′ e′ (same e′ a q))) j)
@@ -593,12 +609,13 @@ store-range s w w′ ns e lsb k h u fits long small not st =
     let flag : getD w′ (exprAt s n e 1) 0 ≡ getD w (exprAt s n e 1) 0 = st .other _ (λ i c z. absurd (omega arith)) in
     let other : (j : ℕ) → (j ≡ exprAt s n e 1 → ⊥) → ((i : ℕ) → i < k → j ≡ bitAt s n e lsb + i → ⊥) → getD w′ j 0 ≡ getD w j 0 = λ j a b. st .other j b in
     let is : isWhole s n w′ e ≡ false = ap isSet flag ∙ not in
-    let same = others-same s w w′ ns e lsb k _ h u fits long small (st .long) (st .inside) flag other in
+    let full : (b : ℕ) → b < exprWidth s e → isWhole s n w′ e ≡ true → 0 < getD w′ (bitAt s n e b) 0 = λ b c q. absurd (true≢false (sym q ∙ is)) in
+    let same = others-same s w w′ ns e lsb k _ h u fits long small (st .long) (st .inside) flag other full in
     let row : rangesAt s n w′ e ≡ M.rangesBy (M.whole (stateAt s n (record { maxNets = 0; maxList = 0; nodes = []; records = [] }) w) e) (getD (listOf (countAt s 1) (rangesAt s n w)) e []) lsb (take k ns) =
         ranges-there s n w′ e is
         ∙ sym (ap₂ (λ (o : Option (List ℕ)) (r : List (Option ℕ)). M.rangesBy o r lsb (take k ns)) (read-whole s n _ w e u ∙ whole-none s n w e not) (read-ranges s n w e u ∙ ranges-there s n w e not)
           ∙ range-row s w w′ ns e lsb k n fits long (st .inside) (λ j o c. st .other _ (λ i d z. o i d (omega arith)))) in
-    expr-writes s w w′ ns e lsb k _ h u fits long small (st .long) (st .inside) flag other (λ q. M.setRange q e lsb (take k ns))
+    expr-writes s w w′ ns e lsb k _ h u fits long small (st .long) (st .inside) flag other full (λ q. M.setRange q e lsb (take k ns))
     (λ l j. state l (signalRows s n w) (markRows s n w)
       (listOf-agree (countAt s 1) (wholeAt s n w′) (wholeAt s n w)
         (λ e′ a. ⊎-elim (λ (q : e′ ≡ e). subst (λ (x : ℕ). wholeAt s n w′ x ≡ wholeAt s n w x) (sym q) (whole-none s n w′ e is ∙ sym (whole-none s n w e not)))
@@ -623,6 +640,7 @@ skip-range s w ns e lsb h u is =
       exprs = λ e k a b q. refl;
       signalNets = h .signalNets;
       exprNets = h .exprNets;
+      wholes = h .wholes;
     })
     (λ l j. state l (signalRows s n w) (markRows s n w) (listOf (countAt s 1) (wholeAt s n w))
       (sym (ap (λ (o : Option (List ℕ)). set ranges e (M.rangesBy o (getD ranges e []) lsb ns)) (read-whole s n l w e u ∙ whole-some s n w e is) ∙ set-getD ranges e []) j))

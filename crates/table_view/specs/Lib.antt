@@ -3,3 +3,4 @@ pub mod Rows
 pub mod View
 pub mod Laws
 pub mod Reads
+pub mod Drivers

@@ -154,6 +154,7 @@ pub record LaidAt (s : List ℕ) (n : ℕ) (w : List ℕ) : Type 0 where
   pub drivers : (p b : ℕ) → p < countAt s 0 → b < signalWidth s p → getD w (driverAt s n p b) 0 ≡ driverWord (driverOf (decode s) p b)
   pub signalNets : (j : ℕ) → j < signalBits s → getD w (signalColumn n + j) 0 ≤ 65535
   pub exprNets : (j : ℕ) → j < exprBits s → getD w (bitColumn s n + j) 0 ≤ 65535
+  pub wholes : (e b : ℕ) → e < countAt s 1 → b < exprWidth s e → isWhole s n w e ≡ true → 0 < getD w (bitAt s n e b) 0
 
 abbrev pub Laid : List ℕ → List ℕ → Type 0
 Laid s w = LaidAt s (limitOf w) w
