@@ -72,3 +72,7 @@ by-inside s p b i (suc k) h =
 pub driver-inside : (s : List ℕ) (p b : ℕ) → Sized s → Inside s b (driverOf (decode s) p b)
 unfolding driverOf decode listOf
 driver-inside s p b z = by-inside s p b 0 (countAt s 3) (λ a l u. z .drives a (omega arith))
+
+pub inside-low : (s : List ℕ) (b : ℕ) (o : Option (ℕ × ℕ)) → Inside s b o → b < 1024 → Low o
+inside-low s b none h u = tt
+inside-low s b (some d) h u = omega (arith, h .1 .1)

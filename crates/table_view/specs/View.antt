@@ -11,7 +11,7 @@ use Prim.Native.Nat.{ℕ, zero, suc, _+_, _*_, _≤_, _<_}
 use lib.ListN.{length, getD, take}
 use Rattle.rules.specs.Rules.{listOf, sumTo}
 use Rattle.meaning.specs.Image.{countAt, field, signalWidth, exprWidth, decode}
-use Rattle.meaning.specs.Checks.{signalBits, exprBits, scratchNeed}
+use Rattle.meaning.specs.Checks.{signalBits, exprBits}
 use Rattle.model.specs.Words.{Netlist}
 use Rattle.model.specs.Lowering.{State, state, netOf, cell, mark, driverOf}
 use Rattle.table_view.specs.Rows.{rows}
@@ -144,7 +144,7 @@ driverWord (some d) = (d .0 + 1) * 1024 + d .1
 pub record LaidAt (s : List ℕ) (n : ℕ) (w : List ℕ) : Type 0 where
   pub image : Sized s
   pub limited : n ≤ 65535
-  pub long : length w ≡ scratchNeed s n
+  pub long : length w ≡ bitColumn s n + 2 * exprBits s
   pub limit : getD w 0 0 ≡ n
   pub bits : getD w 1 0 ≡ signalBits s
   pub exprs : getD w 2 0 ≡ exprColumn s n
