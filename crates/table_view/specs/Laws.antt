@@ -272,12 +272,12 @@ module _ (s w w′ : List ℕ) (p b x : ℕ) (h : Laid s w) (u : p < countAt s 0
     exprs = λ e k a d q. st .other _ (λ i c z. absurd (omega (arith, here-net)));
     signalNets = λ j a. ⊎-elim
         (λ (z : j ≡ signalBit s p b).
-          let e : signalColumn (limitOf w) + j ≡ netAt s (limitOf w) p b + 0 = omega arith in
-          let y : getD w′ (signalColumn (limitOf w) + j) 0 ≡ suc x = ap (λ (m : ℕ). getD w′ m 0) e ∙ st .inside 0 (omega arith) in
-          omega arith)
+        let e : signalColumn (limitOf w) + j ≡ netAt s (limitOf w) p b + 0 = omega arith in
+        let y : getD w′ (signalColumn (limitOf w) + j) 0 ≡ suc x = ap (λ (m : ℕ). getD w′ m 0) e ∙ st .inside 0 (omega arith) in
+        omega arith)
         (λ (z : j ≡ signalBit s p b → ⊥).
-          let y : getD w′ (signalColumn (limitOf w) + j) 0 ≡ getD w (signalColumn (limitOf w) + j) 0 = st .other _ (λ i c q. z (omega arith)) in
-          omega (arith, h .signalNets j a))
+        let y : getD w′ (signalColumn (limitOf w) + j) 0 ≡ getD w (signalColumn (limitOf w) + j) 0 = st .other _ (λ i c q. z (omega arith)) in
+        omega (arith, h .signalNets j a))
         (same-or j (signalBit s p b));
     exprNets = λ j a.
         let y : getD w′ (bitColumn s (limitOf w) + j) 0 ≡ getD w (bitColumn s (limitOf w) + j) 0 = st .other _ (λ i c z. absurd (omega (arith, here-net))) in
@@ -294,13 +294,13 @@ module _ (s w w′ : List ℕ) (p b x : ℕ) (h : Laid s w) (u : p < countAt s 0
       let n = limitOf w in
       writes _ s w w′ h net-kept
       (λ l j. state l
-        (sym (put-rows (signalWidth s) (countAt s 0) (λ j. known (getD w (signalColumn n + j) 0)) (λ j. known (getD w′ (signalColumn n + j) 0)) p b (some x) u v
-          (let e : signalColumn n + signalBit s p b ≡ netAt s n p b + 0 = omega arith in
-            ap (λ (m : ℕ). known (getD w′ m 0)) e ∙ ap known (st .inside 0 (omega arith)) ∙ known-suc x)
-          (λ m o. ap known (st .other _ (λ i c z. o (omega arith))))) j)
-        (marks-stay s n w w′ net-marks j)
-        (wholes-stay s n w w′ net-exprs j)
-        (rangeses-stay s n w w′ net-exprs j))
+      (sym (put-rows (signalWidth s) (countAt s 0) (λ j. known (getD w (signalColumn n + j) 0)) (λ j. known (getD w′ (signalColumn n + j) 0)) p b (some x) u v
+      (let e : signalColumn n + signalBit s p b ≡ netAt s n p b + 0 = omega arith in
+      ap (λ (m : ℕ). known (getD w′ m 0)) e ∙ ap known (st .inside 0 (omega arith)) ∙ known-suc x)
+      (λ m o. ap known (st .other _ (λ i c z. o (omega arith))))) j)
+      (marks-stay s n w w′ net-marks j)
+      (wholes-stay s n w w′ net-exprs j)
+      (rangeses-stay s n w w′ net-exprs j))
       (omega (arith, free-stays s n w w′ net-marks))
 
 -- a mark
@@ -348,11 +348,11 @@ module _ (s w w′ : List ℕ) (p b : ℕ) (h : Laid s w) (u : p < countAt s 0) 
       let n = limitOf w in
       sum-agree (λ j. unset (getD w′ (signalColumn n + 2 * signalBits s + j) 0)) (λ j. unset (getD w (signalColumn n + 2 * signalBits s + j) 0)) (signalBits s)
       (λ j a. ⊎-elim
-        (λ (z : j ≡ signalBit s p b).
-          let e : signalColumn n + 2 * signalBits s + j ≡ markAt s n p b = omega arith in
-          ap (λ (m : ℕ). unset (getD w′ m 0)) e ∙ ap unset mark-word ∙ sym (ap (λ (m : ℕ). unset (getD w m 0)) e ∙ unset-none _ o))
-        (λ (z : j ≡ signalBit s p b → ⊥). ap unset (st .other _ (λ i c q. z (omega arith))))
-        (same-or j (signalBit s p b)))
+      (λ (z : j ≡ signalBit s p b).
+      let e : signalColumn n + 2 * signalBits s + j ≡ markAt s n p b = omega arith in
+      ap (λ (m : ℕ). unset (getD w′ m 0)) e ∙ ap unset mark-word ∙ sym (ap (λ (m : ℕ). unset (getD w m 0)) e ∙ unset-none _ o))
+      (λ (z : j ≡ signalBit s p b → ⊥). ap unset (st .other _ (λ i c q. z (omega arith))))
+      (same-or j (signalBit s p b)))
 
   free-fewer : freeAt s (limitOf w) w′ ≤ freeAt s (limitOf w) w
   free-fewer =
@@ -365,12 +365,12 @@ module _ (s w w′ : List ℕ) (p b : ℕ) (h : Laid s w) (u : p < countAt s 0) 
       let n = limitOf w in
       writes _ s w w′ h mark-kept
       (λ l j. state l
-        (signals-stay s n w w′ mark-nets j)
-        (sym (put-rows (signalWidth s) (countAt s 0) (λ j. isSet (getD w (signalColumn n + 2 * signalBits s + j) 0)) (λ j. isSet (getD w′ (signalColumn n + 2 * signalBits s + j) 0)) p b true u v
-          (ap isSet mark-word ∙ isSet-yes 1 (λ z. absurd (omega arith)))
-          (λ m o. ap isSet (st .other _ (λ i c z. o (omega arith))))) j)
-        (wholes-stay s n w w′ mark-exprs j)
-        (rangeses-stay s n w w′ mark-exprs j))
+      (signals-stay s n w w′ mark-nets j)
+      (sym (put-rows (signalWidth s) (countAt s 0) (λ j. isSet (getD w (signalColumn n + 2 * signalBits s + j) 0)) (λ j. isSet (getD w′ (signalColumn n + 2 * signalBits s + j) 0)) p b true u v
+      (ap isSet mark-word ∙ isSet-yes 1 (λ z. absurd (omega arith)))
+      (λ m o. ap isSet (st .other _ (λ i c z. o (omega arith))))) j)
+      (wholes-stay s n w w′ mark-exprs j)
+      (rangeses-stay s n w w′ mark-exprs j))
       free-fewer
 
   pub store-mark : Marks s p b w w′
@@ -413,17 +413,17 @@ module _ (s w w′ ns : List ℕ) (p : ℕ) (h : Laid s w) (u : p < countAt s 0)
     exprs = λ e k a d q. st .other _ (λ i c z. absurd (omega (arith, here-signal)));
     signalNets = λ j a. ⊎-elim
         (λ (z : j < signalBit s p 0).
-          let y : getD w′ (signalColumn (limitOf w) + j) 0 ≡ getD w (signalColumn (limitOf w) + j) 0 = st .other _ (λ i c q. absurd (omega arith)) in
-          omega (arith, h .signalNets j a))
+        let y : getD w′ (signalColumn (limitOf w) + j) 0 ≡ getD w (signalColumn (limitOf w) + j) 0 = st .other _ (λ i c q. absurd (omega arith)) in
+        omega (arith, h .signalNets j a))
         (λ (z : signalBit s p 0 ≤ j). ⊎-elim
-          (λ (x : j < signalBit s p (signalWidth s p)).
-            let e : signalColumn (limitOf w) + j ≡ netAt s (limitOf w) p 0 + (j - signalBit s p 0) = omega arith in
-            let y : getD w′ (signalColumn (limitOf w) + j) 0 ≡ suc (getD ns (j - signalBit s p 0) 0) = ap (λ (m : ℕ). getD w′ m 0) e ∙ st .inside (j - signalBit s p 0) (omega arith) in
-            omega (arith, small (j - signalBit s p 0) (omega arith)))
-          (λ (x : signalBit s p (signalWidth s p) ≤ j).
-            let y : getD w′ (signalColumn (limitOf w) + j) 0 ≡ getD w (signalColumn (limitOf w) + j) 0 = st .other _ (λ i c q. absurd (omega arith)) in
-            omega (arith, h .signalNets j a))
-          (below-or j (signalBit s p (signalWidth s p))))
+        (λ (x : j < signalBit s p (signalWidth s p)).
+        let e : signalColumn (limitOf w) + j ≡ netAt s (limitOf w) p 0 + (j - signalBit s p 0) = omega arith in
+        let y : getD w′ (signalColumn (limitOf w) + j) 0 ≡ suc (getD ns (j - signalBit s p 0) 0) = ap (λ (m : ℕ). getD w′ m 0) e ∙ st .inside (j - signalBit s p 0) (omega arith) in
+        omega (arith, small (j - signalBit s p 0) (omega arith)))
+        (λ (x : signalBit s p (signalWidth s p) ≤ j).
+        let y : getD w′ (signalColumn (limitOf w) + j) 0 ≡ getD w (signalColumn (limitOf w) + j) 0 = st .other _ (λ i c q. absurd (omega arith)) in
+        omega (arith, h .signalNets j a))
+        (below-or j (signalBit s p (signalWidth s p))))
         (below-or j (signalBit s p 0));
     exprNets = λ j a.
         let y : getD w′ (bitColumn s (limitOf w) + j) 0 ≡ getD w (bitColumn s (limitOf w) + j) 0 = st .other _ (λ i c z. absurd (omega (arith, here-signal))) in
@@ -438,7 +438,7 @@ module _ (s w w′ ns : List ℕ) (p : ℕ) (h : Laid s w) (u : p < countAt s 0)
   signal-row =
       sym (somes-there w′ ns (netAt s (limitOf w) p 0) (signalWidth s p) long (λ i c. st .inside i c))
       ∙ listOf-agree (signalWidth s p) (λ i. known (getD w′ (netAt s (limitOf w) p 0 + i) 0)) (λ j. known (getD w′ (signalColumn (limitOf w) + signalBit s p j) 0))
-        (λ j c. let e : netAt s (limitOf w) p 0 + j ≡ signalColumn (limitOf w) + signalBit s p j = omega arith in ap (λ (m : ℕ). known (getD w′ m 0)) e)
+      (λ j c. let e : netAt s (limitOf w) p 0 + j ≡ signalColumn (limitOf w) + signalBit s p j = omega arith in ap (λ (m : ℕ). known (getD w′ m 0)) e)
 
   pub store-signal : Writes (λ q. M.setSignal q p (take (signalWidth s p) ns)) s w w′
   unfolding M.setSignal
@@ -446,12 +446,12 @@ module _ (s w w′ ns : List ℕ) (p : ℕ) (h : Laid s w) (u : p < countAt s 0)
       let n = limitOf w in
       writes _ s w w′ h signal-kept
       (λ l j. state l
-        (sym (set-rows (signalWidth s) (countAt s 0) (λ j. known (getD w (signalColumn n + j) 0)) (λ j. known (getD w′ (signalColumn n + j) 0)) p
-          (map some (take (signalWidth s p) ns)) signal-row
-          (λ i′ j′ a q c. ap known (st .other _ (λ i d z. stretch-apart (signalWidth s) p i i′ j′ d c q (omega arith))))) j)
-        (marks-stay s n w w′ signal-marks j)
-        (wholes-stay s n w w′ signal-exprs j)
-        (rangeses-stay s n w w′ signal-exprs j))
+      (sym (set-rows (signalWidth s) (countAt s 0) (λ j. known (getD w (signalColumn n + j) 0)) (λ j. known (getD w′ (signalColumn n + j) 0)) p
+      (map some (take (signalWidth s p) ns)) signal-row
+      (λ i′ j′ a q c. ap known (st .other _ (λ i d z. stretch-apart (signalWidth s) p i i′ j′ d c q (omega arith))))) j)
+      (marks-stay s n w w′ signal-marks j)
+      (wholes-stay s n w w′ signal-exprs j)
+      (rangeses-stay s n w w′ signal-exprs j))
       (omega (arith, free-stays s n w w′ signal-marks))
 
 -- words of expression e's stretch, from bit lsb on; f is what its flag becomes
@@ -469,9 +469,10 @@ module _ (s w w′ ns : List ℕ) (e lsb k f : ℕ) (h : Laid s w) (u : e < coun
   low j a = other j (λ z. absurd (omega arith)) (λ i c z. absurd (omega arith))
 
   others-same : (e′ : ℕ) → e′ < countAt s 1 → (e′ ≡ e → ⊥) → ExprSame s (limitOf w) w w′ e′
-  others-same e′ a q =
-      (other _ (λ z. q (omega arith)) (λ i c z. absurd (omega arith)),
-      λ b d. other _ (λ z. absurd (omega arith)) (λ i c z. stretch-apart (exprWidth s) e (lsb + i) e′ b (omega arith) d q (omega arith)))
+  others-same e′ a q = (
+    other _ (λ z. q (omega arith)) (λ i c z. absurd (omega arith)),
+    λ b d. other _ (λ z. absurd (omega arith)) (λ i c z. stretch-apart (exprWidth s) e (lsb + i) e′ b (omega arith) d q (omega arith)),
+  )
 
   expr-kept : Kept s (limitOf w) w w′
   expr-kept = record {
@@ -483,17 +484,17 @@ module _ (s w w′ ns : List ℕ) (e lsb k f : ℕ) (h : Laid s w) (u : e < coun
     signalNets = λ j a. omega (arith, low (signalColumn (limitOf w) + j) (omega arith), h .signalNets j a);
     exprNets = λ j a. ⊎-elim
         (λ (z : j < exprBit s e lsb).
-          let y : getD w′ (bitColumn s (limitOf w) + j) 0 ≡ getD w (bitColumn s (limitOf w) + j) 0 = other _ (λ q. absurd (omega arith)) (λ i c q. absurd (omega arith)) in
-          omega (arith, h .exprNets j a))
+        let y : getD w′ (bitColumn s (limitOf w) + j) 0 ≡ getD w (bitColumn s (limitOf w) + j) 0 = other _ (λ q. absurd (omega arith)) (λ i c q. absurd (omega arith)) in
+        omega (arith, h .exprNets j a))
         (λ (z : exprBit s e lsb ≤ j). ⊎-elim
-          (λ (x : j < exprBit s e lsb + k).
-            let m : bitColumn s (limitOf w) + j ≡ bitAt s (limitOf w) e lsb + (j - exprBit s e lsb) = omega arith in
-            let y : getD w′ (bitColumn s (limitOf w) + j) 0 ≡ suc (getD ns (j - exprBit s e lsb) 0) = ap (λ (i : ℕ). getD w′ i 0) m ∙ inside (j - exprBit s e lsb) (omega arith) in
-            omega (arith, small (j - exprBit s e lsb) (omega arith)))
-          (λ (x : exprBit s e lsb + k ≤ j).
-            let y : getD w′ (bitColumn s (limitOf w) + j) 0 ≡ getD w (bitColumn s (limitOf w) + j) 0 = other _ (λ q. absurd (omega arith)) (λ i c q. absurd (omega arith)) in
-            omega (arith, h .exprNets j a))
-          (below-or j (exprBit s e lsb + k)))
+        (λ (x : j < exprBit s e lsb + k).
+        let m : bitColumn s (limitOf w) + j ≡ bitAt s (limitOf w) e lsb + (j - exprBit s e lsb) = omega arith in
+        let y : getD w′ (bitColumn s (limitOf w) + j) 0 ≡ suc (getD ns (j - exprBit s e lsb) 0) = ap (λ (i : ℕ). getD w′ i 0) m ∙ inside (j - exprBit s e lsb) (omega arith) in
+        omega (arith, small (j - exprBit s e lsb) (omega arith)))
+        (λ (x : exprBit s e lsb + k ≤ j).
+        let y : getD w′ (bitColumn s (limitOf w) + j) 0 ≡ getD w (bitColumn s (limitOf w) + j) 0 = other _ (λ q. absurd (omega arith)) (λ i c q. absurd (omega arith)) in
+        omega (arith, h .exprNets j a))
+        (below-or j (exprBit s e lsb + k)))
         (below-or j (exprBit s e lsb));
     wholes = λ e′ b a d q. ⊎-elim
         (λ (z : e′ ≡ e). subst (λ (x : ℕ). b < exprWidth s x → isWhole s (limitOf w) w′ x ≡ true → 0 < getD w′ (bitAt s (limitOf w) x b) 0) (sym z) (λ d′ q′. full b d′ q′) d q)
@@ -519,7 +520,7 @@ unfolding wholeOf
 whole-entry s n w ns e f long h =
     ap₂ wholeOf f
     (listOf-agree (exprWidth s e) (λ b. netWord (getD w (bitAt s n e b) 0)) (λ i. netWord (getD w (bitAt s n e 0 + i) 0))
-      (λ b u. let m : bitAt s n e b ≡ bitAt s n e 0 + b = omega arith in ap (λ (i : ℕ). netWord (getD w i 0)) m)
+    (λ b u. let m : bitAt s n e b ≡ bitAt s n e 0 + b = omega arith in ap (λ (i : ℕ). netWord (getD w i 0)) m)
     ∙ nets-there w ns (bitAt s n e 0) (exprWidth s e) long h)
 
 ranges-gone : (s : List ℕ) (n : ℕ) (w : List ℕ) (e : ℕ) → isWhole s n w e ≡ true → rangesAt s n w e ≡ []
@@ -549,25 +550,25 @@ store-whole s w w₁ w′ ns e h u long small st st′ =
     let len : length w′ ≡ length w = st′ .long ∙ st .long in
     let inside : (i : ℕ) → i < exprWidth s e → getD w′ (bitAt s n e 0 + i) 0 ≡ suc (getD ns i 0) = λ i c. st′ .other _ (λ i′ c′ z. absurd (omega arith)) ∙ st .inside i c in
     let flag : getD w′ (exprAt s n e 1) 0 ≡ 1 =
-        (let m : exprAt s n e 1 ≡ exprAt s n e 1 + 0 = omega arith in ap (λ (i : ℕ). getD w′ i 0) m ∙ st′ .inside 0 (omega arith)) in
+    (let m : exprAt s n e 1 ≡ exprAt s n e 1 + 0 = omega arith in ap (λ (i : ℕ). getD w′ i 0) m ∙ st′ .inside 0 (omega arith)) in
     let other : (j : ℕ) → (j ≡ exprAt s n e 1 → ⊥) → ((i : ℕ) → i < exprWidth s e → j ≡ bitAt s n e 0 + i → ⊥) → getD w′ j 0 ≡ getD w j 0 =
-        λ j a b. st′ .other j (λ i c z. a (omega arith)) ∙ st .other j b in
+    λ j a b. st′ .other j (λ i c z. a (omega arith)) ∙ st .other j b in
     let is : isWhole s n w′ e ≡ true = ap isSet flag ∙ isSet-yes 1 (λ z. absurd (omega arith)) in
     let full : (b : ℕ) → b < exprWidth s e → isWhole s n w′ e ≡ true → 0 < getD w′ (bitAt s n e b) 0 =
-        λ b c q. (let m : bitAt s n e b ≡ bitAt s n e 0 + b = omega arith in omega (arith, ap (λ (i : ℕ). getD w′ i 0) m ∙ inside b c)) in
+    λ b c q. (let m : bitAt s n e b ≡ bitAt s n e 0 + b = omega arith in omega (arith, ap (λ (i : ℕ). getD w′ i 0) m ∙ inside b c)) in
     let same = others-same s w w′ ns e 0 (exprWidth s e) 1 h u (omega arith) long small len inside flag other full in
     expr-writes s w w′ ns e 0 (exprWidth s e) 1 h u (omega arith) long small len inside flag other full (λ q. M.setWhole q e (take (exprWidth s e) ns))
     (λ l j. state l (signalRows s n w) (markRows s n w)
-      (sym (set-listOf (countAt s 1) (wholeAt s n w) (wholeAt s n w′) e (some (take (exprWidth s e) ns)) (whole-entry s n w′ ns e is long inside)
-        (λ e′ a q. whole-stays s n w w′ e′ (same e′ a q))) j)
-      (sym (set-listOf (countAt s 1) (rangesAt s n w) (rangesAt s n w′) e [] (ranges-gone s n w′ e is) (λ e′ a q. ranges-stay s n w w′ e′ (same e′ a q))) j))
+    (sym (set-listOf (countAt s 1) (wholeAt s n w) (wholeAt s n w′) e (some (take (exprWidth s e) ns)) (whole-entry s n w′ ns e is long inside)
+    (λ e′ a q. whole-stays s n w w′ e′ (same e′ a q))) j)
+    (sym (set-listOf (countAt s 1) (rangesAt s n w) (rangesAt s n w′) e [] (ranges-gone s n w′ e is) (λ e′ a q. ranges-stay s n w w′ e′ (same e′ a q))) j))
 
 -- a row with ns in the place of its entries from lsb on, as a list by a function
 range-row : (s : List ℕ) (w w′ ns : List ℕ) (e lsb k n : ℕ) → lsb + k ≤ exprWidth s e → k ≤ length ns
     → ((i : ℕ) → i < k → getD w′ (bitAt s n e lsb + i) 0 ≡ suc (getD ns i 0))
     → ((j : ℕ) → ((i : ℕ) → i < k → j ≡ lsb + i → ⊥) → j < exprWidth s e → getD w′ (bitAt s n e j) 0 ≡ getD w (bitAt s n e j) 0)
     → take lsb (listOf (exprWidth s e) (λ b. known (getD w (bitAt s n e b) 0))) ++ map some (take k ns) ++ drop (lsb + length (take k ns)) (listOf (exprWidth s e) (λ b. known (getD w (bitAt s n e b) 0)))
-      ≡ listOf (exprWidth s e) (λ b. known (getD w′ (bitAt s n e b) 0))
+    ≡ listOf (exprWidth s e) (λ b. known (getD w′ (bitAt s n e b) 0))
 range-row s w w′ ns e lsb k n fits long inside other =
     let row = listOf (exprWidth s e) (λ b. known (getD w (bitAt s n e b) 0)) in
     let lk : length (take k ns) ≡ k = length-take k ns ∙ omega arith in
@@ -578,19 +579,19 @@ range-row s w w′ ns e lsb k n fits long inside other =
     let a : map some (take k ns) ≡ take k vs = sym (somes-there w′ ns (bitAt s n e lsb) k long inside) ∙ sym (take-all k vs (omega arith)) in
     ap₂ (λ (x : List (Option ℕ)) (m : ℕ). take lsb row ++ x ++ drop (lsb + m) row) a lk
     ∙ is-listOf none (exprWidth s e) (λ b. known (getD w′ (bitAt s n e b) 0)) (paste row lsb vs k) (length-paste row lsb vs k h (omega arith) ∙ lr)
-      (λ j u. ⊎-elim
-        (λ (z : j < lsb). pasted-before none row lsb k vs h (omega arith) j z ∙ at-listOf (exprWidth s e) (λ b. known (getD w (bitAt s n e b) 0)) j none u
-          ∙ sym (ap known (other j (λ i c q. absurd (omega arith)) u)))
-        (λ (z : lsb ≤ j). ⊎-elim
-          (λ (x : j < lsb + k).
-            let m : j ≡ lsb + (j - lsb) = omega arith in
-            let m′ : bitAt s n e lsb + (j - lsb) ≡ bitAt s n e j = omega arith in
-            ap (λ (i : ℕ). getD (paste row lsb vs k) i none) m ∙ pasted-in none row lsb k vs h (omega arith) (j - lsb) (omega arith)
-            ∙ at-listOf k (λ i. known (getD w′ (bitAt s n e lsb + i) 0)) (j - lsb) none (omega arith) ∙ ap (λ (i : ℕ). known (getD w′ i 0)) m′)
-          (λ (x : lsb + k ≤ j). pasted-after none row lsb k vs h (omega arith) j x ∙ at-listOf (exprWidth s e) (λ b. known (getD w (bitAt s n e b) 0)) j none u
-            ∙ sym (ap known (other j (λ i c q. absurd (omega arith)) u)))
-          (below-or j (lsb + k)))
-        (below-or j lsb))
+    (λ j u. ⊎-elim
+    (λ (z : j < lsb). pasted-before none row lsb k vs h (omega arith) j z ∙ at-listOf (exprWidth s e) (λ b. known (getD w (bitAt s n e b) 0)) j none u
+    ∙ sym (ap known (other j (λ i c q. absurd (omega arith)) u)))
+    (λ (z : lsb ≤ j). ⊎-elim
+    (λ (x : j < lsb + k).
+    let m : j ≡ lsb + (j - lsb) = omega arith in
+    let m′ : bitAt s n e lsb + (j - lsb) ≡ bitAt s n e j = omega arith in
+    ap (λ (i : ℕ). getD (paste row lsb vs k) i none) m ∙ pasted-in none row lsb k vs h (omega arith) (j - lsb) (omega arith)
+    ∙ at-listOf k (λ i. known (getD w′ (bitAt s n e lsb + i) 0)) (j - lsb) none (omega arith) ∙ ap (λ (i : ℕ). known (getD w′ i 0)) m′)
+    (λ (x : lsb + k ≤ j). pasted-after none row lsb k vs h (omega arith) j x ∙ at-listOf (exprWidth s e) (λ b. known (getD w (bitAt s n e b) 0)) j none u
+    ∙ sym (ap known (other j (λ i c q. absurd (omega arith)) u)))
+    (below-or j (lsb + k)))
+    (below-or j lsb))
 
 pub read-whole : (s : List ℕ) (n : ℕ) (l : Netlist) (w : List ℕ) (e : ℕ) → e < countAt s 1 → M.whole (stateAt s n l w) e ≡ wholeAt s n w e
 unfolding M.whole
@@ -612,18 +613,18 @@ store-range s w w′ ns e lsb k h u fits long small not st =
     let full : (b : ℕ) → b < exprWidth s e → isWhole s n w′ e ≡ true → 0 < getD w′ (bitAt s n e b) 0 = λ b c q. absurd (true≢false (sym q ∙ is)) in
     let same = others-same s w w′ ns e lsb k _ h u fits long small (st .long) (st .inside) flag other full in
     let row : rangesAt s n w′ e ≡ M.rangesBy (M.whole (stateAt s n (record { maxNets = 0; maxList = 0; nodes = []; records = [] }) w) e) (getD (listOf (countAt s 1) (rangesAt s n w)) e []) lsb (take k ns) =
-        ranges-there s n w′ e is
-        ∙ sym (ap₂ (λ (o : Option (List ℕ)) (r : List (Option ℕ)). M.rangesBy o r lsb (take k ns)) (read-whole s n _ w e u ∙ whole-none s n w e not) (read-ranges s n w e u ∙ ranges-there s n w e not)
-          ∙ range-row s w w′ ns e lsb k n fits long (st .inside) (λ j o c. st .other _ (λ i d z. o i d (omega arith)))) in
+    ranges-there s n w′ e is
+    ∙ sym (ap₂ (λ (o : Option (List ℕ)) (r : List (Option ℕ)). M.rangesBy o r lsb (take k ns)) (read-whole s n _ w e u ∙ whole-none s n w e not) (read-ranges s n w e u ∙ ranges-there s n w e not)
+    ∙ range-row s w w′ ns e lsb k n fits long (st .inside) (λ j o c. st .other _ (λ i d z. o i d (omega arith)))) in
     expr-writes s w w′ ns e lsb k _ h u fits long small (st .long) (st .inside) flag other full (λ q. M.setRange q e lsb (take k ns))
     (λ l j. state l (signalRows s n w) (markRows s n w)
-      (listOf-agree (countAt s 1) (wholeAt s n w′) (wholeAt s n w)
-        (λ e′ a. ⊎-elim (λ (q : e′ ≡ e). subst (λ (x : ℕ). wholeAt s n w′ x ≡ wholeAt s n w x) (sym q) (whole-none s n w′ e is ∙ sym (whole-none s n w e not)))
-          (λ (q : e′ ≡ e → ⊥). whole-stays s n w w′ e′ (same e′ a q)) (same-or e′ e)) j)
-      (sym (set-listOf (countAt s 1) (rangesAt s n w) (rangesAt s n w′) e
-        (M.rangesBy (M.whole (stateAt s n l w) e) (getD (listOf (countAt s 1) (rangesAt s n w)) e []) lsb (take k ns))
-        (row ∙ ap (λ (o : Option (List ℕ)). M.rangesBy o (getD (listOf (countAt s 1) (rangesAt s n w)) e []) lsb (take k ns)) (read-whole s n _ w e u ∙ sym (read-whole s n l w e u)))
-        (λ e′ a q. ranges-stay s n w w′ e′ (same e′ a q))) j))
+    (listOf-agree (countAt s 1) (wholeAt s n w′) (wholeAt s n w)
+    (λ e′ a. ⊎-elim (λ (q : e′ ≡ e). subst (λ (x : ℕ). wholeAt s n w′ x ≡ wholeAt s n w x) (sym q) (whole-none s n w′ e is ∙ sym (whole-none s n w e not)))
+    (λ (q : e′ ≡ e → ⊥). whole-stays s n w w′ e′ (same e′ a q)) (same-or e′ e)) j)
+    (sym (set-listOf (countAt s 1) (rangesAt s n w) (rangesAt s n w′) e
+    (M.rangesBy (M.whole (stateAt s n l w) e) (getD (listOf (countAt s 1) (rangesAt s n w)) e []) lsb (take k ns))
+    (row ∙ ap (λ (o : Option (List ℕ)). M.rangesBy o (getD (listOf (countAt s 1) (rangesAt s n w)) e []) lsb (take k ns)) (read-whole s n _ w e u ∙ sym (read-whole s n l w e u)))
+    (λ e′ a q. ranges-stay s n w w′ e′ (same e′ a q))) j))
 
 -- a range of a whole expression: nothing is stored
 pub skip-range : (s w ns : List ℕ) (e lsb : ℕ) → Laid s w → e < countAt s 1 → isWhole s (limitOf w) w e ≡ true → Writes (λ q. M.setRange q e lsb ns) s w w
@@ -643,5 +644,5 @@ skip-range s w ns e lsb h u is =
       wholes = h .wholes;
     })
     (λ l j. state l (signalRows s n w) (markRows s n w) (listOf (countAt s 1) (wholeAt s n w))
-      (sym (ap (λ (o : Option (List ℕ)). set ranges e (M.rangesBy o (getD ranges e []) lsb ns)) (read-whole s n l w e u ∙ whole-some s n w e is) ∙ set-getD ranges e []) j))
+    (sym (ap (λ (o : Option (List ℕ)). set ranges e (M.rangesBy o (getD ranges e []) lsb ns)) (read-whole s n l w e u ∙ whole-some s n w e is) ∙ set-getD ranges e []) j))
     (omega arith)

@@ -47,8 +47,8 @@ read-signals s n l w p lsb k u v =
     ap (map (M.signalNet (stateAt s n l w) p)) (from-list lsb k)
     ∙ map-listOf (M.signalNet (stateAt s n l w) p) k (λ i. lsb + i)
     ∙ listOf-agree k (λ i. M.signalNet (stateAt s n l w) p (lsb + i)) (λ i. netWord (getD w (netAt s n p lsb + i) 0))
-      (λ i c. let m : netAt s n p (lsb + i) ≡ netAt s n p lsb + i = omega arith in
-        read-net s n l w p u (lsb + i) (omega arith) ∙ ap (λ (j : ℕ). netWord (getD w j 0)) m)
+    (λ i c. let m : netAt s n p (lsb + i) ≡ netAt s n p lsb + i = omega arith in
+    read-net s n l w p u (lsb + i) (omega arith) ∙ ap (λ (j : ℕ). netWord (getD w j 0)) m)
 
 -- ---- expressions ----
 
@@ -58,7 +58,7 @@ module _ (s : List ℕ) (n : ℕ) (l : Netlist) (w : List ℕ) (e : ℕ) (u : e 
   part-of d f lsb k v =
       part-listOf d (exprWidth s e) (λ b. f (getD w (bitAt s n e b) 0)) lsb k v
       ∙ listOf-agree k (λ i. f (getD w (bitAt s n e (lsb + i)) 0)) (λ i. f (getD w (bitAt s n e lsb + i) 0))
-        (λ i c. let m : bitAt s n e (lsb + i) ≡ bitAt s n e lsb + i = omega arith in ap (λ (j : ℕ). f (getD w j 0)) m)
+      (λ i c. let m : bitAt s n e (lsb + i) ≡ bitAt s n e lsb + i = omega arith in ap (λ (j : ℕ). f (getD w j 0)) m)
 
   -- a range, lowered whole or by ranges
   pub read-range : (lsb k : ℕ) → lsb + k ≤ exprWidth s e → M.rangeNets (stateAt s n l w) e lsb k ≡ listOf k (λ i. netWord (getD w (bitAt s n e lsb + i) 0))
@@ -81,7 +81,7 @@ module _ (s : List ℕ) (n : ℕ) (l : Netlist) (w : List ℕ) (e : ℕ) (u : e 
   whole-nets q =
       ap M.netsOf (read-whole s n l w e u ∙ whole-some s n w e q)
       ∙ listOf-agree (exprWidth s e) (λ b. netWord (getD w (bitAt s n e b) 0)) (λ i. netWord (getD w (bitAt s n e 0 + i) 0))
-        (λ i c. let m : bitAt s n e i ≡ bitAt s n e 0 + i = omega arith in ap (λ (j : ℕ). netWord (getD w j 0)) m)
+      (λ i c. let m : bitAt s n e i ≡ bitAt s n e 0 + i = omega arith in ap (λ (j : ℕ). netWord (getD w j 0)) m)
 
   pub whole-net : (b : ℕ) → b < exprWidth s e → isWhole s n w e ≡ true → M.wholeNet (stateAt s n l w) e b ≡ netWord (getD w (bitAt s n e b) 0)
   unfolding M.wholeNet
@@ -102,5 +102,5 @@ module _ (s : List ℕ) (n : ℕ) (l : Netlist) (w : List ℕ) (e : ℕ) (u : e 
   unfolding M.rangeKnown
   known-range lsb k v q =
       ap₂ (λ (o : Option (List ℕ)) (r : List (Option ℕ)). M.knownBy o (take k (drop lsb r))) (read-whole s n l w e u ∙ whole-none s n w e q)
-        (read-ranges s n w e u ∙ ranges-there s n w e q)
+      (read-ranges s n w e u ∙ ranges-there s n w e q)
       ∙ ap M.allSome (part-of none known lsb k v)

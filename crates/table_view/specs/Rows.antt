@@ -66,10 +66,10 @@ pub set-listOf : {A : Type 0} (n : ℕ) (f g : ℕ → A) (i : ℕ) (x : A) → 
 set-listOf n f g i x e h =
     is-listOf x n g (set (listOf n f) i x) (length-set (listOf n f) i x ∙ length-listOf n f)
     (λ j u. ⊎-elim
-      (λ (q : j ≡ i). subst (λ (k : ℕ). getD (set (listOf n f) i x) k x ≡ g k) (sym q)
-        (getD-set-same (listOf n f) i x x (subst (λ (m : ℕ). i < m) (sym (length-listOf n f)) (omega arith)) ∙ sym e))
-      (λ (q : j ≡ i → ⊥). getD-set-other (listOf n f) i j x x q ∙ at-listOf n f j x u ∙ sym (h j u q))
-      (same-or j i))
+    (λ (q : j ≡ i). subst (λ (k : ℕ). getD (set (listOf n f) i x) k x ≡ g k) (sym q)
+    (getD-set-same (listOf n f) i x x (subst (λ (m : ℕ). i < m) (sym (length-listOf n f)) (omega arith)) ∙ sym e))
+    (λ (q : j ≡ i → ⊥). getD-set-other (listOf n f) i j x x q ∙ at-listOf n f j x u ∙ sym (h j u q))
+    (same-or j i))
 
 pub map-each : {A B : Type 0} (h : A → B) (f : ℕ → A) (i n : ℕ) → map h (each f i n) ≡ each (λ j. h (f j)) i n
 unfolding each
@@ -132,12 +132,12 @@ sum-falls f g zero i u p q h = absurd (omega arith)
 sum-falls f g (suc n) i u p q h =
     ⊎-elim
     (λ (z : i ≡ n).
-      let a : sumTo g n ≡ sumTo f n = sum-agree g f n (λ j v. h j (omega arith) (λ y. absurd (omega arith))) in
-      let b : f n ≡ 1 = ap f (sym z) ∙ p in
-      let c : g n ≡ 0 = ap g (sym z) ∙ q in
-      omega arith)
+    let a : sumTo g n ≡ sumTo f n = sum-agree g f n (λ j v. h j (omega arith) (λ y. absurd (omega arith))) in
+    let b : f n ≡ 1 = ap f (sym z) ∙ p in
+    let c : g n ≡ 0 = ap g (sym z) ∙ q in
+    omega arith)
     (λ (z : i < n).
-      omega (arith, sum-falls f g n i z p q (λ j v y. h j (omega arith) y), h n (omega arith) (λ y. absurd (omega arith))))
+    omega (arith, sum-falls f g n i z p q (λ j v y. h j (omega arith) y), h n (omega arith) (λ y. absurd (omega arith))))
     (eq-or-lt-of-le {n = i} {m = n} (omega arith))
 
 -- ---- a column cut into rows ----
@@ -173,5 +173,5 @@ module _ {A : Type 0} (f : ℕ → ℕ) (k : ℕ) where
   put-rows g g′ i j a h u e o =
       ap (λ (r : List A). set (rows f k g) i (set r j a)) (row-at g i h)
       ∙ set-rows g g′ i (set (listOf (f i) (λ j. g (sumTo f i + j))) j a)
-        (set-listOf (f i) (λ j. g (sumTo f i + j)) (λ j. g′ (sumTo f i + j)) j a e (λ j′ v q. o (sumTo f i + j′) (λ z. q (omega arith))))
-        (λ i′ j′ v q x. o (sumTo f i′ + j′) (stretch-apart f i j i′ j′ u x q))
+      (set-listOf (f i) (λ j. g (sumTo f i + j)) (λ j. g′ (sumTo f i + j)) j a e (λ j′ v q. o (sumTo f i + j′) (λ z. q (omega arith))))
+      (λ i′ j′ v q x. o (sumTo f i′ + j′) (stretch-apart f i j i′ j′ u x q))

@@ -1,15 +1,16 @@
 -- For each way through a function of the tables, from what is known there to what it promises. Assumes nothing.
 use mathlib.Core.Path.{_≡_, refl, sym, ap, _∙_, subst}
 use mathlib.Core.Bool.{Bool, true, false, not}
-use mathlib.Core.List.{List, [], _∷_, map}
+use mathlib.Core.List.{List, [], _∷_, _++_, map, append-assoc, append-nil}
 use mathlib.Core.Option.{Option, none, some}
 use Prim.Native.Nat.{ℕ, zero, suc, _+_, _*_, _-_, _/_, _%_, _≤_, _<_}
 use native.Mathlib.Nat.{sub-zero, zero-add}
 use native.Mathlib.Numerals.{add-one}
 use native.Mathlib.Omega.{arith}
 use lib.Dec.{eqb}
-use lib.ListN.{length, getD, set, take, length-set}
-use lib.Seq.{paste, paste-zero, paste-suc}
+use lib.ListN.{length, getD, set, take, drop, length-set, length-drop, drop-of-length-le}
+use lib.Seq.{take-all, drop-drop, paste, paste-zero, paste-suc}
+use borrow.Rule.Slice.PartMut.{putMid}
 use borrow.Author.Tests.{eqb-true, eqb-false}
 use Rattle.rules.specs.Rules.{each, listOf, sumTo}
 use Rattle.meaning.specs.Image.{countAt, signalWidth, exprWidth, decode}
@@ -18,11 +19,11 @@ use Rattle.model.specs.Words.{Netlist, absent}
 use Rattle.model.specs.Lowering as M
 use Rattle.model.specs.Lowering.{cell, driverOf}
 use Rattle.table_view.specs.View.{limitOf, signalBit, exprBit, netAt, driverAt, markAt, firstAt, exprAt, bitAt, known, netWord, isSet, isWhole, stateOf, driverWord, Laid, Writes, Marks}
-use Rattle.table_view.specs.Laws.{known-some, known-none, isSet-yes, isSet-no, signals-few, signal-ends, expr-ends, Stored, stored-one, store-net, store-mark}
-use Rattle.table_view.specs.Reads.{read-signal, read-mark, read-range, whole-net}
+use Rattle.table_view.specs.Laws.{known-some, known-none, isSet-yes, isSet-no, signals-few, signal-ends, expr-ends, Stored, stored-one, stored-paste, store-net, store-mark, store-signal, store-whole, store-range}
+use Rattle.table_view.specs.Reads.{read-signal, read-mark, read-signals, read-range, whole-net, known-range}
 use Rattle.table_view.specs.Rows.{at-listOf}
 use Rattle.table_view.specs.Drivers.{driver-inside, inside-low, word-none, word-some}
-use Rattle.tables.specs.Answers.{SignalPlace, ExprPlace, ExprNet, drivenBy}
+use Rattle.tables.specs.Answers.{SignalPlace, ExprPlace, ExprNet, Small, drivenBy}
 use Rattle.tables.specs.declared.Driver.the-variants.{Expr, Nothing}
 
 -- the code's test of a word
@@ -185,3 +186,67 @@ pub fill-turn : (d nets : List ℕ) (n : ℕ) (out out′ : List ℕ) (i : ℕ) 
 fill-turn d nets n out out′ i h u fits long e =
     subst (λ (o : List ℕ). PastedAt d 0 (map suc nets) n o (i + 1)) (ap (λ (j : ℕ). set out j (suc (getD nets i 0))) (zero-add i) ∙ sym e)
     (paste-turn d 0 (map suc nets) n out i (suc (getD nets i 0)) h u (omega arith) (omega (arith, sucs-long nets)) (sucs-at nets i (omega arith)))
+
+module _ (s w : List ℕ) (r lsb n : ℕ) (out out′ : List ℕ) (to : ℕ) (c : out′ ≡ paste out to (listOf n (λ i. netWord (getD w (r + i) 0))) n) where
+  pub copy-signal-way : (p : ℕ) → p < countAt s 0 → lsb + n ≤ signalWidth s p → SignalPlace s w p lsb r → (l : Netlist) → out′ ≡ paste out to (M.signalNets (stateOf s l w) p lsb n) n
+  copy-signal-way p u v a l =
+      c ∙ ap (λ (j : ℕ). paste out to (listOf n (λ i. netWord (getD w (j + i) 0))) n) (a .at)
+      ∙ ap (λ (xs : List ℕ). paste out to xs n) (sym (read-signals s (limitOf w) l w p lsb n u v))
+
+  pub copy-range-way : (e : ℕ) → e < countAt s 1 → lsb + n ≤ exprWidth s e → ExprPlace s w e lsb r → (l : Netlist) → out′ ≡ paste out to (M.rangeNets (stateOf s l w) e lsb n) n
+  copy-range-way e u v a l =
+      c ∙ ap (λ (j : ℕ). paste out to (listOf n (λ i. netWord (getD w (j + i) 0))) n) (a .at)
+      ∙ ap (λ (xs : List ℕ). paste out to xs n) (sym (read-range s (limitOf w) l w e u lsb n v))
+
+pub known-range-way : (s w : List ℕ) (e lsb n r : ℕ) (x : Bool) → e < countAt s 1 → lsb + n ≤ exprWidth s e → isWhole s (limitOf w) w e ≡ false → ExprPlace s w e lsb r
+    → x ≡ M.allSome (listOf n (λ i. known (getD w (r + i) 0))) → (l : Netlist) → x ≡ M.rangeKnown (stateOf s l w) e lsb n
+known-range-way s w e lsb n r x u v z a q l =
+    q ∙ ap (λ (j : ℕ). M.allSome (listOf n (λ i. known (getD w (j + i) 0)))) (a .at) ∙ sym (known-range s (limitOf w) l w e u lsb n v z)
+
+-- ---- stretches ----
+
+-- a part that came back filled: the whole with its stretch stored
+pub filled : (w nets : List ℕ) (r n : ℕ) (m : List ℕ) → r + n ≤ length w → n ≤ length nets → m ≡ paste (take (length w - r) (drop r w)) 0 (map suc nets) n
+    → Stored r n (λ i. suc (getD nets i 0)) w (putMid r (length w - r) w m)
+filled w nets r n m fits long e =
+    let part = drop r w in
+    let all : take (length w - r) part ≡ part = take-all (length w - r) part (rw length-drop (omega arith)) in
+    let nil : drop (length w - r) part ≡ [] = drop-of-length-le part {i = length w - r} (rw length-drop (omega arith)) in
+    let vs = map suc nets in
+    let rest : drop (0 + n) part ≡ drop (r + n) w = ap (λ (k : ℕ). drop k part) (zero-add n) ∙ drop-drop n r w in
+    let m′ : m ≡ take n vs ++ drop (r + n) w = e ∙ ap (λ (x : List ℕ). paste x 0 vs n) all ∙ ap (λ (x : List ℕ). take n vs ++ x) rest in
+    let is : putMid r (length w - r) w m ≡ paste w r vs n =
+    ap (λ (x : List ℕ). take r w ++ (m ++ x)) nil ∙ ap (λ (x : List ℕ). take r w ++ x) (append-nil m ∙ m′) ∙ sym (append-assoc (take r w) (take n vs) (drop (r + n) w)) in
+    let st : Stored r n (λ i. getD vs i 0) w (paste w r vs n) = stored-paste w r n vs fits (omega (arith, sucs-long nets)) in
+    subst (λ (x : List ℕ). Stored r n (λ i. suc (getD nets i 0)) w x) (sym is)
+    (record { long = st .long; inside = λ i u. st .inside i u ∙ sym (sucs-at nets i (omega arith)); other = st .other })
+
+module _ (s w nets m : List ℕ) (n : ℕ) (h : Laid s w) (long : n ≤ length nets) (small : Small n nets) where
+  pub keep-signals-way : (p r : ℕ) → p < countAt s 0 → n ≡ signalWidth s p → SignalPlace s w p 0 r → m ≡ paste (take (length w - r) (drop r w)) 0 (map suc nets) n
+      → Writes (λ st. M.setSignal st p (take n nets)) s w (putMid r (length w - r) w m)
+  keep-signals-way p r u q a e =
+      let st = filled w nets r n m (omega (arith, h .long, a .at, a .ends)) long e in
+      let st′ : Stored (netAt s (limitOf w) p 0) (signalWidth s p) (λ i. suc (getD nets i 0)) w (putMid r (length w - r) w m) =
+      subst (λ (k : ℕ). Stored (netAt s (limitOf w) p 0) k (λ i. suc (getD nets i 0)) w (putMid r (length w - r) w m)) q
+      (subst (λ (j : ℕ). Stored j n (λ i. suc (getD nets i 0)) w (putMid r (length w - r) w m)) (a .at) st) in
+      subst (λ (k : ℕ). Writes (λ st. M.setSignal st p (take k nets)) s w (putMid r (length w - r) w m)) (sym q)
+      (store-signal s w (putMid r (length w - r) w m) nets p h u (omega arith) (λ i v. small i (omega arith)) st′)
+
+  pub keep-whole-way : (e r : ℕ) → e < countAt s 1 → n ≡ exprWidth s e → ExprPlace s w e 0 r → m ≡ paste (take (length w - r) (drop r w)) 0 (map suc nets) n
+      → Writes (λ st. M.setWhole st e (take n nets)) s w (set (putMid r (length w - r) w m) (getD w 2 0 + 8 * e + 1) 1)
+  keep-whole-way e r u q a x =
+      let w₁ = putMid r (length w - r) w m in
+      let flag = exprAt s (limitOf w) e 1 in
+      let f : getD w 2 0 + 8 * e + 1 ≡ flag = omega (arith, h .exprs) in
+      let st = filled w nets r n m (omega (arith, h .long, a .at, a .ends)) long x in
+      let st′ : Stored (bitAt s (limitOf w) e 0) (exprWidth s e) (λ i. suc (getD nets i 0)) w w₁ =
+      subst (λ (k : ℕ). Stored (bitAt s (limitOf w) e 0) k (λ i. suc (getD nets i 0)) w w₁) q (subst (λ (j : ℕ). Stored j n (λ i. suc (getD nets i 0)) w w₁) (a .at) st) in
+      subst (λ (k : ℕ). Writes (λ st. M.setWhole st e (take k nets)) s w (set w₁ (getD w 2 0 + 8 * e + 1) 1)) (sym q)
+      (subst (λ (j : ℕ). Writes (λ st. M.setWhole st e (take (exprWidth s e) nets)) s w (set w₁ j 1)) (sym f)
+      (store-whole s w w₁ (set w₁ flag 1) nets e h u (omega arith) (λ i v. small i (omega arith)) st′ (stored-one flag 1 w₁ (omega (arith, h .long, st .long)))))
+
+  pub keep-range-way : (e lsb r : ℕ) → e < countAt s 1 → lsb + n ≤ exprWidth s e → isWhole s (limitOf w) w e ≡ false → ExprPlace s w e lsb r
+      → m ≡ paste (take (length w - r) (drop r w)) 0 (map suc nets) n → Writes (λ st. M.setRange st e lsb (take n nets)) s w (putMid r (length w - r) w m)
+  keep-range-way e lsb r u v z a x =
+      store-range s w (putMid r (length w - r) w m) nets e lsb n h u v long small z
+      (subst (λ (j : ℕ). Stored j n (λ i. suc (getD nets i 0)) w (putMid r (length w - r) w m)) (a .at) (filled w nets r n m (omega (arith, h .long, a .at, a .ends)) long x))

@@ -5,6 +5,7 @@ use Rattle.tables.proofs.keep_whole.Reads as reads
 use Rattle.tables.proofs.keep_whole.Lts as lts
 use Rattle.tables.proofs.expr_place.Reads as expr-place-reads
 use Rattle.tables.proofs.fill.Reads as fill-reads
+use Rattle.tables.proofs.Ways.{keep-whole-way}
 
 -- src/lib.rt:227:16
 slice-read-flag : tie.Need-slice-read-flag
@@ -64,7 +65,12 @@ same-length c = search needs
 
 -- src/lib.rt:223:1
 returns : tie.Need-returns
-returns c = ?
+returns c =
+    let s = c .before .before .before .before .before .before .before .before .before .before in
+    let a = s .args in
+    let at = c .before .before .before .before .expr-place in
+    let f = c .before .before .fill in
+    keep-whole-way (a .image .now) (a .scr .now) (a .nets .now) (f .last .0) (a .n) (s .pre .0) (s .pre .3) (s .pre .4) (a .e) (at .result) (s .pre .1) (s .pre .2) (at .ensures) (f .ensures)
 
 pub keep-whole-spec : {M : Type 1} → statement M
 keep-whole-spec =
