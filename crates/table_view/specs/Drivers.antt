@@ -6,7 +6,7 @@ use mathlib.Core.Option.{Option, none, some}
 use Prim.Native.Nat.{ℕ, zero, suc, _+_, _*_, _-_, _/_, _%_, _≤_, _<_}
 use native.Mathlib.Omega.{arith}
 use lib.Dec.{eqb, leb, ltb}
-use borrow.Author.Tests.{eqb-true, leb-true, ltb-true}
+use borrow.Author.Tests.{eqb-true, leb-true, ltb-true, eq-eqb, le-leb, lt-ltb}
 use Rattle.rules.specs.Rules.{each, listOf}
 use Rattle.rtl.specs.Rtl as R
 use Rattle.rtl.specs.Rtl.{Assign, byAssign}
@@ -54,6 +54,9 @@ covered s i p b e = go (eqb (field s 3 i 0) p) (leb (field s 3 i 1) b) refl refl
     go true true q r x = (eqb-true _ _ q, (leb-true _ _ r, ltb-true _ _ x))
     go true false q r x = absurd (true≢false (sym x))
     go false v q r x = absurd (true≢false (sym x))
+
+pub covers-yes : (s : List ℕ) (i p b : ℕ) → field s 3 i 0 ≡ p → field s 3 i 1 ≤ b → b < field s 3 i 1 + field s 3 i 2 → covers s i p b ≡ true
+covers-yes s i p b e l u = rw (eq-eqb (field s 3 i 0) p e, le-leb (field s 3 i 1) b l, lt-ltb b (field s 3 i 1 + field s 3 i 2) u)
 
 one-inside : (s : List ℕ) (p b i : ℕ) → Drives s i → (rest : R.Driver) (t : Bool) → covers s i p b ≡ t → Inside s b (exprDriver rest)
     → Inside s b (exprDriver (cond t (R.FromExpr (field s 3 i 3) (b - field s 3 i 1)) rest))

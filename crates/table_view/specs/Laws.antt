@@ -87,6 +87,10 @@ pub expr-ends : (s : List ℕ) (e : ℕ) → e < countAt s 1 → exprBit s e (ex
 unfolding exprBits
 expr-ends s e h = stretch-before (exprWidth s) e (countAt s 1) h
 
+pub bits-are : (s : List ℕ) → signalBits s ≡ sumTo (signalWidth s) (countAt s 0)
+unfolding signalBits
+bits-are s = refl
+
 bits-below : (s : List ℕ) (j : ℕ) → j < sumTo (signalWidth s) (countAt s 0) → j < signalBits s
 unfolding signalBits
 bits-below s j u = u

@@ -4,3 +4,4 @@ pub mod View
 pub mod Laws
 pub mod Reads
 pub mod Drivers
+pub mod Copies

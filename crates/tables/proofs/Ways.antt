@@ -8,8 +8,8 @@ use native.Mathlib.Nat.{sub-zero, zero-add}
 use native.Mathlib.Numerals.{add-one}
 use native.Mathlib.Omega.{arith}
 use lib.Dec.{eqb}
-use lib.ListN.{length, getD, set, take, drop, length-set, length-drop, drop-of-length-le}
-use lib.Seq.{take-all, drop-drop, paste, paste-zero, paste-suc}
+use lib.ListN.{length, getD, set, take, drop, length-drop, drop-of-length-le}
+use lib.Seq.{take-all, drop-drop, paste}
 use borrow.Rule.Slice.PartMut.{putMid}
 use borrow.Author.Tests.{eqb-true, eqb-false}
 use Rattle.rules.specs.Rules.{each, listOf, sumTo}
@@ -22,6 +22,7 @@ use Rattle.table_view.specs.View.{limitOf, signalBit, exprBit, netAt, driverAt,
 use Rattle.table_view.specs.Laws.{known-some, known-none, isSet-yes, isSet-no, signals-few, signal-ends, expr-ends, Stored, stored-one, stored-paste, store-net, store-mark, store-signal, store-whole, store-range}
 use Rattle.table_view.specs.Reads.{read-signal, read-mark, read-signals, read-range, whole-net, known-range}
 use Rattle.table_view.specs.Rows.{at-listOf}
+use Rattle.table_view.specs.Copies.{PastedAt, paste-turn}
 use Rattle.table_view.specs.Drivers.{driver-inside, inside-low, word-none, word-some}
 use Rattle.tables.specs.Answers.{SignalPlace, ExprPlace, ExprNet, Small, drivenBy}
 use Rattle.tables.specs.declared.Driver.the-variants.{Expr, Nothing}
@@ -147,27 +148,6 @@ module _ (w : List ℕ) (at n : ℕ) where
       sym (h .left ∙ ap (λ (k : ℕ). M.allSome (each (λ j. known (getD w (at + j) 0)) i k)) e)
 
 -- ---- copies ----
-
--- i of the n elements of vs are pasted into d at a place
-pub record PastedAt (d : List ℕ) (at : ℕ) (vs : List ℕ) (n : ℕ) (out : List ℕ) (i : ℕ) : Type 0 where
-  pub below : i ≤ n
-  pub long : length out ≡ length d
-  pub pasted : out ≡ paste d at vs i
-
-module _ (d : List ℕ) (at : ℕ) (vs : List ℕ) (n : ℕ) where
-  pub paste-begins : PastedAt d at vs n d 0
-  paste-begins = record { below = omega arith; long = refl; pasted = paste-zero d at vs }
-
-  pub paste-turn : (out : List ℕ) (i x : ℕ) → PastedAt d at vs n out i → i < n → at + n ≤ length d → n ≤ length vs → x ≡ getD vs i 0 → PastedAt d at vs n (set out (at + i) x) (i + 1)
-  paste-turn out i x h u fits long e = record {
-    below = omega arith;
-    long = length-set out (at + i) x ∙ h .long;
-    pasted = ap (λ (o : List ℕ). set o (at + i) x) (h .pasted) ∙ ap (set (paste d at vs i) (at + i)) e ∙ paste-suc d at vs i 0 (omega arith) (omega arith)
-        ∙ ap (paste d at vs) (sym (add-one i));
-  }
-
-  pub paste-ends : (out : List ℕ) (i : ℕ) → PastedAt d at vs n out i → n ≤ i → out ≡ paste d at vs n
-  paste-ends out i h u = let e : i ≡ n = omega (arith, h .below) in h .pasted ∙ ap (paste d at vs) e
 
 pub net-at : (w : List ℕ) (at n i : ℕ) → i < n → netWord (getD w (at + i) 0) ≡ getD (listOf n (λ j. netWord (getD w (at + j) 0))) i 0
 net-at w at n i u = sym (at-listOf n (λ j. netWord (getD w (at + j) 0)) i 0 u)

@@ -11,7 +11,8 @@ use lib.ListN.{getD}
 use Rattle.rules.specs.Rules.{listOf}
 use Rattle.table_view.specs.View.{netWord}
 use Rattle.table_view.specs.Rows.{length-listOf}
-use Rattle.tables.proofs.Ways.{PastedAt, paste-begins, paste-turn, paste-ends, net-at}
+use Rattle.table_view.specs.Copies.{PastedAt, paste-begins, paste-turn, paste-ends}
+use Rattle.tables.proofs.Ways.{net-at}
 
 abbrev Inv-loop : tie.InvT-loop
 Inv-loop scr at n out₀ to i₀ out i = PastedAt out₀ to (listOf n (λ i. netWord (getD scr (at + i) 0))) n out i

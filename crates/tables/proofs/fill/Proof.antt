@@ -7,7 +7,8 @@ use borrow.Author.Needs.{needs}
 use mathlib.Core.List.{map}
 use Prim.Native.Nat.{suc, _-_}
 use native.Mathlib.Omega.{arith}
-use Rattle.tables.proofs.Ways.{PastedAt, paste-begins, fill-turn, paste-ends}
+use Rattle.table_view.specs.Copies.{PastedAt, paste-begins, paste-ends}
+use Rattle.tables.proofs.Ways.{fill-turn}
 
 abbrev Inv-loop : tie.InvT-loop
 Inv-loop part₀ nets n i₀ part i = PastedAt part₀ 0 (map suc nets) n part i
