@@ -650,3 +650,23 @@ skip-range s w ns e lsb h u is =
     (λ l j. state l (signalRows s n w) (markRows s n w) (listOf (countAt s 1) (wholeAt s n w))
     (sym (ap (λ (o : Option (List ℕ)). set ranges e (M.rangesBy o (getD ranges e []) lsb ns)) (read-whole s n l w e u ∙ whole-some s n w e is) ∙ set-getD ranges e []) j))
     (omega arith)
+
+-- ---- the measure ----
+
+sum-ones : (f : ℕ → ℕ) (n : ℕ) → ((j : ℕ) → j < n → f j ≡ 1) → sumTo f n ≡ n
+unfolding sumTo
+sum-ones f zero h = refl
+sum-ones f (suc n) h = omega (arith, sum-ones f n (λ j u. h j (omega arith)), h n (omega arith))
+
+sum-units : (f : ℕ → ℕ) (n : ℕ) → ((j : ℕ) → j < n → f j ≤ 1) → sumTo f n ≤ n
+unfolding sumTo
+sum-units f zero h = omega arith
+sum-units f (suc n) h = omega (arith, sum-units f n (λ j u. h j (omega arith)), h n (omega arith))
+
+pub free-all : (s : List ℕ) (n : ℕ) (w : List ℕ) → ((j : ℕ) → j < signalBits s → getD w (signalColumn n + 2 * signalBits s + j) 0 ≡ 0) → freeAt s n w ≡ signalBits s
+unfolding freeAt unset
+free-all s n w h = sum-ones (λ j. unset (getD w (signalColumn n + 2 * signalBits s + j) 0)) (signalBits s) (λ j u. ap unset (h j u))
+
+pub free-most : (s : List ℕ) (n : ℕ) (w : List ℕ) → freeAt s n w ≤ signalBits s
+unfolding freeAt
+free-most s n w = sum-units (λ j. unset (getD w (signalColumn n + 2 * signalBits s + j) 0)) (signalBits s) (λ j u. unset-most (getD w (signalColumn n + 2 * signalBits s + j) 0))
