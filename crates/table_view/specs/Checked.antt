@@ -1,5 +1,5 @@
 -- An image that refusals 3 and 4 let pass has the sizes that the tables need. Assumes nothing.
-use mathlib.Core.Path.{_≡_, refl, sym, ap, _∙_, subst}
+use mathlib.Core.Path.{_≡_, refl, subst}
 use mathlib.Core.Bool.{Bool, true, false, not, true≢false}
 use mathlib.Core.List.{List}
 use Prim.Native.Nat.{ℕ, zero, suc, _+_, _-_, _≤_, _<_}
@@ -8,7 +8,7 @@ use native.Mathlib.Omega.{arith}
 use lib.ListN.{length}
 use Rattle.rules.specs.Rules.{_<?_, _≡?_, pick, first, sumTo, Answer, Fine, Refused, andThen}
 use Rattle.rules.specs.Laws.{or-no, no-lt, no-ne, yes-lt, inside, first-most, none, sum-none}
-use Rattle.meaning.specs.Image.{mostOf, countAt, field, signalWidth, exprWidth}
+use Rattle.meaning.specs.Image.{mostOf, countAt, signalWidth, exprWidth}
 use Rattle.meaning.specs.Checks.{header, firstField, wrongField, wrongCount, badSignal, badExpr, badAssign, noSignal, noExpr, section, records, signalBits, exprBits}
 use Rattle.table_view.specs.View.{Drives, Sized}
 
@@ -82,9 +82,9 @@ sized s h r =
     let b = both-fine _ _ (a .1) in
     let c = both-fine _ _ (b .1) in
     let g : (p : ℕ) → p < countAt s 0 → ((1 ≤ signalWidth s p) × (signalWidth s p ≤ 1024)) × (sumTo (signalWidth s) (p + 1) ≤ 4096) =
-        λ p u. signal-right s p (passes s 0 (badSignal s) (a .0) p u) in
+    λ p u. signal-right s p (passes s 0 (badSignal s) (a .0) p u) in
     let x : (e : ℕ) → e < countAt s 1 → ((1 ≤ exprWidth s e) × (exprWidth s e ≤ 1024)) × (sumTo (exprWidth s) (e + 1) ≤ 32768) =
-        λ e u. expr-right s e (passes s 1 (badExpr s) (b .0) e u) in
+    λ e u. expr-right s e (passes s 1 (badExpr s) (b .0) e u) in
     record {
       signals = counted s 0 (fields-right s h 2 (omega arith));
       exprs = counted s 1 (fields-right s h 4 (omega arith));
