@@ -1,0 +1,2 @@
+-- What the walk of the lowering keeps.
+pub mod Tables
