@@ -1,2 +1,5 @@
 -- What the walk of the lowering keeps.
 pub mod Tables
+pub mod Good
+pub mod Kept
+pub mod Writes
