@@ -3,3 +3,4 @@ pub mod Tables
 pub mod Good
 pub mod Kept
 pub mod Writes
+pub mod Reads
