@@ -4,3 +4,5 @@ pub mod Good
 pub mod Kept
 pub mod Writes
 pub mod Reads
+pub mod Gates
+pub mod Wholes
