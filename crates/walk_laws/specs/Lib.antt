@@ -6,3 +6,4 @@ pub mod Writes
 pub mod Reads
 pub mod Gates
 pub mod Wholes
+pub mod Parts
