@@ -7,3 +7,4 @@ pub mod Reads
 pub mod Gates
 pub mod Wholes
 pub mod Parts
+pub mod Walk

@@ -131,7 +131,7 @@ gate-word R.ShiftR k e a b = absurd (none-some e)
 gate-word R.ShiftA k e a b = absurd (none-some e)
 
 -- a gate's sides have its width
-gate-wide : (g : ℕ → ℕ) (w a b : ℕ) (op : Binary) (k : Gate) → gateOf (classOf op) ≡ some k → WidthOk g w (R.Bin op a b) → (g a ≡ w) × (g b ≡ w)
+pub gate-wide : (g : ℕ → ℕ) (w a b : ℕ) (op : Binary) (k : Gate) → gateOf (classOf op) ≡ some k → WidthOk g w (R.Bin op a b) → (g a ≡ w) × (g b ≡ w)
 gate-wide g w a b R.And k e h = h
 gate-wide g w a b R.Or k e h = h
 gate-wide g w a b R.Xor k e h = h
