@@ -5,7 +5,7 @@ use mathlib.Core.List.{List, [], _∷_, _++_, append-nil}
 use mathlib.Core.Logic.{⊎-elim}
 use mathlib.Core.Option.{Option, none, some}
 use Prim.Native.Nat.{ℕ, zero, suc, _+_, _-_, _≤_, _<_}
-use native.Mathlib.Nat.{eq-or-lt-of-le}
+use native.Mathlib.Nat.{eq-or-lt-of-le, le-trans}
 use native.Mathlib.Omega.{arith}
 use lib.Dec.{eqb, ltb}
 use lib.ListN.{length, getD}
@@ -19,7 +19,7 @@ use Rattle.netlist_view.specs.Laws.{withNode}
 use Rattle.netlist_laws.specs.Meaning.{decode, nodeAt, meaningOf, netValue}
 use Rattle.netlist_laws.specs.Sound.{count, Wired, Sound, Grew, Later, At, Stands}
 use Rattle.netlist_laws.specs.Run.{later-refl, Limit, Run, run-done}
-use Rattle.netlist_laws.specs.Nodes.{node-at, wired-grew, at-grew, arithmetic-grew, comparison-grew, later-net}
+use Rattle.netlist_laws.specs.Nodes.{count-grew, node-at, wired-grew, at-grew, arithmetic-grew, comparison-grew, later-net}
 
 -- a test decides a call
 pub run-if : {A : Type 0} {l : Netlist} {P : A → Netlist → Type 0} {x y : Made A} (t : Bool) → (t ≡ true → Run l P x) → (t ≡ false → Run l P y)
@@ -50,6 +50,7 @@ sound-node x l q h w = record {
       (λ (e : k ≡ count l). rw e (rw (newest x l) w))
       (λ (b : k < count l). rw (at-grew (grew-node x l) k b) (wired-grew (grew-node x l) k (omega arith) (nodeAt l k) (q .wired k b)))
       (eq-or-lt-of-le (omega arith));
+  ports = λ j b i h. le-trans (q .ports j b i h) (count-grew (grew-node x l));
   arithmetic = λ j b. arithmetic-grew (grew-node x l) j _ (q .arithmetic j b);
   comparison = λ j b. comparison-grew (grew-node x l) j _ (q .comparison j b);
 }

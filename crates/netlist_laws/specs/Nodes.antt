@@ -1,16 +1,18 @@
 -- Older nodes and records stay as they were, and a net's value is its node's rule at the values below it. Assumes nothing.
 use mathlib.Core.Path.{_≡_, refl, sym, ap, ap₂, subst, _∙_}
 use mathlib.Core.Bool.{Bool, true, false}
-use mathlib.Core.List.{List, [], _∷_, _++_, map}
+use mathlib.Core.List.{List, [], _∷_, _++_, map, append-nil}
 use mathlib.Core.Logic.{⊎-elim}
 use mathlib.Core.Option.{Option, none, some}
 use Prim.Native.Nat.{ℕ, zero, suc, _+_, _*_, _-_, _≤_, _<_}
 use native.Mathlib.Nat.{le-trans, eq-or-lt-of-le, not-suc-le-zero, le-of-suc-le-suc}
+use native.Mathlib.Decide.{ℕ-discrete}
 use native.Mathlib.Omega.{arith}
 use lib.ListN.{length, getD, length-append, List·getD-append, List·getD-eq-default}
 use lib.Seq.{getD-append-seam, getD-append-add}
 use borrow.Author.Tests.{lt-ltb, le-ltb}
 use Rattle.rules.specs.Rules.{_≡?_, pick, only}
+use Rattle.rules.specs.Laws.{eq-yes, eq-no}
 use Rattle.rtl.specs.Table.{Low, entry-is}
 use Rattle.meaning.specs.NetlistImage as N
 use Rattle.meaning.specs.NetlistImage.{arithmeticOf, comparisonOf}
@@ -85,6 +87,36 @@ pub with-old : {l l′ : Netlist} → Grew l l′ → (t j : ℕ) → j < length
     → getD (recordsWith t (l′ .records)) j [] ≡ getD (recordsWith t (l .records)) j []
 with-old {l} g t j h =
     rw (g .records, with-append t (l .records) (g .pushed)) (List·getD-append (recordsWith t (l .records)) (recordsWith t (g .pushed)) [] j h)
+
+one-with : (t : ℕ) (r : List ℕ) → getD r 0 0 ≡ t → recordsWith t (r ∷ []) ≡ r ∷ []
+unfolding recordsWith only pick
+one-with t r h = rw (eq-yes (getD r 0 0) t h)
+
+none-with : (t : ℕ) (r : List ℕ) → (getD r 0 0 ≡ t → ⊥) → recordsWith t (r ∷ []) ≡ []
+unfolding recordsWith only pick
+none-with t r h = rw (eq-no (getD r 0 0) t h)
+
+module _ (t : ℕ) (rs : List (List ℕ)) (r : List ℕ) where
+  pub with-new : getD r 0 0 ≡ t → recordsWith t (rs ++ (r ∷ [])) ≡ recordsWith t rs ++ (r ∷ [])
+  with-new e = with-append t rs (r ∷ []) ∙ rw (one-with t r e)
+
+  pub with-same : (getD r 0 0 ≡ t → ⊥) → recordsWith t (rs ++ (r ∷ [])) ≡ recordsWith t rs
+  with-same e = with-append t rs (r ∷ []) ∙ rw (none-with t r e) (append-nil (recordsWith t rs))
+
+  -- what holds of each record with t holds of one more
+  pub with-after : (P : ℕ → List ℕ → Type 0) → ((j : ℕ) → j < length (recordsWith t rs) → P j (getD (recordsWith t rs) j []))
+      → (getD r 0 0 ≡ t → P (length (recordsWith t rs)) r)
+      → (j : ℕ) → j < length (recordsWith t (rs ++ (r ∷ []))) → P j (getD (recordsWith t (rs ++ (r ∷ []))) j [])
+  with-after P old new j h = elim (ℕ-discrete (getD r 0 0) t) [
+    | yes e ↦
+        let n : length (recordsWith t rs ++ (r ∷ [])) ≡ suc (length (recordsWith t rs)) = length-append (recordsWith t rs) (r ∷ []) ∙ omega arith in
+        let k : j < suc (length (recordsWith t rs)) = rw (with-new e, n) at h in
+        rw (with-new e) (⊎-elim
+        (λ (q : j ≡ length (recordsWith t rs)). rw (q, getD-append-seam (recordsWith t rs) r [] []) (new e))
+        (λ (b : j < length (recordsWith t rs)). rw (List·getD-append (recordsWith t rs) (r ∷ []) [] j b) (old j b))
+        (eq-or-lt-of-le (le-of-suc-le-suc k)))
+    | no e ↦ rw (with-same e) (old j (rw (with-same e) at h))
+  ]
 
 pub getD-map-in : {A B : Type 0} (f : A → B) (xs : List A) (i : ℕ) (z : A) (d : B) → i < length xs → getD (map f xs) i d ≡ f (getD xs i z)
 getD-map-in f [] i z d h = absurd (not-suc-le-zero h)

@@ -5,7 +5,7 @@ use mathlib.Core.List.{List, [], _∷_, _++_, map, append-assoc, append-nil}
 use Prim.Native.Nat.{ℕ, _+_, _≤_, _<_}
 use native.Mathlib.Nat.{le-trans}
 use native.Mathlib.Omega.{arith}
-use lib.ListN.{length, length-append}
+use lib.ListN.{length, length-append, length-map}
 use Rattle.meaning.specs.Step.{Setting, Contents}
 use Rattle.model.specs.Words.{Netlist}
 use Rattle.model.specs.Builder.{Out, refused, done, andThen, Made}
@@ -69,6 +69,10 @@ all-nil = record { there = tt; are = λ h b s c. refl }
 pub all-cons : {l : Netlist} {k : ℕ} {f : At Bool} {ks : List ℕ} {w : At (List Bool)} → Stands l k f → StandsAll l ks w
     → StandsAll l (k ∷ ks) (λ h s c. f h s c ∷ w h s c)
 all-cons v a = record { there = (v .there, a .there); are = λ h b s c. rw (v .is h b s c, a .are h b s c) }
+
+-- a word has as many bits as it has nets
+pub all-length : {l : Netlist} {ks : List ℕ} {w : At (List Bool)} → StandsAll l ks w → Sound l → (s : Setting) (c : Contents) → length ks ≡ length (w l s c)
+all-length {l} {ks} a q s c = sym (length-map ks (netValue l s c)) ∙ ap length (a .are l (later-refl q) s c)
 
 -- ---- outcomes ----
 

@@ -71,6 +71,10 @@ pub record ComparisonCell (l : Netlist) (j : ℕ) (r : List ℕ) : Type 0 where
   pub there : comparisonOutput r < count l
   pub output : nodeAt l (comparisonOutput r) ≡ N.ComparisonOutput j
 
+-- the nets of a port's record are there
+abbrev pub PortNets : Netlist → List ℕ → Type 0
+PortNets l r = (i : ℕ) → i < widthWord r → getD r (3 + i) 0 < count l
+
 -- ---- nodes ----
 
 -- neither a constant nor a Not
@@ -101,6 +105,7 @@ pub record Sound (l : Netlist) : Type 0 where
   pub short : used (l .records) ≤ l .maxList
   pub formed : AllFormed (l .records)
   pub wired : (k : ℕ) → k < count l → Wired l k (nodeAt l k)
+  pub ports : (j : ℕ) → j < length (recordsWith 0 (l .records)) → PortNets l (getD (recordsWith 0 (l .records)) j [])
   pub arithmetic : (j : ℕ) → j < length (recordsWith 3 (l .records)) → ArithmeticCell l j (arithmeticRecord l j)
   pub comparison : (j : ℕ) → j < length (recordsWith 4 (l .records)) → ComparisonCell l j (comparisonRecord l j)
 

@@ -1,17 +1,19 @@
 -- Laws of the netlist image's words: they hold their netlist, and one node or one record more. Assumes nothing.
 use mathlib.Core.Path.{_≡_, refl, sym, ap, ap₂, subst, _∙_}
 use mathlib.Core.Bool.{Bool}
+use mathlib.Core.Logic.{⊎-elim}
 use mathlib.Core.List.{List, [], _∷_, _++_, append-assoc}
 use Prim.Native.Nat.{ℕ, zero, suc, _+_, _*_, _-_, _≤_, _<_}
 use native.Mathlib.Omega.{arith}
-use native.Mathlib.Nat.{add-zero}
+use native.Mathlib.Nat.{add-zero, eq-or-lt-of-le}
 use lib.ListN.{length, take, drop, getD, set, replicate, length-append, length-replicate, replicate-append-replicate}
-use borrow.Author.Tests.{eq-eqb, ne-eqb}
+use borrow.Author.Tests.{eq-eqb, ne-eqb, lt-ltb, le-ltb}
 use lib.Seq.{take-at, drop-at, getD-append-add, getD-drop, sets, sets-eq, drop-drop, drop-append-add}
 use Rattle.meaning.specs.NetlistImage.{recordsOf, split}
-use Rattle.model.specs.Words.{absent, Node, node, Netlist, bitWord, used, count, nodesWords, listWords, headerWords, words}
+use Rattle.model.specs.Words.{absent, Node, node, gate, Netlist, bitWord, used, count, nodesWords, listWords, headerWords, words}
+use Rattle.model.specs.Builder.{nodeForNet}
 use Rattle.netlist_view.specs.View.{nodeAt, nodesOf, room, netlistOf, Formed, AllFormed, Fit, Built}
-use Rattle.netlist_view.specs.Records.{used-length, used-snoc, listWords-snoc, count-snoc, formed-snoc, split-list}
+use Rattle.netlist_view.specs.Records.{used-length, used-snoc, listWords-snoc, count-snoc, count-le, formed-snoc, split-list}
 
 pub nodesOf-suc : (w : List ℕ) (k : ℕ) → nodesOf w (suc k) ≡ nodeAt w k ∷ nodesOf w k
 unfolding nodesOf
@@ -110,13 +112,25 @@ pub record Holds (n : ℕ) (l : Netlist) (w : List ℕ) : Type 0 where
   pub built : Built n w
 
 pub holds : (n p : ℕ) (l : Netlist) (w : List ℕ) → Fit n p l → 0 < n → n ≤ 65535 → p ≤ 65535 → w ≡ words n p l → Holds n l w
+unfolding words
 holds n p l w f some few short e =
     let len : length w ≡ 16 + 6 * n + p = ap length e ∙ length-words n p l f in
     let r : room n w ≡ p = omega arith in
     let v : netlistOf n w ≡ l = ap (netlistOf n) e ∙ words-view n p l f in
+    let c : getD w 1 0 ≡ length (l .nodes) = ap (λ (u : List ℕ). getD u 1 0) e in
+    let u : getD w 3 0 ≡ used (l .records) = ap (λ (t : List ℕ). getD t 3 0) e in
     record {
       view = v;
-      built = record { told = e ∙ λ i. words n (sym r i) (sym v i); fit = subst (λ (x : ℕ × Netlist). Fit n (x .0) (x .1)) (λ i. (sym r i, sym v i)) f; sized = omega arith; some = some; nets = few; list = omega arith };
+      built = record {
+        told = e ∙ λ i. words n (sym r i) (sym v i);
+        fit = subst (λ (x : ℕ × Netlist). Fit n (x .0) (x .1)) (λ i. (sym r i, sym v i)) f;
+        count = omega (arith, c, f .few);
+        used = omega (arith, u, f .short);
+        sized = omega arith;
+        some = some;
+        nets = few;
+        list = omega arith;
+      };
     }
 
 -- ---- stores ----
@@ -234,3 +248,101 @@ module _ (n p : ℕ) (l : Netlist) (f : Fit n p l) where
     record-stored k q e =
         ap (λ (u : List ℕ). set (set u 3 (used (l .records) + length r)) (5 + k) (count k (l .records) + 1)) list-stored
         ∙ header-stored k q e _ ∙ sym (words-parts n p (withRecord r l))
+
+-- ---- what a reader of the words meets ----
+
+module _ (n : ℕ) (w : List ℕ) (b : Built n w) where
+  pub count-is : length (netlistOf n w .nodes) ≡ getD w 1 0
+  count-is = length-nodesOf w (getD w 1 0)
+
+  pub used-is : used (netlistOf n w .records) ≡ getD w 3 0
+  unfolding words
+  used-is = sym (ap (λ (u : List ℕ). getD u 3 0) (b .told))
+
+  -- one node more, as the code writes it
+  pub node-pushed : (x : Node) → getD w 1 0 < n → Holds n (withNode x (netlistOf n w)) (set (sets w (16 + 6 * getD w 1 0) (nodeWords x)) 1 (suc (getD w 1 0)))
+  node-pushed x h =
+      let l = netlistOf n w in
+      let k : length (l .nodes) < n = omega (arith, count-is) in
+      let p = room n w in
+      holds n p (withNode x l) _ (fit-node n p l (b .fit) x k) (b .some) (b .nets) (b .list)
+      (ap (λ (u : List ℕ). set (sets u (16 + 6 * getD w 1 0) (nodeWords x)) 1 (suc (getD w 1 0))) (b .told)
+      ∙ ap (λ (c : ℕ). set (sets (words n p l) (16 + 6 * c) (nodeWords x)) 1 (suc c)) (sym count-is)
+      ∙ node-stored n p l (b .fit) x k)
+
+module _ (n : ℕ) (w : List ℕ) (b : Built n w) (k : ℕ) (q : k < 5) where
+  header-count : (l : Netlist) (t : List ℕ) (j : ℕ) → j < 5 → getD (headerWords n l ++ t) (5 + j) 0 ≡ count j (l .records)
+  header-count l t zero h = refl
+  header-count l t (suc zero) h = refl
+  header-count l t (suc (suc zero)) h = refl
+  header-count l t (suc (suc (suc zero))) h = refl
+  header-count l t (suc (suc (suc (suc zero)))) h = refl
+  header-count l t (suc (suc (suc (suc (suc j))))) h = absurd (omega arith)
+
+  -- how many records of a kind there are
+  pub records-count : getD w (5 + k) 0 ≡ count k (netlistOf n w .records)
+  records-count =
+      let l = netlistOf n w in
+      ap (λ (u : List ℕ). getD u (5 + k) 0) (b .told ∙ words-parts n (room n w) (netlistOf n w)) ∙ header-count l (nodesPart n (room n w) l ++ (listWords (l .records) ++ zeros (room n w - used (l .records)))) k q
+
+  pub records-few : getD w (5 + k) 0 ≤ 65535
+  records-few = omega (arith, records-count, count-le k (netlistOf n w .records) (b .fit .formed), b .fit .short, b .list)
+
+  -- one record more, as the code writes it
+  pub record-pushed : (r : List ℕ) → getD w 3 0 + length r ≤ room n w → Formed r → getD r 0 absent ≡ k
+      → Holds n (withRecord r (netlistOf n w))
+      (set (set (sets w (16 + 6 * n + getD w 3 0) r) 3 (getD w 3 0 + length r)) (5 + k) (getD w (5 + k) 0 + 1))
+  record-pushed r h g e =
+      let l = netlistOf n w in
+      let p = room n w in
+      let u = used-is n w b in
+      let s : used (l .records) + length r ≤ p = omega arith in
+      holds n p (withRecord r l) _ (fit-record n p l (b .fit) r s g) (b .some) (b .nets) (b .list)
+      (ap (λ (x : List ℕ). set (set (sets x (16 + 6 * n + getD w 3 0) r) 3 (getD w 3 0 + length r)) (5 + k) (getD w (5 + k) 0 + 1)) (b .told)
+      ∙ (λ i. set (set (sets (words n p l) (16 + 6 * n + sym u i) r) 3 (sym u i + length r)) (5 + k) (records-count i + 1))
+      ∙ record-stored n p l (b .fit) r s k q e)
+
+pub node-in : (w : List ℕ) (c k : ℕ) (d : Node) → k < c → getD (nodesOf w c) (c - suc k) d ≡ nodeAt w k
+unfolding nodesOf
+node-in w zero k d h = absurd (omega arith)
+node-in w (suc c) k d h = ⊎-elim
+    (λ (e : k ≡ c). let z : suc c - suc k ≡ 0 = omega arith in ap (λ (j : ℕ). getD (nodesOf w (suc c)) j d) z ∙ ap (nodeAt w) (sym e))
+    (λ (l : k < c). let z : suc c - suc k ≡ suc (c - suc k) = omega arith in ap (λ (j : ℕ). getD (nodesOf w (suc c)) j d) z ∙ node-in w c k d l)
+    (eq-or-lt-of-le (omega arith))
+
+-- `node_for_net` reads the node's words
+pub node-there : (n : ℕ) (w : List ℕ) (k : ℕ) → k < getD w 1 0 → nodeForNet (netlistOf n w) k ≡ nodeAt w k
+unfolding nodeForNet
+node-there n w k h =
+    rw (length-nodesOf w (getD w 1 0), lt-ltb k (getD w 1 0) h) (node-in w (getD w 1 0) k (gate absent absent absent absent) h)
+
+pub node-past : (n : ℕ) (w : List ℕ) (k : ℕ) → getD w 1 0 ≤ k → nodeForNet (netlistOf n w) k ≡ gate absent absent absent absent
+unfolding nodeForNet
+node-past n w k h = rw (length-nodesOf w (getD w 1 0), le-ltb k (getD w 1 0) h)
+
+-- ---- the empty netlist ----
+
+abbrev pub empty : ℕ → ℕ → Netlist
+empty n p = record { maxNets = n; maxList = p; nodes = []; records = [] }
+
+fit-empty : (n p : ℕ) → Fit n p (empty n p)
+unfolding used
+fit-empty n p = record { nets = refl; list = refl; few = omega arith; short = omega arith; formed = tt }
+
+empty-stored : (n p : ℕ) → set (set (set (zeros (16 + 6 * n + p)) 0 1) 2 16) 4 (16 + 6 * n) ≡ words n p (empty n p)
+unfolding words used count
+empty-stored n p =
+    let e : 16 + 6 * n + p ≡ 16 + (6 * n + p) = omega arith in
+    let z : 6 * n + p ≡ 6 * (n - 0) + (p - 0) = omega arith in
+    let t : zeros (16 + 6 * n + p) ≡ zeros 16 ++ (zeros (6 * (n - 0)) ++ zeros (p - 0)) =
+    ap zeros e ∙ sym (replicate-append-replicate 16 (6 * n + p) 0)
+    ∙ ap (λ (u : List ℕ). zeros 16 ++ u) (ap zeros z ∙ sym (replicate-append-replicate (6 * (n - 0)) (p - 0) 0)) in
+    ap (λ (u : List ℕ). set (set (set u 0 1) 2 16) 4 (16 + 6 * n)) t ∙ sym (words-parts n p (empty n p))
+
+-- the words of a start
+pub started : (n : ℕ) (w : List ℕ) → 0 < n → n ≤ 65535 → 16 + 6 * n ≤ length w → room n w ≤ 65535
+    → Holds n (empty n (room n w)) (set (set (set (zeros (length w)) 0 1) 2 16) 4 (16 + 6 * n))
+started n w some nets sized list =
+    let e : length w ≡ 16 + 6 * n + room n w = omega arith in
+    holds n (room n w) (empty n (room n w)) _ (fit-empty n (room n w)) some nets list
+    (ap (λ (k : ℕ). set (set (set (zeros k) 0 1) 2 16) 4 (16 + 6 * n)) e ∙ empty-stored n (room n w))

@@ -37,6 +37,16 @@ pub formed-snoc : (rs : List (List ℕ)) (r : List ℕ) → AllFormed rs → For
 formed-snoc [] r f g = (g, tt)
 formed-snoc (x ∷ rs) r f g = (f .0, formed-snoc rs r (f .1) g)
 
+-- each record has a word at least
+pub count-le : (k : ℕ) (rs : List (List ℕ)) → AllFormed rs → count k rs ≤ used rs
+unfolding count used
+count-le k [] f = omega arith
+count-le k (r ∷ rs) f = go (eqb (getD r 0 absent) k) (count-le k rs (f .1)) (f .0 .some)
+  where
+    go : (t : Bool) → count k rs ≤ used rs → 0 < length r → bitWord t + count k rs ≤ length r + used rs
+    go true h q = omega arith
+    go false h q = omega arith
+
 split-nil : (m : ℕ) → split m [] ≡ []
 unfolding split
 split-nil zero = refl

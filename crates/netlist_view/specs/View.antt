@@ -46,6 +46,8 @@ pub record Fit (n p : ℕ) (l : Netlist) : Type 0 where
 pub record Built (n : ℕ) (w : List ℕ) : Type 0 where
   pub told : w ≡ words n (room n w) (netlistOf n w)
   pub fit : Fit n (room n w) (netlistOf n w)
+  pub count : getD w 1 0 ≤ n
+  pub used : getD w 3 0 ≤ room n w
   pub sized : 16 + 6 * n ≤ length w
   pub some : 0 < n
   pub nets : n ≤ 65535

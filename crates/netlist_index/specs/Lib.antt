@@ -1,0 +1,4 @@
+pub mod Index
+pub mod Laws
+pub mod Held
+pub mod CellLaws
