@@ -1,0 +1,3 @@
+-- What the builder's calls give the walk.
+pub mod Records
+pub mod Supply

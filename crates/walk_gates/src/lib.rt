@@ -1,0 +1,1 @@
+// What the builder's calls give the walk: laws only, in specs/.
