@@ -1,0 +1,2 @@
+-- Sources, memories, registers and outputs.
+pub mod Made
