@@ -1,37 +1,34 @@
 -- `arithmetic` of word_cells.rs: the nets that it gives stand for the operation on the operands' words, folded, found or made.
 -- Assumes nothing.
 use mathlib.Core.Path.{_≡_, refl, sym, ap, subst, _∙_}
-use mathlib.Core.Bool.{Bool, true, false}
+use mathlib.Core.Bool.{Bool, false}
 use mathlib.Core.List.{List, [], _∷_, _++_, map}
 use mathlib.Core.Option.{Option, none, some}
-use Prim.Native.Nat.{ℕ, zero, suc, _+_, _*_, _-_, _≤_, _<_}
+use Prim.Native.Nat.{ℕ, _+_, _-_, _≤_, _<_}
 use native.Mathlib.Nat.{le-trans, add-zero, zero-add}
 use native.Mathlib.Omega.{arith}
-use lib.ListN.{length, getD, length-map, length-append}
-use Rattle.rtl.specs.Word.{bits, value, bit}
-use Rattle.rtl.specs.Ops.{ltU, leU, ltS, leS}
-use Rattle.rules.specs.Rules.{_≡?_, pick, only}
+use lib.ListN.{length, getD, length-map}
+use Rattle.rtl.specs.Word.{bits, bit}
 use Rattle.meaning.specs.NetlistImage as N
-use Rattle.meaning.specs.NetlistImage.{nodeOf, arithmeticOf, comparisonOf}
+use Rattle.meaning.specs.NetlistImage.{nodeOf, arithmeticOf}
 use Rattle.meaning.specs.Step as S
 use Rattle.meaning.specs.Step.{Setting, Contents, perhaps}
 use Rattle.model.specs.Words as W
-use Rattle.model.specs.Words.{absent, Node, source, Netlist, optionWord, arithmeticKey, comparisonKey}
-use Rattle.model.specs.Builder as B
-use Rattle.model.specs.Builder.{Made, orMade, from, addNodes, addRecorded, ArithmeticOp, Add, Subtract, Multiply, ComparisonOp, LessThanUnsigned, LessOrEqualUnsigned, LessThanSigned, LessOrEqualSigned, arithmeticWord, comparisonWord, constantValue, alsoValue, constantValues, carryValue, compute, foldBy, foldConstantArithmetic, arithmeticBy, addArithmetic, addComparison}
+use Rattle.model.specs.Words.{absent, Node, source, Netlist, optionWord, arithmeticKey}
+use Rattle.model.specs.Builder.{orMade, from, addNodes, addRecorded, ArithmeticOp, Add, Subtract, Multiply, arithmeticWord, constantValue, alsoValue, constantValues, carryValue, compute, foldBy, foldConstantArithmetic, arithmeticBy, addArithmetic}
 use Rattle.model.specs.WordCells.{findCell, arithmetic, comparison}
-use Rattle.netlist_view.specs.Laws.{withRecord}
+use Rattle.netlist_view.specs.Formed.{formed-arithmetic}
 use Rattle.word_laws.specs.Widths.{AllBelow}
 use Rattle.netlist_laws.specs.Meaning.{decode, nodeAt, recordsWith, netValue}
-use Rattle.netlist_laws.specs.Sound.{count, CarryBelow, arithmeticRecord, comparisonRecord, arithmeticOutputs, comparisonOutput, widthWord, ArithmeticCell, ComparisonCell, OfArithmetic, OfComparison, Wired, Sound, Later, At, Stands, StandsAll}
-use Rattle.netlist_laws.specs.Run.{later-refl, later-trans, below-more, all-as, all-nil, all-cons, Meets, meets-map, Limit, Run, run-done, run-map}
+use Rattle.netlist_laws.specs.Sound.{count, CarryBelow, arithmeticRecord, arithmeticOutputs, widthWord, ArithmeticCell, ComparisonCell, Wired, Sound, Later, At, StandsAll}
+use Rattle.netlist_laws.specs.Run.{later-trans, below-more, all-as, all-cons, meets-map, Limit, Built, Run, run-here, run-map}
 use Rattle.netlist_laws.specs.Nodes.{arithmetic-grew, comparison-grew, getD-map-in}
 use Rattle.gate_laws.specs.Nodes.{noNode}
 use Rattle.gate_laws.specs.Gates.{constant-later}
 use Rattle.gate_laws.specs.Many.{constants-run}
-use Rattle.gate_laws.specs.Added.{withNodes, length-from, getD-from, nodes-added, Recorded, recorded}
-use Rattle.cell_laws.specs.Records.{operationOf, relationOf, operation-word, relation-word, arithmeticWords, arithmetic-of, arithmetic-outputs, arithmetic-length, arithmetic-formed, comparisonWords, comparison-of, comparison-output, comparison-length, comparison-formed}
-use Rattle.cell_laws.specs.Cells.{arithmetic-stands, comparison-stands, FoundCell, found-cell, count-with, withCell, grew-cell, count-cell, node-cell, cell-more, cell-new, cells-after, sound-cell}
+use Rattle.gate_laws.specs.Added.{length-from, getD-from, nodes-added, Recorded, recorded}
+use Rattle.cell_laws.specs.Records.{operationOf, operation-word, arithmetic-of, arithmetic-outputs, arithmetic-length}
+use Rattle.cell_laws.specs.Cells.{arithmetic-stands, found-cell, count-with, withCell, grew-cell, count-cell, node-cell, cell-more, cell-new, cells-after, only-cell, sound-cell}
 
 -- only an addition has a carry
 abbrev pub Carried : ArithmeticOp → Option ℕ → Type 0
@@ -152,26 +149,27 @@ module _ (lhs rhs : List ℕ) (l : Netlist) (q : Sound l) (bl : AllBelow (count 
           })
 
       sound-after : count l + length nodes ≤ l .maxNets → W.used (l .records) + length record′ ≤ l .maxList → Sound after
-      sound-after room list = sound-cell nodes record′ l q room list (arithmetic-formed lhs rhs ns same op carry length-nets) (omega arith) new-node
+      sound-after room list = sound-cell nodes record′ l q room list (formed-arithmetic (arithmeticWord op) lhs rhs (optionWord carry) ns same length-nets) (omega arith) new-node
           (cells-after nodes record′ l 3 (ArithmeticCell after) (λ j b. arithmetic-grew (grew-cell nodes record′ l) j _ (q .arithmetic j b)) (λ e. the-cell))
           (cells-after nodes record′ l 4 (ComparisonCell after) (λ j b. comparison-grew (grew-cell nodes record′ l) j _ (q .comparison j b)) (λ e. absurd (omega arith)))
 
     made-run : Run l (λ zs l′. StandsAll l′ zs (Computes op lhs rhs carry)) (addRecorded key (addNodes (source 10 (W.count 3 (l .records))) 0 (length lhs) l))
     made-run = record {
-      run = meets-map Limit Limit (λ (r : List ℕ × Netlist). Recorded key nodes l (r .0) (r .1)) (λ (r : List ℕ × Netlist). Later l (r .1) × StandsAll (r .1) (r .0) (Computes op lhs rhs carry))
+      run = meets-map Limit Limit (λ (r : List ℕ × Netlist). Recorded key nodes l (r .0) (r .1)) (Built l (λ zs l′. StandsAll l′ zs (Computes op lhs rhs carry)))
           (addRecorded key (addNodes (source 10 (W.count 3 (l .records))) 0 (length lhs) l))
           (recorded key nodes l (addNodes (source 10 (W.count 3 (l .records))) 0 (length lhs) l) (nodes-added (source 10 (W.count 3 (l .records))) 0 (length lhs) l (q .few)))
           (λ n x y h. h) (λ r a. go (r .0) (r .1) a);
     }
       where
-        go : (ns : List ℕ) (l′ : Netlist) → Recorded key nodes l ns l′ → Later l l′ × StandsAll l′ ns (Computes op lhs rhs carry)
+        go : (ns : List ℕ) (l′ : Netlist) → Recorded key nodes l ns l′ → Built l (λ zs l′. StandsAll l′ zs (Computes op lhs rhs carry)) (ns, l′)
         go ns l′ a =
             let en : ns ≡ from (count l) (length lhs) = a .nets ∙ ap (from (count l)) length-nodes in
             let s = sound-after ns en (a .room) (a .list) in
-            subst (λ (h : Netlist). Later l h × StandsAll h ns (Computes op lhs rhs carry)) (sym (a .then)) (
-              record { grew = grew-cell nodes (record′ ns en) l; sound = s },
-              at-cell (after ns en) s (length (recordsWith 3 (l .records))) (rw (cell-more nodes (record′ ns en) l 3 refl) (omega arith)) ns (the-record ns en),
-            )
+            subst (λ (h : Netlist). Built l (λ zs l′. StandsAll l′ zs (Computes op lhs rhs carry)) (ns, h)) (sym (a .then)) (record {
+              later = record { grew = grew-cell nodes (record′ ns en) l; sound = s };
+              cells = only-cell nodes (record′ ns en) l (omega arith);
+              post = at-cell (after ns en) s (length (recordsWith 3 (l .records))) (rw (cell-more nodes (record′ ns en) l 3 refl) (omega arith)) ns (the-record ns en);
+            })
 
     -- ---- folded ----
 
@@ -182,9 +180,9 @@ module _ (lhs rhs : List ℕ) (l : Netlist) (q : Sound l) (bl : AllBelow (count 
         go none b e h y s c = cc
         go (some n) b e h y s c = constant-later l n v b e .is h y s c
 
-    add-run : Run l (λ zs l′. StandsAll l′ zs (Computes op lhs rhs carry)) (addArithmetic op lhs rhs carry l)
+    pub add-arithmetic-run : Run l (λ zs l′. StandsAll l′ zs (Computes op lhs rhs carry)) (addArithmetic op lhs rhs carry l)
     unfolding addArithmetic foldConstantArithmetic
-    add-run = go (carryValue l carry) refl (constantValues l lhs) refl (constantValues l rhs) refl
+    add-arithmetic-run = go (carryValue l carry) refl (constantValues l lhs) refl (constantValues l rhs) refl
       where
         go : (o : Option Bool) → carryValue l carry ≡ o → (a : Option (List Bool)) → constantValues l lhs ≡ a → (b : Option (List Bool)) → constantValues l rhs ≡ b
             → Run l (λ zs l′. StandsAll l′ zs (Computes op lhs rhs carry)) (arithmeticBy (foldBy op o a b) op lhs rhs carry l)
@@ -205,5 +203,5 @@ module _ (lhs rhs : List ℕ) (l : Netlist) (q : Sound l) (bl : AllBelow (count 
         go : (o : Option (List ℕ)) → findCell key (l .records) ≡ o → Run l (λ zs l′. StandsAll l′ zs (Computes op lhs rhs carry)) (orMade o l (addArithmetic op lhs rhs carry l))
         go (some outs) e =
             let f = found-cell 3 (arithmeticWord op ∷ length lhs ∷ optionWord carry ∷ (lhs ++ rhs)) (l .records) outs e in
-            run-done (later-refl q) (at-cell l q (f .at) (f .inside) outs (f .is))
-        go none e = add-run
+            run-here q (at-cell l q (f .at) (f .inside) outs (f .is))
+        go none e = add-arithmetic-run

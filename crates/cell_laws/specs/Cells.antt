@@ -1,17 +1,16 @@
 -- A cell that is in a sound netlist: its outputs stand for its operation. A cell that is found, and a cell that is made. Assumes nothing.
 use mathlib.Core.Path.{_≡_, refl, sym, ap, subst, _∙_}
 use mathlib.Core.Bool.{Bool, true, false}
-use mathlib.Core.List.{List, [], _∷_, _++_, map, append-nil}
-use mathlib.Core.Logic.{⊎-elim}
-use mathlib.Core.Option.{Option, none, some}
-use Prim.Native.Nat.{ℕ, zero, suc, _+_, _*_, _-_, _≤_, _<_, suc-le-suc}
-use native.Mathlib.Nat.{le-trans, eq-or-lt-of-le, le-of-suc-le-suc, not-suc-le-zero}
+use mathlib.Core.List.{List, [], _∷_, _++_, map}
+use mathlib.Core.Option.{some}
+use Prim.Native.Nat.{ℕ, suc, _+_, _*_, _-_, _≤_, _<_, suc-le-suc}
+use native.Mathlib.Nat.{le-trans}
 use native.Mathlib.Decide.{decLt}
 use native.Mathlib.Omega.{arith}
 use lib.Dec.{eqb}
-use lib.ListN.{length, getD, drop, length-append, length-map, length-drop, List·getD-append}
+use lib.ListN.{length, getD, drop, length-append, length-map, length-drop}
 use lib.Seq.{getD-append-seam, ext-getD}
-use borrow.Author.Tests.{eqb-true, eq-eqb, ne-eqb}
+use borrow.Author.Tests.{eqb-true}
 use Rattle.rules.specs.Rules.{_≡?_, pick, only}
 use Rattle.rules.specs.Laws.{eq-yes}
 use Rattle.rtl.specs.Word.{length-bits}
@@ -26,9 +25,9 @@ use Rattle.netlist_view.specs.Records.{used-snoc, formed-snoc}
 use Rattle.netlist_view.specs.Laws.{withRecord}
 use Rattle.word_laws.specs.Widths.{AllBelow}
 use Rattle.netlist_laws.specs.Meaning.{decode, nodeAt, recordsWith, meaningOf, netValue}
-use Rattle.netlist_laws.specs.Sound.{count, PortNets, widthWord, arithmeticRecord, comparisonRecord, arithmeticOutputs, comparisonOutput, ArithmeticCell, ComparisonCell, Wired, Sound, Grew, Later, Stands, StandsAll}
-use Rattle.netlist_laws.specs.Run.{grew-trans, later-count}
-use Rattle.netlist_laws.specs.Nodes.{at-grew, count-grew, wired-grew, with-old, with-more, with-new, with-after, later-net, cell-is, compare-is, getD-map-in}
+use Rattle.netlist_laws.specs.Sound.{count, PortNets, widthWord, arithmeticRecord, comparisonRecord, arithmeticOutputs, comparisonOutput, ArithmeticCell, ComparisonCell, Wired, Sound, Grew, Later, Cells, Stands, StandsAll}
+use Rattle.netlist_laws.specs.Run.{grew-trans}
+use Rattle.netlist_laws.specs.Nodes.{at-grew, count-grew, wired-grew, with-old, with-more, with-new, with-same, with-after, later-net, cell-is, compare-is, getD-map-in}
 use Rattle.gate_laws.specs.Nodes.{noNode}
 use Rattle.gate_laws.specs.Added.{withNodes, grew-nodes, count-nodes, nodes-limits, node-added, grew-record}
 
@@ -173,6 +172,9 @@ module _ (xs : List Node) (r : List ℕ) (l : Netlist) where
       → (getD r 0 0 ≡ t → P (length (recordsWith t (l .records))) r)
       → (j : ℕ) → j < length (recordsWith t (withCell .records)) → P j (getD (recordsWith t (withCell .records)) j [])
   cells-after t P old new = rw same-records (with-after t (l .records) r P old new)
+
+  pub only-cell : 2 < getD r 0 0 → Cells l withCell
+  only-cell h = record { cells = λ t b. with-same t (withNodes xs l .records) r (omega arith) ∙ ap (recordsWith t) same-records }
 
   -- the netlist with it is sound, if its nodes and its record are
   pub sound-cell : Sound l → count l + length xs ≤ l .maxNets → used (l .records) + length r ≤ l .maxList → Formed r → (getD r 0 0 ≡ 0 → ⊥)

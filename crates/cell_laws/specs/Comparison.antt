@@ -1,36 +1,31 @@
 -- `comparison` of word_cells.rs: the net that it gives stands for the comparison of the operands' words, found or made. Assumes nothing.
 use mathlib.Core.Path.{_≡_, refl, sym, ap, subst, _∙_}
-use mathlib.Core.Bool.{Bool, true, false}
+use mathlib.Core.Bool.{Bool}
 use mathlib.Core.List.{List, [], _∷_, _++_, map}
 use mathlib.Core.Option.{Option, none, some}
-use Prim.Native.Nat.{ℕ, zero, suc, _+_, _*_, _-_, _≤_, _<_}
-use native.Mathlib.Nat.{le-trans, add-zero, zero-add}
+use Prim.Native.Nat.{ℕ, zero, suc, _+_, _-_, _≤_, _<_}
+use native.Mathlib.Nat.{add-zero}
 use native.Mathlib.Omega.{arith}
-use lib.ListN.{length, getD, length-map, length-append}
-use Rattle.rtl.specs.Word.{bits, value, bit}
+use lib.ListN.{length, getD}
 use Rattle.rtl.specs.Ops.{ltU, leU, ltS, leS}
-use Rattle.rules.specs.Rules.{_≡?_, pick, only}
 use Rattle.meaning.specs.NetlistImage as N
-use Rattle.meaning.specs.NetlistImage.{nodeOf, arithmeticOf, comparisonOf}
+use Rattle.meaning.specs.NetlistImage.{nodeOf, comparisonOf}
 use Rattle.meaning.specs.Step as S
-use Rattle.meaning.specs.Step.{Setting, Contents, perhaps}
 use Rattle.model.specs.Words as W
-use Rattle.model.specs.Words.{absent, Node, source, Netlist, optionWord, arithmeticKey, comparisonKey}
-use Rattle.model.specs.Builder as B
-use Rattle.model.specs.Builder.{Made, orMade, from, addNodes, addRecorded, ArithmeticOp, Add, Subtract, Multiply, ComparisonOp, LessThanUnsigned, LessOrEqualUnsigned, LessThanSigned, LessOrEqualSigned, arithmeticWord, comparisonWord, constantValue, alsoValue, constantValues, carryValue, compute, foldBy, foldConstantArithmetic, arithmeticBy, addArithmetic, addComparison}
+use Rattle.model.specs.Words.{Node, source, Netlist, comparisonKey}
+use Rattle.model.specs.Builder.{orMade, from, addNodes, addRecorded, ComparisonOp, LessThanUnsigned, LessOrEqualUnsigned, LessThanSigned, LessOrEqualSigned, comparisonWord, addComparison}
 use Rattle.model.specs.WordCells.{findCell, arithmetic, comparison}
+use Rattle.netlist_view.specs.Formed.{formed-comparison}
 use Rattle.netlist_view.specs.Laws.{withRecord}
 use Rattle.word_laws.specs.Widths.{AllBelow}
 use Rattle.netlist_laws.specs.Meaning.{decode, nodeAt, recordsWith, netValue}
-use Rattle.netlist_laws.specs.Sound.{count, CarryBelow, arithmeticRecord, comparisonRecord, arithmeticOutputs, comparisonOutput, widthWord, ArithmeticCell, ComparisonCell, OfArithmetic, OfComparison, Wired, Sound, Later, At, Stands, StandsAll}
-use Rattle.netlist_laws.specs.Run.{later-refl, later-trans, below-more, all-as, all-nil, all-cons, Meets, meets-map, Limit, Run, run-done, run-map}
-use Rattle.netlist_laws.specs.Nodes.{arithmetic-grew, comparison-grew, getD-map-in}
+use Rattle.netlist_laws.specs.Sound.{count, comparisonRecord, comparisonOutput, widthWord, ArithmeticCell, ComparisonCell, Wired, Sound, At, Stands, StandsAll}
+use Rattle.netlist_laws.specs.Run.{all-as, all-nil, all-cons, meets-map, Limit, Built, Run, run-here}
+use Rattle.netlist_laws.specs.Nodes.{arithmetic-grew, comparison-grew}
 use Rattle.gate_laws.specs.Nodes.{noNode}
-use Rattle.gate_laws.specs.Gates.{constant-later}
-use Rattle.gate_laws.specs.Many.{constants-run}
-use Rattle.gate_laws.specs.Added.{withNodes, length-from, getD-from, nodes-added, Recorded, recorded}
-use Rattle.cell_laws.specs.Records.{operationOf, relationOf, operation-word, relation-word, arithmeticWords, arithmetic-of, arithmetic-outputs, arithmetic-length, arithmetic-formed, comparisonWords, comparison-of, comparison-output, comparison-length, comparison-formed}
-use Rattle.cell_laws.specs.Cells.{arithmetic-stands, comparison-stands, FoundCell, found-cell, count-with, withCell, grew-cell, count-cell, node-cell, cell-more, cell-new, cells-after, sound-cell}
+use Rattle.gate_laws.specs.Added.{withNodes, nodes-added, Recorded, recorded}
+use Rattle.cell_laws.specs.Records.{relationOf, relation-word, comparison-of, comparison-output, comparison-length}
+use Rattle.cell_laws.specs.Cells.{comparison-stands, found-cell, count-with, withCell, grew-cell, count-cell, node-cell, cell-more, cell-new, cells-after, only-cell, sound-cell}
 
 -- the comparison's answer
 abbrev pub answer : ComparisonOp → List Bool → List Bool → Bool
@@ -111,28 +106,29 @@ module _ (lhs rhs : List ℕ) (l : Netlist) (q : Sound l) (bl : AllBelow (count 
   })
 
   sound-after : count l + length nodes ≤ l .maxNets → W.used (l .records) + length record′ ≤ l .maxList → Sound after
-  sound-after room list = sound-cell nodes record′ l q room list (comparison-formed lhs rhs (count l ∷ []) same op refl) (omega arith) new-node
+  sound-after room list = sound-cell nodes record′ l q room list (formed-comparison (comparisonWord op) lhs rhs (count l) same) (omega arith) new-node
       (cells-after nodes record′ l 3 (ArithmeticCell after) (λ j b. arithmetic-grew (grew-cell nodes record′ l) j _ (q .arithmetic j b)) (λ e. absurd (omega arith)))
       (cells-after nodes record′ l 4 (ComparisonCell after) (λ j b. comparison-grew (grew-cell nodes record′ l) j _ (q .comparison j b)) (λ e. the-cell))
 
-  compare-run : Run l (λ zs l′. StandsAll l′ zs (Compares op lhs rhs)) (addComparison op lhs rhs l)
+  pub add-comparison-run : Run l (λ zs l′. StandsAll l′ zs (Compares op lhs rhs)) (addComparison op lhs rhs l)
   unfolding addComparison nodes
-  compare-run = record {
-    run = meets-map Limit Limit (λ (r : List ℕ × Netlist). Recorded key nodes l (r .0) (r .1)) (λ (r : List ℕ × Netlist). Later l (r .1) × StandsAll (r .1) (r .0) (Compares op lhs rhs))
+  add-comparison-run = record {
+    run = meets-map Limit Limit (λ (r : List ℕ × Netlist). Recorded key nodes l (r .0) (r .1)) (Built l (λ zs l′. StandsAll l′ zs (Compares op lhs rhs)))
         (addRecorded key (addNodes (source 11 (W.count 4 (l .records))) 0 1 l))
         (recorded key nodes l (addNodes (source 11 (W.count 4 (l .records))) 0 1 l) (nodes-added (source 11 (W.count 4 (l .records))) 0 1 l (q .few)))
         (λ n x y h. h) (λ r a. go (r .0) (r .1) a);
   }
     where
-      go : (ns : List ℕ) (l′ : Netlist) → Recorded key nodes l ns l′ → Later l l′ × StandsAll l′ ns (Compares op lhs rhs)
+      go : (ns : List ℕ) (l′ : Netlist) → Recorded key nodes l ns l′ → Built l (λ zs l′. StandsAll l′ zs (Compares op lhs rhs)) (ns, l′)
       go ns l′ a =
           let en : ns ≡ count l ∷ [] = a .nets ∙ one (length nodes) length-nodes in
           let e : l′ ≡ after = a .then ∙ ap (λ (z : List ℕ). withRecord (key ++ z) (withNodes nodes l)) en in
           let s = sound-after (a .room) (subst (λ (z : List ℕ). W.used (l .records) + length (key ++ z) ≤ l .maxList) en (a .list)) in
-          subst (λ (h : List ℕ × Netlist). Later l (h .1) × StandsAll (h .1) (h .0) (Compares op lhs rhs)) {x = (count l ∷ [], after)} {y = (ns, l′)} (λ i. (sym en i, sym e i)) (
-            record { grew = grew-cell nodes record′ l; sound = s },
-            at-comparison after s (length (recordsWith 4 (l .records))) (rw (cell-more nodes record′ l 4 refl) (omega arith)) (count l) the-record,
-          )
+          subst (Built l (λ zs l′. StandsAll l′ zs (Compares op lhs rhs))) {x = (count l ∷ [], after)} {y = (ns, l′)} (λ i. (sym en i, sym e i)) (record {
+            later = record { grew = grew-cell nodes record′ l; sound = s };
+            cells = only-cell nodes record′ l (omega arith);
+            post = at-comparison after s (length (recordsWith 4 (l .records))) (rw (cell-more nodes record′ l 4 refl) (omega arith)) (count l) the-record;
+          })
         where
           one : (w : ℕ) → w ≡ 1 → from (count l) w ≡ count l ∷ []
           one w e = ap (from (count l)) e ∙ from-one (count l)
@@ -155,5 +151,5 @@ module _ (lhs rhs : List ℕ) (l : Netlist) (q : Sound l) (bl : AllBelow (count 
       go : (o : Option (List ℕ)) → findCell key (l .records) ≡ o → Run l (λ zs l′. StandsAll l′ zs (Compares op lhs rhs)) (orMade o l (addComparison op lhs rhs l))
       go (some outs) e =
           let f = found-cell 4 (comparisonWord op ∷ length lhs ∷ (lhs ++ rhs)) (l .records) outs e in
-          run-done (later-refl q) (found-comparison outs (f .at) (f .inside) (f .is))
-      go none e = compare-run
+          run-here q (found-comparison outs (f .at) (f .inside) (f .is))
+      go none e = add-comparison-run

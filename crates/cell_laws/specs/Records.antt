@@ -5,15 +5,14 @@ use mathlib.Core.Option.{Option, none, some}
 use Prim.Native.Nat.{ℕ, _+_, _*_, _<_}
 use native.Mathlib.Omega.{arith}
 use lib.ListN.{length, take, drop, getD, length-append}
-use lib.Seq.{take-at, drop-at, getD-at, drop-drop, getD-drop}
+use lib.Seq.{take-at, drop-at, drop-drop, getD-drop}
 use Rattle.rules.specs.Rules.{_≡?_, pick}
 use Rattle.rules.specs.Laws.{eq-no}
 use Rattle.meaning.specs.Image.{optional}
 use Rattle.meaning.specs.NetlistImage as N
-use Rattle.meaning.specs.NetlistImage.{recordLength, arithmeticOf, comparisonOf}
+use Rattle.meaning.specs.NetlistImage.{arithmeticOf, comparisonOf}
 use Rattle.model.specs.Words.{absent, optionWord, arithmeticKey, comparisonKey}
 use Rattle.model.specs.Builder.{ArithmeticOp, Add, Subtract, Multiply, ComparisonOp, LessThanUnsigned, LessOrEqualUnsigned, LessThanSigned, LessOrEqualSigned, arithmeticWord, comparisonWord}
-use Rattle.netlist_view.specs.View.{Formed}
 use Rattle.netlist_laws.specs.Sound.{CarryBelow, arithmeticOutputs, comparisonOutput}
 
 abbrev pub operationOf : ArithmeticOp → N.Operation
@@ -84,10 +83,6 @@ module _ (lhs rhs ns : List ℕ) (same : length rhs ≡ length lhs) where
     pub arithmetic-length : length arithmeticWords ≡ 4 + (2 * length lhs + length ns)
     arithmetic-length = omega (arith, long)
 
-    pub arithmetic-formed : length ns ≡ length lhs → Formed arithmeticWords
-    unfolding recordLength pick _≡?_
-    arithmetic-formed e = record { some = omega arith; long = λ more. omega (arith, long); kind = omega arith }
-
   module _ (op : ComparisonOp) where
     abbrev pub comparisonWords : List ℕ
     comparisonWords = comparisonKey (comparisonWord op) lhs rhs ++ ns
@@ -105,7 +100,3 @@ module _ (lhs rhs ns : List ℕ) (same : length rhs ≡ length lhs) where
 
     pub comparison-length : length comparisonWords ≡ 3 + (2 * length lhs + length ns)
     comparison-length = omega (arith, long)
-
-    pub comparison-formed : length ns ≡ 1 → Formed comparisonWords
-    unfolding recordLength pick _≡?_
-    comparison-formed e = record { some = omega arith; long = λ more. omega (arith, long); kind = omega arith }

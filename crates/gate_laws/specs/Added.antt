@@ -1,21 +1,20 @@
 -- Many nodes added in order, and a record pushed. Assumes nothing.
-use mathlib.Core.Path.{_≡_, refl, sym, ap, ap₂, subst, _∙_}
+use mathlib.Core.Path.{_≡_, refl, sym, ap, _∙_}
 use mathlib.Core.Bool.{Bool, true, false, cond}
-use mathlib.Core.List.{List, [], _∷_, _++_, map, append-nil}
+use mathlib.Core.List.{List, [], _∷_, _++_, map}
 use Prim.Native.Nat.{ℕ, zero, suc, _+_, _-_, _≤_, _<_}
-use native.Mathlib.Nat.{le-trans, not-suc-le-zero, le-of-suc-le-suc, add-suc, add-zero}
+use native.Mathlib.Nat.{not-suc-le-zero, le-of-suc-le-suc, add-zero}
 use native.Mathlib.Omega.{arith}
 use lib.Dec.{ltb, leb}
-use lib.ListN.{length, getD, length-map}
-use borrow.Author.Tests.{ltb-true, ltb-false, leb-true, leb-false}
-use Rattle.model.specs.Words.{Node, node, Netlist, used}
-use Rattle.model.specs.Builder.{Out, refused, done, andThen, Made, addNode, each, both, from, addNodes, push, addRecorded, nodeForNet}
-use Rattle.netlist_view.specs.View.{Formed}
-use Rattle.netlist_view.specs.Records.{used-snoc, formed-snoc}
+use lib.ListN.{length, getD}
+use borrow.Author.Tests.{ltb-true, leb-true}
+use Rattle.model.specs.Words.{Node, Netlist, used}
+use Rattle.model.specs.Builder.{refused, done, andThen, Made, addNode, each, both, from, addNodes, push, addRecorded, nodeForNet}
 use Rattle.netlist_view.specs.Laws.{withNode, withRecord}
+use Rattle.netlist_laws.specs.Meaning.{recordsWith}
 use Rattle.netlist_laws.specs.Sound.{count, Grew}
 use Rattle.netlist_laws.specs.Run.{grew-refl, grew-trans, Meets, meets-bind, Limit}
-use Rattle.netlist_laws.specs.Nodes.{node-grew, count-grew}
+use Rattle.netlist_laws.specs.Nodes.{node-grew, with-new, with-same}
 use Rattle.gate_laws.specs.Nodes.{grew-node, newest, noNode}
 
 -- the nodes xs in order, the last the newest
@@ -139,3 +138,25 @@ recorded key xs l o a =
     let e : used (r .1 .records) ≡ used (l .records) = ap (λ (k : Netlist). used (k .records)) (b .then) ∙ ap used (m .2) in
     let f : r .1 .maxList ≡ l .maxList = ap (λ (k : Netlist). k .maxList) (b .then) ∙ m .1 in
     record { nets = b .nets; then = p .0 ∙ ap (withRecord (key ++ r .0)) (b .then); room = b .room; list = omega (arith, p .1) }))
+
+-- the nodes, the nets and the records after it
+module _ (key : List ℕ) (xs : List Node) (l : Netlist) (ns : List ℕ) (l′ : Netlist) (a : Recorded key xs l ns l′) where
+  pub recorded-node : (i : ℕ) → i < length xs → nodeForNet l′ (count l + i) ≡ getD xs i noNode
+  recorded-node i h =
+      ap (λ (k : Netlist). nodeForNet k (count l + i)) (a .then)
+      ∙ node-grew (grew-record (key ++ ns) (withNodes xs l)) (count l + i) (rw (count-nodes xs l) (omega arith)) ∙ node-added xs l i h
+
+  pub recorded-net : (i d : ℕ) → i < length xs → getD ns i d ≡ count l + i
+  recorded-net i d h = ap (λ (t : List ℕ). getD t i d) (a .nets) ∙ getD-from (count l) (length xs) i d h
+
+  pub recorded-count : count l′ ≡ count l + length xs
+  recorded-count = ap count (a .then) ∙ count-nodes xs l
+
+  pub recorded-new : (t : ℕ) → getD (key ++ ns) 0 0 ≡ t → recordsWith t (l′ .records) ≡ recordsWith t (l .records) ++ ((key ++ ns) ∷ [])
+  recorded-new t e =
+      ap (λ (k : Netlist). recordsWith t (k .records)) (a .then) ∙ with-new t (withNodes xs l .records) (key ++ ns) e
+      ∙ ap (λ (rs : List (List ℕ)). recordsWith t rs ++ ((key ++ ns) ∷ [])) (nodes-limits xs l .2)
+
+  pub recorded-others : (t : ℕ) → (getD (key ++ ns) 0 0 ≡ t → ⊥) → recordsWith t (l′ .records) ≡ recordsWith t (l .records)
+  recorded-others t e =
+      ap (λ (k : Netlist). recordsWith t (k .records)) (a .then) ∙ with-same t (withNodes xs l .records) (key ++ ns) e ∙ ap (recordsWith t) (nodes-limits xs l .2)

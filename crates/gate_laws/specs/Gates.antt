@@ -1,9 +1,8 @@
 -- Gates: the net that each call gives stands for its operation on its operands' nets, folded or not, found or made. Assumes nothing.
 use mathlib.Core.Path.{_≡_, refl, sym, ap, subst, _∙_}
-use mathlib.Core.Bool.{Bool, true, false, not, cond, _&&_, _||_, Bool·not-not, and-false, and-true, and-comm, and-self, or-true, or-false, or-comm, or-self}
-use mathlib.Core.List.{List}
+use mathlib.Core.Bool.{Bool, true, false, not, cond, _&&_, _||_, Bool·not-not, and-comm, and-self, or-comm, or-self}
 use mathlib.Core.Option.{Option, none, some}
-use Prim.Native.Nat.{ℕ, _≤_, _<_, min, max}
+use Prim.Native.Nat.{ℕ, _<_, min, max}
 use native.Mathlib.Decide.{decLt}
 use native.Mathlib.Omega.{arith}
 use lib.Dec.{eqb}
@@ -13,11 +12,11 @@ use Rattle.rtl.specs.Ops.{xorB}
 use Rattle.meaning.specs.NetlistImage as N
 use Rattle.meaning.specs.NetlistImage.{nodeOf}
 use Rattle.meaning.specs.Step.{Setting, Contents, nodeValue}
-use Rattle.model.specs.Words.{absent, Node, node, gate, Netlist, bitWord}
+use Rattle.model.specs.Words.{absent, Node, node, gate, Netlist}
 use Rattle.model.specs.Builder.{Made, done, nodeForNet, constantOf, constantValue, isValue, isConstant, addCached, addConstant, notBy, addNot, addAnd, addOr, addXor, muxBy, addMux}
-use Rattle.netlist_laws.specs.Meaning.{decode, nodeAt, meaningOf, netValue}
-use Rattle.netlist_laws.specs.Sound.{count, Plain, Wired, Sound, Later, At, Stands}
-use Rattle.netlist_laws.specs.Run.{later-refl, later-trans, stands-self, stands-as, Run, run-done, run-map}
+use Rattle.netlist_laws.specs.Meaning.{decode, meaningOf, netValue}
+use Rattle.netlist_laws.specs.Sound.{count, Plain, Wired, Sound, Stands}
+use Rattle.netlist_laws.specs.Run.{later-trans, stands-as, Run, run-here, run-map}
 use Rattle.netlist_laws.specs.Nodes.{later-net}
 use Rattle.gate_laws.specs.Nodes.{run-if, Is, Bitless, cached-run}
 
@@ -83,7 +82,7 @@ not-run a l q h = go (constantOf (nodeForNet l a)) refl
     go : (o : Option Bool) → constantOf (nodeForNet l a) ≡ o → Run l (λ z l′. Stands l′ z (λ h s c. not (netValue h s c a))) (notBy o (nodeForNet l a) a l)
     go (some b) e = run-map (constant-run (not b) l q) (λ z l′ g v. stands-as v (λ k x s c. ap not (sym (constant-later l a b h e .is k (later-trans g x) s c))))
     go none e = run-if (eqb (nodeForNet l a .kind) 5)
-        (λ t. run-done (later-refl q) (record {
+        (λ t. run-here q (record {
           there = omega (arith, not-below l q a h t);
           is = λ k x s c. sym (ap not (not-later l a h t .is k x s c) ∙ Bool·not-not (netValue k s c (nodeForNet l a .in0)));
         }))
@@ -148,15 +147,15 @@ module _ (op : Bool → Bool → Bool) (kind : ℕ) (gate2 : Gate2 op kind) (v :
 
   folded-run : (a b : ℕ) (l : Netlist) → Sound l → a < count l → b < count l → Run l (Op2 op a b) (folded a b l)
   folded-run a b l q ha hb = run-if (eqb a b)
-      (λ t. run-done (later-refl q) (record { there = ha; is = λ h x s c. rw (← eqb-true a b t) (sym (self (netValue h s c a))) }))
+      (λ t. run-here q (record { there = ha; is = λ h x s c. rw (← eqb-true a b t) (sym (self (netValue h s c a))) }))
       (λ _. run-if (isConstant v l a || isConstant v l b)
       (λ t. run-map (constant-run v l q) (λ z l′ g w. stands-as w (λ h x s c. or-cases (isConstant v l a) (isConstant v l b) t (v ≡ op (netValue h s c a) (netValue h s c b))
       (λ e. rw (constant-later l a v ha (is-constant v l a e) .is h (later-trans g x) s c) (sym (absorbs (netValue h s c b))))
       (λ e. rw (constant-later l b v hb (is-constant v l b e) .is h (later-trans g x) s c) (sym (gate2 .comm (netValue h s c a) v ∙ absorbs (netValue h s c a)))))))
       (λ _. run-if (isConstant (not v) l a)
-      (λ t. run-done (later-refl q) (record { there = hb; is = λ h x s c. rw (constant-later l a (not v) ha (is-constant (not v) l a t) .is h x s c) (sym (unit (netValue h s c b))) }))
+      (λ t. run-here q (record { there = hb; is = λ h x s c. rw (constant-later l a (not v) ha (is-constant (not v) l a t) .is h x s c) (sym (unit (netValue h s c b))) }))
       (λ _. run-if (isConstant (not v) l b)
-      (λ t. run-done (later-refl q) (record {
+      (λ t. run-here q (record {
         there = ha;
         is = λ h x s c. rw (constant-later l b (not v) hb (is-constant (not v) l b t) .is h x s c) (sym (gate2 .comm (netValue h s c a) (not v) ∙ unit (netValue h s c a)));
       }))
@@ -189,9 +188,9 @@ unfolding addXor
 xor-run a b l q ha hb = run-if (eqb a b)
     (λ t. run-map (constant-run false l q) (λ z l′ g w. stands-as w (λ h x s c. rw (← eqb-true a b t) (xor-self (netValue h s c a)))))
     (λ _. run-if (isConstant false l a)
-    (λ t. run-done (later-refl q) (record { there = hb; is = λ h x s c. rw (constant-later l a false ha (is-constant false l a t) .is h x s c) }))
+    (λ t. run-here q (record { there = hb; is = λ h x s c. rw (constant-later l a false ha (is-constant false l a t) .is h x s c) }))
     (λ _. run-if (isConstant false l b)
-    (λ t. run-done (later-refl q) (record { there = ha; is = λ h x s c. rw (constant-later l b false hb (is-constant false l b t) .is h x s c) (xor-false (netValue h s c a)) }))
+    (λ t. run-here q (record { there = ha; is = λ h x s c. rw (constant-later l b false hb (is-constant false l b t) .is h x s c) (xor-false (netValue h s c a)) }))
     (λ _. run-if (isConstant true l a)
     (λ t. run-map (not-run b l q hb) (λ z l′ g w. stands-as w (λ h x s c. rw (constant-later l a true ha (is-constant true l a t) .is h (later-trans g x) s c))))
     (λ _. run-if (isConstant true l b)
@@ -214,12 +213,12 @@ Mux d a b z l = Stands l z (λ h s c. cond (netValue h s c d) (netValue h s c a)
 pub mux-run : (d a b : ℕ) (l : Netlist) → Sound l → d < count l → a < count l → b < count l → Run l (Mux d a b) (addMux d a b l)
 unfolding addMux constantValue decode nodeOf
 mux-run d a b l q hd ha hb = run-if (eqb a b)
-    (λ t. run-done (later-refl q) (record { there = ha; is = λ h x s c. rw (← eqb-true a b t) (cond-self (netValue h s c d) (netValue h s c a)) }))
+    (λ t. run-here q (record { there = ha; is = λ h x s c. rw (← eqb-true a b t) (cond-self (netValue h s c d) (netValue h s c a)) }))
     (λ _. go (constantOf (nodeForNet l d)) refl)
   where
     go : (o : Option Bool) → constantOf (nodeForNet l d) ≡ o → Run l (Mux d a b) (muxBy o (nodeForNet l d) d a b l)
-    go (some true) e = run-done (later-refl q) (record { there = ha; is = λ h x s c. rw (constant-later l d true hd e .is h x s c) })
-    go (some false) e = run-done (later-refl q) (record { there = hb; is = λ h x s c. rw (constant-later l d false hd e .is h x s c) })
+    go (some true) e = run-here q (record { there = ha; is = λ h x s c. rw (constant-later l d true hd e .is h x s c) })
+    go (some false) e = run-here q (record { there = hb; is = λ h x s c. rw (constant-later l d false hd e .is h x s c) })
     go none e = run-if (eqb (nodeForNet l d .kind) 5)
         (λ t. run-map (cached-run (gate 6 (nodeForNet l d .in0) b a) l q (omega (arith, not-below l q d hd t), hb, ha) (λ x. refl))
         (λ z l′ g v. stands-as v (λ h x s c.

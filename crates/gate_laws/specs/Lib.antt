@@ -4,3 +4,4 @@ pub mod Gates
 pub mod Many
 pub mod Added
 pub mod Sources
+pub mod Ports

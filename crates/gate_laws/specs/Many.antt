@@ -10,7 +10,7 @@ use Rattle.model.specs.Builder.{Made, each, both, addConstant, addNot}
 use Rattle.word_laws.specs.Widths.{AllBelow}
 use Rattle.netlist_laws.specs.Meaning.{netValue}
 use Rattle.netlist_laws.specs.Sound.{count, Sound, At, Stands, StandsAll}
-use Rattle.netlist_laws.specs.Run.{later-refl, later-count, below-more, stands-later, all-nil, all-cons, Run, run-done, run-bind, run-map, all-as}
+use Rattle.netlist_laws.specs.Run.{later-count, below-more, stands-later, all-nil, all-cons, Run, run-here, run-bind, run-map, all-as}
 use Rattle.gate_laws.specs.Gates.{constant-run, not-run}
 
 abbrev pub All : {A : Type 0} → (A → Type 0) → List A → Type 0
@@ -26,10 +26,10 @@ module _ {A : Type 0} (f : A → Netlist → Made ℕ) (op : A → At Bool) (Goo
 
   pub each-run : (xs : List A) (l : Netlist) → Sound l → All (Good (count l)) xs → Run l (λ zs l′. StandsAll l′ zs (λ h s c. map (λ a. op a h s c) xs)) (each f xs l)
   unfolding each
-  each-run [] l q b = run-done (later-refl q) all-nil
+  each-run [] l q b = run-here q all-nil
   each-run (x ∷ xs) l q b = run-bind _ (law x l q (b .0)) (λ z l′ y v.
       run-bind _ (each-run xs l′ (y .sound) (all-more _ _ xs (later-count y) (b .1))) (λ zs l″ y′ w.
-      run-done (later-refl (y′ .sound)) (all-cons (stands-later y′ v) w)))
+      run-here (y′ .sound) (all-cons (stands-later y′ v) w)))
 
 -- f gives for two nets one that stands for op of them, once there are n nets
 module _ (f : ℕ → ℕ → Netlist → Made ℕ) (op : At (Bool → Bool → Bool)) (n : ℕ)
@@ -37,11 +37,11 @@ module _ (f : ℕ → ℕ → Netlist → Made ℕ) (op : At (Bool → Bool → 
   pub both-run : (xs ys : List ℕ) (l : Netlist) → Sound l → n ≤ count l → AllBelow (count l) xs → AllBelow (count l) ys
       → Run l (λ zs l′. StandsAll l′ zs (λ h s c. map2 (op h s c) (map (netValue h s c) xs) (map (netValue h s c) ys))) (both f xs ys l)
   unfolding both
-  both-run [] ys l q k b d = run-done (later-refl q) all-nil
-  both-run (x ∷ xs) [] l q k b d = run-done (later-refl q) all-nil
+  both-run [] ys l q k b d = run-here q all-nil
+  both-run (x ∷ xs) [] l q k b d = run-here q all-nil
   both-run (x ∷ xs) (y ∷ ys) l q k b d = run-bind _ (law x y l q k (b .0) (d .0)) (λ z l′ g v.
       run-bind _ (both-run xs ys l′ (g .sound) (le-trans k (later-count g)) (below-more _ _ xs (later-count g) (b .1)) (below-more _ _ ys (later-count g) (d .1))) (λ zs l″ g′ w.
-      run-done (later-refl (g′ .sound)) (all-cons (stands-later g′ v) w)))
+      run-here (g′ .sound) (all-cons (stands-later g′ v) w)))
 
 all-unit : {A : Type 0} (xs : List A) → All (λ x. Unit {0}) xs
 all-unit [] = tt

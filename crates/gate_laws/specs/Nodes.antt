@@ -1,24 +1,23 @@
 -- One node more, made or found. Assumes nothing.
-use mathlib.Core.Path.{_≡_, refl, sym, ap, subst, _∙_}
+use mathlib.Core.Path.{_≡_, refl, sym, ap, _∙_}
 use mathlib.Core.Bool.{Bool, true, false, cond, _&&_}
-use mathlib.Core.List.{List, [], _∷_, _++_, append-nil}
+use mathlib.Core.List.{List, [], _∷_, append-nil}
 use mathlib.Core.Logic.{⊎-elim}
 use mathlib.Core.Option.{Option, none, some}
-use Prim.Native.Nat.{ℕ, zero, suc, _+_, _-_, _≤_, _<_}
+use Prim.Native.Nat.{ℕ, zero, suc, _-_, _<_}
 use native.Mathlib.Nat.{eq-or-lt-of-le, le-trans}
 use native.Mathlib.Omega.{arith}
 use lib.Dec.{eqb, ltb}
 use lib.ListN.{length, getD}
 use borrow.Author.Tests.{eqb-true, ltb-true}
-use Rattle.meaning.specs.NetlistImage as N
 use Rattle.meaning.specs.NetlistImage.{nodeOf}
 use Rattle.meaning.specs.Step.{nodeValue}
-use Rattle.model.specs.Words.{absent, Node, node, gate, Netlist}
-use Rattle.model.specs.Builder.{Made, done, refused, addNode, same, find, orMade, addCached, nodeForNet}
+use Rattle.model.specs.Words.{absent, Node, gate, Netlist}
+use Rattle.model.specs.Builder.{Made, addNode, same, find, orMade, addCached, nodeForNet}
 use Rattle.netlist_view.specs.Laws.{withNode}
 use Rattle.netlist_laws.specs.Meaning.{decode, nodeAt, meaningOf, netValue}
-use Rattle.netlist_laws.specs.Sound.{count, Wired, Sound, Grew, Later, At, Stands}
-use Rattle.netlist_laws.specs.Run.{later-refl, Limit, Run, run-done}
+use Rattle.netlist_laws.specs.Sound.{count, Wired, Sound, Grew, At, Stands}
+use Rattle.netlist_laws.specs.Run.{Limit, Run, run-done, run-here}
 use Rattle.netlist_laws.specs.Nodes.{count-grew, node-at, wired-grew, at-grew, arithmetic-grew, comparison-grew, later-net}
 
 -- a test decides a call
@@ -65,7 +64,7 @@ is-node x l k b e = record { there = b; is = λ h a s c. later-net a k b s c ∙
 pub node-run : (x : Node) (l : Netlist) → Sound l → Wired l (count l) (decode x) → Run l (λ k l′. Stands l′ k (Is x)) (addNode x l)
 unfolding addNode
 node-run x l q w = run-if (ltb (count l) (l .maxNets))
-    (λ t. run-done (record { grew = grew-node x l; sound = sound-node x l q (ltb-true (count l) (l .maxNets) t) (wired-grew (grew-node x l) (count l) (omega arith) (decode x) w) })
+    (λ t. run-done (record { grew = grew-node x l; sound = sound-node x l q (ltb-true (count l) (l .maxNets) t) (wired-grew (grew-node x l) (count l) (omega arith) (decode x) w) }) (record { cells = λ t h. refl })
     (is-node x (withNode x l) (count l) (omega arith) (ap decode (newest x l))))
     (λ t. record { run = Limit.nets })
 
@@ -125,6 +124,6 @@ cached-run x l q w b = go (find x (l .nodes)) refl
     go : (o : Option ℕ) → find x (l .nodes) ≡ o → Run l (λ k l′. Stands l′ k (Is x)) (orMade o l (addNode x l))
     go (some k) e =
         let f = found x (l .nodes) k e in
-        run-done (later-refl q) (is-node x l k (f .inside)
+        run-here q (is-node x l k (f .inside)
         (ap decode (node-at l k (f .inside)) ∙ same-decode x (getD (l .nodes) (count l - suc k) noNode) b (f .alike (count l - suc k) refl)))
     go none e = node-run x l q w

@@ -1,29 +1,26 @@
 -- Nodes that read nothing or one lower net, records of no cell, and ports: what their nets stand for. Assumes nothing.
 use mathlib.Core.Path.{_≡_, refl, sym, ap, subst, _∙_}
-use mathlib.Core.Bool.{Bool, true, false}
-use mathlib.Core.List.{List, [], _∷_, _++_, map, append-nil}
+use mathlib.Core.Bool.{Bool}
+use mathlib.Core.List.{List, [], _∷_, map}
 use Prim.Native.Nat.{ℕ, zero, suc, _+_, _-_, _≤_, _<_, suc-le-suc}
-use native.Mathlib.Nat.{le-trans, not-suc-le-zero, le-of-suc-le-suc, add-zero, zero-add}
+use native.Mathlib.Nat.{le-trans, add-zero}
 use native.Mathlib.Omega.{arith}
-use lib.ListN.{length, getD, length-map, length-append}
-use Rattle.rules.specs.Rules.{_≡?_, pick, only}
-use Rattle.rules.specs.Laws.{eq-no}
+use lib.ListN.{length, getD, length-map}
 use Rattle.rtl.specs.Ops.{tab}
-use Rattle.meaning.specs.NetlistImage.{nodeOf, recordLength}
-use Rattle.meaning.specs.Step.{Setting, Contents, memoryBit, dataWidth}
-use Rattle.model.specs.Words.{absent, Node, node, source, Netlist, used}
-use Rattle.model.specs.Builder.{from, both, addNode, addNodes, addInputPort, addOutputPort, nodeForNet, push}
+use Rattle.meaning.specs.NetlistImage.{nodeOf}
+use Rattle.meaning.specs.Step.{memoryBit, dataWidth}
+use Rattle.model.specs.Words.{Node, source, Netlist, used}
+use Rattle.model.specs.Builder.{from, addNodes, push}
 use Rattle.netlist_view.specs.View.{Formed}
 use Rattle.netlist_view.specs.Records.{used-snoc, formed-snoc}
 use Rattle.netlist_view.specs.Laws.{withNode, withRecord}
-use Rattle.word_laws.specs.Widths.{AllBelow}
-use Rattle.netlist_laws.specs.Meaning.{decode, nodeAt, recordsWith, meaningOf, netValue}
+use Rattle.netlist_laws.specs.Meaning.{decode, nodeAt, recordsWith, meaningOf}
 use Rattle.netlist_laws.specs.Sound.{count, PortNets, ArithmeticCell, ComparisonCell, Wired, Sound, Grew, Later, At, Stands, StandsAll}
-use Rattle.netlist_laws.specs.Run.{grew-refl, grew-trans, stands-later, all-as, Meets, meets-map, Limit, Run}
-use Rattle.netlist_laws.specs.Nodes.{count-grew, at-grew, wired-grew, arithmetic-grew, comparison-grew, with-after, node-grew, getD-map-in}
-use Rattle.gate_laws.specs.Nodes.{noNode, Is, is-node, grew-node, sound-node}
+use Rattle.netlist_laws.specs.Run.{grew-refl, Meets, meets-map, Limit, Built, Run}
+use Rattle.netlist_laws.specs.Nodes.{count-grew, at-grew, wired-grew, arithmetic-grew, comparison-grew, with-after, getD-map-in}
+use Rattle.gate_laws.specs.Nodes.{noNode, Is, is-node, sound-node}
 use Rattle.gate_laws.specs.Many.{All}
-use Rattle.gate_laws.specs.Added.{withNodes, grew-nodes, count-nodes, nodes-limits, node-added, length-from, getD-from, NodesAdded, Adds, nodes-added, pairs, both-adds, grew-record, pushed, Recorded, recorded}
+use Rattle.gate_laws.specs.Added.{withNodes, grew-nodes, count-nodes, nodes-limits, node-added, length-from, getD-from, NodesAdded, nodes-added, grew-record, pushed}
 
 -- ---- a record of no cell ----
 
@@ -76,7 +73,7 @@ nodes-stand xs l l′ g i h =
 
 -- ---- sources ----
 
-all-map : {A B : Type 0} (P : B → Type 0) (f : A → B) (xs : List A) → ((a : A) → P (f a)) → All P (map f xs)
+pub all-map : {A B : Type 0} (P : B → Type 0) (f : A → B) (xs : List A) → ((a : A) → P (f a)) → All P (map f xs)
 all-map P f [] h = tt
 all-map P f (x ∷ xs) h = (h x, all-map P f xs h)
 
@@ -85,13 +82,13 @@ pub record Made (xs : List Node) (w : At (List Bool)) (l : Netlist) (ns : List �
   pub added : NodesAdded xs l ns l′
   pub stands : StandsAll l′ ns w
 
-length-nodes : (x : ℕ → Node) (b w : ℕ) → length (map x (from b w)) ≡ w
+pub length-nodes : (x : ℕ → Node) (b w : ℕ) → length (map x (from b w)) ≡ w
 length-nodes x b w = length-map (from b w) x ∙ length-from b w
 
 node-of : (x : ℕ → Node) (b w i : ℕ) → i < w → getD (map x (from b w)) i noNode ≡ x (b + i)
 node-of x b w i h = getD-map-in x (from b w) i 0 noNode (rw (length-from b w) h) ∙ ap x (getD-from b w i 0 h)
 
-sources-stand : (x : ℕ → Node) (b w : ℕ) (l l′ : Netlist) (ns : List ℕ) → Grew (withNodes (map x (from b w)) l) l′ → ns ≡ from (count l) (length (map x (from b w)))
+pub sources-stand : (x : ℕ → Node) (b w : ℕ) (l l′ : Netlist) (ns : List ℕ) → Grew (withNodes (map x (from b w)) l) l′ → ns ≡ from (count l) (length (map x (from b w)))
     → StandsAll l′ ns (λ h s c. tab w (λ i. Is (x (b + i)) h s c))
 sources-stand x b w l l′ ns g e =
     rw (e, length-nodes x b w) (all-from (count l) w l′ (λ h s c i. Is (x (b + i)) h s c)
@@ -100,16 +97,23 @@ sources-stand x b w l l′ ns g e =
 sources-run : (x : ℕ → Node) (b w : ℕ) (l : Netlist) → Sound l → ((i : ℕ) → Free 0 (x i))
     → Run l (Made (map x (from b w)) (λ h s c. tab w (λ i. Is (x (b + i)) h s c)) l) (addNodes x b w l)
 sources-run x b w l q f = record {
-  run = meets-map Limit Limit (λ (r : List ℕ × Netlist). NodesAdded (map x (from b w)) l (r .0) (r .1))
-      (λ (r : List ℕ × Netlist). Later l (r .1) × Made (map x (from b w)) (λ h s c. tab w (λ i. Is (x (b + i)) h s c)) l (r .0) (r .1)) (addNodes x b w l)
-      (nodes-added x b w l (q .few)) (λ n y z h. h) (λ r a. (
-        subst (λ (h : Netlist). Later l h) (sym (a .then)) (record {
-          grew = grew-nodes (map x (from b w)) l;
-          sound = sound-nodes 0 (map x (from b w)) l q (omega arith) (a .room) (all-map (Free 0) x (from b w) f);
-        }),
-        record { added = a; stands = sources-stand x b w l (r .1) (r .0) (subst (λ (h : Netlist). Grew (withNodes (map x (from b w)) l) h) (sym (a .then)) (grew-refl _)) (a .nets) },
-      ));
+  run = meets-map Limit Limit (λ (r : List ℕ × Netlist). NodesAdded xs l (r .0) (r .1)) (Built l (Made xs word l)) (addNodes x b w l)
+      (nodes-added x b w l (q .few)) (λ n y z h. h) (λ r a. go (r .0) (r .1) a);
 }
+  where
+    xs : List Node
+    xs = map x (from b w)
+
+    word : At (List Bool)
+    word h s c = tab w (λ i. Is (x (b + i)) h s c)
+
+    go : (ns : List ℕ) (l′ : Netlist) → NodesAdded xs l ns l′ → Built l (Made xs word l) (ns, l′)
+    go ns l′ a = record {
+      later = subst (λ (h : Netlist). Later l h) (sym (a .then))
+          (record { grew = grew-nodes xs l; sound = sound-nodes 0 xs l q (omega arith) (a .room) (all-map (Free 0) x (from b w) f) });
+      cells = record { cells = λ t h. ap (λ (k : Netlist). recordsWith t (k .records)) (a .then) ∙ ap (recordsWith t) (nodes-limits xs l .2) };
+      post = record { added = a; stands = sources-stand x b w l l′ ns (subst (λ (h : Netlist). Grew (withNodes xs l) h) (sym (a .then)) (grew-refl (withNodes xs l))) (a .nets) };
+    }
 
 -- a register's nets, a memory port's nets
 pub register-run : (r b w : ℕ) (l : Netlist) → Sound l → Run l (Made (map (source 7 r) (from b w)) (λ h s c. tab w (λ i. c .reg r (b + i))) l) (addNodes (source 7 r) b w l)

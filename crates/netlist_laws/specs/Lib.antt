@@ -3,3 +3,5 @@ pub mod Meaning
 pub mod Sound
 pub mod Run
 pub mod Nodes
+pub mod Lists
+pub mod Image

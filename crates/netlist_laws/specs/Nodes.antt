@@ -1,27 +1,28 @@
 -- Older nodes and records stay as they were, and a net's value is its node's rule at the values below it. Assumes nothing.
-use mathlib.Core.Path.{_≡_, refl, sym, ap, ap₂, subst, _∙_}
+use mathlib.Core.Path.{_≡_, refl, sym, ap, ap₂, _∙_}
 use mathlib.Core.Bool.{Bool, true, false}
 use mathlib.Core.List.{List, [], _∷_, _++_, map, append-nil}
 use mathlib.Core.Logic.{⊎-elim}
 use mathlib.Core.Option.{Option, none, some}
-use Prim.Native.Nat.{ℕ, zero, suc, _+_, _*_, _-_, _≤_, _<_}
+use Prim.Native.Nat.{ℕ, zero, suc, _+_, _-_, _≤_, _<_}
 use native.Mathlib.Nat.{le-trans, eq-or-lt-of-le, not-suc-le-zero, le-of-suc-le-suc}
 use native.Mathlib.Decide.{ℕ-discrete}
 use native.Mathlib.Omega.{arith}
-use lib.ListN.{length, getD, length-append, List·getD-append, List·getD-eq-default}
+use lib.ListN.{length, getD, length-append, List·getD-append}
 use lib.Seq.{getD-append-seam, getD-append-add}
-use borrow.Author.Tests.{lt-ltb, le-ltb}
+use borrow.Author.Tests.{lt-ltb}
 use Rattle.rules.specs.Rules.{_≡?_, pick, only}
 use Rattle.rules.specs.Laws.{eq-yes, eq-no}
 use Rattle.rtl.specs.Table.{Low, entry-is}
 use Rattle.meaning.specs.NetlistImage as N
 use Rattle.meaning.specs.NetlistImage.{arithmeticOf, comparisonOf}
-use Rattle.meaning.specs.Step.{Setting, Contents, nodeValue, perhaps, dataWidth, findMemory}
-use Rattle.model.specs.Words.{absent, Node, gate, Netlist}
+use Rattle.meaning.specs.Step.{Setting, Contents, nodeValue, perhaps}
+use Rattle.model.specs.Words.{absent, Node, gate, Netlist, used}
 use Rattle.model.specs.Builder.{nodeForNet}
-use Rattle.word_laws.specs.Widths.{AllBelow, map-below}
+use Rattle.netlist_view.specs.Laws.{empty}
+use Rattle.word_laws.specs.Widths.{map-below}
 use Rattle.netlist_laws.specs.Meaning.{decode, decoded, nodeAt, recordsWith, meaningOf, netValue}
-use Rattle.netlist_laws.specs.Sound.{count, CarryBelow, arithmeticRecord, comparisonRecord, arithmeticOutputs, comparisonOutput, widthWord, OfArithmetic, OfComparison, ArithmeticCell, ComparisonCell, Plain, Wired, Sound, Grew, Later}
+use Rattle.netlist_laws.specs.Sound.{count, CarryBelow, arithmeticRecord, comparisonRecord, ArithmeticCell, ComparisonCell, Wired, Sound, Grew, Later}
 
 -- ---- nodes ----
 
@@ -225,3 +226,18 @@ pub later-net : {l l′ : Netlist} → Later l l′ → (k : ℕ) → k < count 
     → netValue l′ s c k ≡ nodeValue (meaningOf l′) s c (netValue l′ s c) (nodeAt l k)
 later-net {l} {l′} a k h s c =
     net-is l′ (a .sound) k (le-trans h (count-grew (a .grew))) s c ∙ ap (nodeValue (meaningOf l′) s c (netValue l′ s c)) (at-grew (a .grew) k h)
+
+-- ---- the start ----
+
+pub sound-empty : (n p : ℕ) → n ≤ absent → Sound (empty n p)
+unfolding used recordsWith only
+sound-empty n p h = record {
+  few = omega arith;
+  small = h;
+  short = omega arith;
+  formed = tt;
+  wired = λ k b. absurd (not-suc-le-zero b);
+  ports = λ j b. absurd (not-suc-le-zero b);
+  arithmetic = λ j b. absurd (not-suc-le-zero b);
+  comparison = λ j b. absurd (not-suc-le-zero b);
+}

@@ -11,7 +11,7 @@ use Rattle.model.specs.Words.{Netlist}
 use Rattle.model.specs.Builder.{Out, refused, done, andThen, Made}
 use Rattle.word_laws.specs.Widths.{AllBelow}
 use Rattle.netlist_laws.specs.Meaning.{netValue}
-use Rattle.netlist_laws.specs.Sound.{count, Sound, Grew, Later, At, Stands, StandsAll}
+use Rattle.netlist_laws.specs.Sound.{count, Sound, Grew, Later, Cells, At, Stands, StandsAll}
 
 -- ---- later ----
 
@@ -96,25 +96,40 @@ pub data Limit : ℕ → ℕ → ℕ → Type 0 where
   nets : Limit 9 0 0
   list : Limit 10 0 0
 
--- a call at l: refused for want of room, or an answer with P in a later netlist
-pub record Run {A : Type 0} (l : Netlist) (P : A → Netlist → Type 0) (o : Made A) : Type 0 where
-  pub run : Meets Limit (λ (r : A × Netlist). Later l (r .1) × P (r .0) (r .1)) o
+pub cells-refl : {l : Netlist} → Cells l l
+cells-refl = record { cells = λ t h. refl }
 
-pub run-done : {A : Type 0} {l l′ : Netlist} {P : A → Netlist → Type 0} {a : A} → Later l l′ → P a l′ → Run l P (done (a, l′))
-run-done b p = record { run = (b, p) }
+pub cells-trans : {l l′ l″ : Netlist} → Cells l l′ → Cells l′ l″ → Cells l l″
+cells-trans a b = record { cells = λ t h. b .cells t h ∙ a .cells t h }
+
+-- an answer with P in a later netlist, whose new records are cells
+pub record Built {A : Type 0} (l : Netlist) (P : A → Netlist → Type 0) (r : A × Netlist) : Type 0 where
+  pub later : Later l (r .1)
+  pub cells : Cells l (r .1)
+  pub post : P (r .0) (r .1)
+
+-- a call at l: refused for want of room, or such an answer
+pub record Run {A : Type 0} (l : Netlist) (P : A → Netlist → Type 0) (o : Made A) : Type 0 where
+  pub run : Meets Limit (Built l P) o
+
+pub run-done : {A : Type 0} {l l′ : Netlist} {P : A → Netlist → Type 0} {a : A} → Later l l′ → Cells l l′ → P a l′ → Run l P (done (a, l′))
+run-done b c p = record { run = record { later = b; cells = c; post = p } }
+
+-- nothing is made
+pub run-here : {A : Type 0} {l : Netlist} {P : A → Netlist → Type 0} {a : A} → Sound l → P a l → Run l P (done (a, l))
+run-here q p = run-done (later-refl q) cells-refl p
 
 pub run-bind : {A B : Type 0} {l : Netlist} {P : A → Netlist → Type 0} {Q : B → Netlist → Type 0} {o : Made A} (k : A × Netlist → Made B) → Run l P o
     → ((a : A) (l′ : Netlist) → Later l l′ → P a l′ → Run l′ Q (k (a, l′))) → Run l Q (andThen o k)
-run-bind {A} {B} {l} {P} {Q} {o} k r f = record {
-  run = meets-bind Limit (λ (x : A × Netlist). Later l (x .1) × P (x .0) (x .1)) (λ (y : B × Netlist). Later l (y .1) × Q (y .0) (y .1)) o k (r .run) (λ x p. on x p (k x) (f (x .0) (x .1) (p .0) (p .1) .run));
+run-bind {l} {P} {Q} {o} k r f = record {
+  run = meets-bind Limit (Built l P) (Built l Q) o k (r .run) (λ x p.
+      meets-map Limit Limit (Built (x .1) Q) (Built l Q) (k x) (f (x .0) (x .1) (p .later) (p .post) .run) (λ n a b h. h)
+      (λ y h. record { later = later-trans (p .later) (h .later); cells = cells-trans (p .cells) (h .cells); post = h .post }));
 }
-  where
-    on : (x : A × Netlist) → Later l (x .1) × P (x .0) (x .1) → (m : Made B) → Meets Limit (λ (y : B × Netlist). Later (x .1) (y .1) × Q (y .0) (y .1)) m
-        → Meets Limit (λ (y : B × Netlist). Later l (y .1) × Q (y .0) (y .1)) m
-    on x p m q = meets-map Limit Limit (λ (y : B × Netlist). Later (x .1) (y .1) × Q (y .0) (y .1)) (λ (y : B × Netlist). Later l (y .1) × Q (y .0) (y .1)) m q (λ n a b h. h) (λ y h. (later-trans (p .0) (h .0), h .1))
 
 pub run-map : {A : Type 0} {l : Netlist} {P Q : A → Netlist → Type 0} {o : Made A} → Run l P o
     → ((a : A) (l′ : Netlist) → Later l l′ → P a l′ → Q a l′) → Run l Q o
-run-map {A} {l} {P} {Q} {o} r f = record {
-  run = meets-map Limit Limit (λ (x : A × Netlist). Later l (x .1) × P (x .0) (x .1)) (λ (x : A × Netlist). Later l (x .1) × Q (x .0) (x .1)) o (r .run) (λ n a b h. h) (λ x h. (h .0, f (x .0) (x .1) (h .0) (h .1)));
+run-map {l} {P} {Q} {o} r f = record {
+  run = meets-map Limit Limit (Built l P) (Built l Q) o (r .run) (λ n a b h. h)
+      (λ x h. record { later = h .later; cells = h .cells; post = f (x .0) (x .1) (h .later) (h .post) });
 }

@@ -3,7 +3,7 @@
 -- operands' values there, and a memory output's goes by the data width of the record that is pushed after its nodes.
 use mathlib.Core.Path.{_≡_}
 use mathlib.Core.Bool.{Bool}
-use mathlib.Core.List.{List, [], _∷_, _++_, map}
+use mathlib.Core.List.{List, [], _++_, map}
 use mathlib.Core.Option.{Option, none, some}
 use Prim.Native.Nat.{ℕ, _+_, _*_, _≤_, _<_}
 use lib.ListN.{length, getD, drop}
@@ -122,6 +122,10 @@ pub record Grew (l l′ : Netlist) : Type 0 where
 pub record Later (l l′ : Netlist) : Type 0 where
   pub grew : Grew l l′
   pub sound : Sound l′
+
+-- the records of ports, registers and memories are as they were
+pub record Cells (l l′ : Netlist) : Type 0 where
+  pub cells : (t : ℕ) → t < 3 → recordsWith t (l′ .records) ≡ recordsWith t (l .records)
 
 -- ---- what nets stand for ----
 

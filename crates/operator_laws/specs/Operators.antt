@@ -1,13 +1,13 @@
 -- `lower_binary` and the unary arm of `lower_expression`: the nets given stand for the operator's word. Assumes nothing.
-use mathlib.Core.Path.{_≡_, refl, sym, ap, _∙_}
-use mathlib.Core.Bool.{Bool, true, false, not, _&&_, _||_}
-use mathlib.Core.List.{List, [], _∷_, map}
+use mathlib.Core.Path.{refl, sym, ap, _∙_}
+use mathlib.Core.Bool.{Bool, not, _&&_, _||_}
+use mathlib.Core.List.{List, map}
 use mathlib.Core.Option.{none}
-use Prim.Native.Nat.{ℕ, _+_, _≤_, _<_}
+use Prim.Native.Nat.{ℕ, _<_}
 use native.Mathlib.Nat.{add-zero}
 use native.Mathlib.Omega.{arith}
 use lib.ListN.{length}
-use Rattle.rtl.specs.Word.{value, bits}
+use Rattle.rtl.specs.Word.{bits}
 use Rattle.rtl.specs.Ops.{xorB, map2}
 use Rattle.rtl.specs.Rtl as R
 use Rattle.rtl.specs.Rtl.{unary, binary}

@@ -2,22 +2,21 @@
 use mathlib.Core.Path.{_≡_, refl, sym, ap, _∙_}
 use mathlib.Core.Bool.{Bool, true, false, cond}
 use mathlib.Core.List.{List, [], _∷_, map}
-use Prim.Native.Nat.{ℕ, zero, suc, pred, _+_, _*_, _-_, _^_, _≤_, _<_, min}
-use native.Mathlib.Nat.{le-trans, add-comm, add-zero, zero-add}
+use Prim.Native.Nat.{ℕ, zero, suc, pred, _+_, _*_, _-_, _^_, _<_, min}
+use native.Mathlib.Nat.{add-comm, add-zero, zero-add}
 use native.Mathlib.Omega.{arith}
 use lib.Dec.{ltb}
 use lib.ListN.{length, getD, length-map, List·getD-map}
 use Rattle.rtl.specs.Word.{value}
 use Rattle.rtl.specs.Ops.{tab, top, shl, shr, map2}
-use Rattle.meaning.specs.Step.{Setting, Contents}
 use Rattle.model.specs.Words.{Netlist}
-use Rattle.model.specs.Builder.{Made, done, andThen, from, addConstant, addMux, both}
+use Rattle.model.specs.Builder.{from, addMux}
 use Rattle.model.specs.Lowering.{Shift, LeftS, RightS, ArithmeticS, movedDown, shifted, stages, shift}
 use Rattle.word_laws.specs.Widths.{AllBelow}
 use Rattle.word_laws.specs.Shift.{length-tab, tab-ext, mux-word, stagesL, stagesL-shl, stagesR, stagesR-shr, stagesA, stagesA-shr}
 use Rattle.netlist_laws.specs.Meaning.{netValue}
-use Rattle.netlist_laws.specs.Sound.{count, Sound, At, Stands, StandsAll}
-use Rattle.netlist_laws.specs.Run.{later-refl, later-trans, later-count, below-more, stands-later, all-self, all-as, Run, run-done, run-bind, run-map}
+use Rattle.netlist_laws.specs.Sound.{count, Sound, Stands, StandsAll}
+use Rattle.netlist_laws.specs.Run.{later-trans, later-count, below-more, stands-later, all-self, all-as, Run, run-here, run-bind, run-map}
 use Rattle.gate_laws.specs.Gates.{constant-run, mux-run}
 use Rattle.gate_laws.specs.Many.{both-run}
 
@@ -118,7 +117,7 @@ module _ (h : Shift) (z : ℕ) where
   stages-run : (k : ℕ) (ss r : List ℕ) (l : Netlist) → Sound l → Stands l z (λ g s c. false) → AllBelow (count l) ss → AllBelow (count l) r
       → Run l (λ zs l′. StandsAll l′ zs (λ g s c. staged h k (map (netValue g s c) r) (map (netValue g s c) ss))) (stages h z k ss r l)
   unfolding stages
-  stages-run k [] r l q vz b d = run-done (later-refl q) (all-as (all-self r d) (λ g y s c. staged-nil h k (map (netValue g s c) r)))
+  stages-run k [] r l q vz b d = run-here q (all-as (all-self r d) (λ g y s c. staged-nil h k (map (netValue g s c) r)))
   stages-run k (m ∷ ss) r l q vz b d =
       run-bind (λ (r₁, l₁). stages h z (suc k) ss r₁ l₁)
       (both-run (addMux m) (λ g s c. cond (netValue g s c m)) (suc m) (λ x y l q n hx hy. mux-run m x y l q n hx hy) (shifted h z (min (2 ^ k) (length r)) r) r l q (b .0)

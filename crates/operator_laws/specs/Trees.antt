@@ -1,23 +1,23 @@
 -- Trees of gates, and equality. Assumes nothing.
 use mathlib.Core.Path.{_≡_, refl, sym, ap, _∙_}
-use mathlib.Core.Bool.{Bool, true, false, not, cond, _&&_, _||_, and-assoc, or-assoc, and-true, or-false}
+use mathlib.Core.Bool.{Bool, true, false, not, _&&_, _||_, and-assoc, or-assoc, and-true, or-false}
 use mathlib.Core.List.{List, [], _∷_, map, foldr}
-use Prim.Native.Nat.{ℕ, zero, suc, _+_, _≤_, _<_}
+use Prim.Native.Nat.{ℕ, zero, suc, _≤_, _<_}
 use native.Mathlib.Omega.{arith}
 use lib.Dec.{ltb}
 use lib.ListN.{length, length-map}
-use borrow.Author.Tests.{ltb-true, ltb-false}
-use Rattle.rtl.specs.Ops.{xorB, map2, eqW, allR}
-use Rattle.meaning.specs.Step.{Setting, Contents}
+use borrow.Author.Tests.{ltb-false}
+use Rattle.rtl.specs.Ops.{xorB, eqW, allR}
+use Rattle.meaning.specs.Step.{Contents}
 use Rattle.model.specs.Words.{Netlist}
-use Rattle.model.specs.Builder.{Made, done, andThen, addXor, addNot, both}
+use Rattle.model.specs.Builder.{done, andThen}
 use Rattle.model.specs.Ranges.{Gate, AndGate, OrGate, XorGate}
 use Rattle.model.specs.Lowering.{addGate, level, levels, reduceTree, addEqual, equalWords}
 use Rattle.word_laws.specs.Widths.{AllBelow}
 use Rattle.word_laws.specs.Tree.{pairs, pairs-fold, fewer-pairs, alike, alike-all}
 use Rattle.netlist_laws.specs.Meaning.{netValue}
-use Rattle.netlist_laws.specs.Sound.{count, Sound, At, Stands, StandsAll}
-use Rattle.netlist_laws.specs.Run.{later-refl, later-count, later-trans, below-more, stands-later, stands-as, all-self, all-as, all-nil, all-cons, all-length, Run, run-done, run-bind, run-map}
+use Rattle.netlist_laws.specs.Sound.{count, Sound, At, StandsAll}
+use Rattle.netlist_laws.specs.Run.{later-count, later-trans, below-more, stands-later, stands-as, all-self, all-as, all-nil, all-cons, all-length, Run, run-here, run-bind, run-map}
 use Rattle.gate_laws.specs.Gates.{Op2, and-run, or-run, xor-run, not-run}
 use Rattle.gate_laws.specs.Many.{both-run, constants-run}
 
@@ -63,18 +63,18 @@ nothing = record { reg = λ k i. false; dat = λ k second i. false; mem = λ k a
 module _ (g : Gate) where
   level-run : (xs : List ℕ) (l : Netlist) → Sound l → AllBelow (count l) xs → Run l (λ zs l′. StandsAll l′ zs (λ h s c. pairs (gateOp g) (map (netValue h s c) xs))) (level g xs l)
   unfolding level
-  level-run [] l q b = run-done (later-refl q) all-nil
-  level-run (x ∷ []) l q b = run-done (later-refl q) (all-self (x ∷ []) b)
+  level-run [] l q b = run-here q all-nil
+  level-run (x ∷ []) l q b = run-here q (all-self (x ∷ []) b)
   level-run (x ∷ y ∷ xs) l q b = run-bind _ (gate-run g x y l q (b .0) (b .1 .0)) (λ z l′ e v.
       run-bind _ (level-run xs l′ (e .sound) (below-more _ _ xs (later-count e) (b .1 .1))) (λ zs l″ e′ w.
-      run-done (later-refl (e′ .sound)) (all-cons (stands-later e′ v) w)))
+      run-here (e′ .sound) (all-cons (stands-later e′ v) w)))
 
   abbrev Folded : List ℕ → At (List Bool)
   Folded xs h s c = foldr (gateOp g) (gateUnit g) (map (netValue h s c) xs) ∷ []
 
   one-left : (xs : List ℕ) (l : Netlist) → Sound l → AllBelow (count l) xs → 0 < length xs → length xs ≤ 1 → Run l (λ zs l′. StandsAll l′ zs (Folded xs)) (done (xs, l))
   one-left [] l q b some few = absurd (omega arith)
-  one-left (x ∷ []) l q b some few = run-done (later-refl q) (all-as (all-self (x ∷ []) b) (λ h y s c. ap (λ (t : Bool). t ∷ []) (sym (gate-unit g (netValue h s c x)))))
+  one-left (x ∷ []) l q b some few = run-here q (all-as (all-self (x ∷ []) b) (λ h y s c. ap (λ (t : Bool). t ∷ []) (sym (gate-unit g (netValue h s c x)))))
   one-left (x ∷ y ∷ xs) l q b some few = absurd (omega arith)
 
   some-pairs : (xs : List Bool) → 0 < length xs → 0 < length (pairs (gateOp g) xs)
