@@ -4,23 +4,25 @@ use mathlib.Core.Bool.{Bool, true, false, cond, _&&_}
 use mathlib.Core.List.{List, [], _∷_, _++_, map}
 use mathlib.Core.Option.{Option, none, some}
 use Prim.Native.Nat.{ℕ, zero, suc, _+_, _≤_, _<_}
+use native.Mathlib.Decide.{ℕ-discrete}
 use native.Mathlib.Omega.{arith}
+use borrow.Author.Tests.{eq-eqb, ne-eqb}
 use lib.Dec.{eqb}
 use lib.ListN.{length, getD, getElem?}
-use Rattle.rules.specs.Rules.{only}
 use Rattle.rtl.specs.Ops.{tab}
 use Rattle.rtl.specs.Rtl as R
 use Rattle.rtl.specs.Rtl.{Module, Valuation, Control, word, dirOf}
 use Rattle.meaning.specs.NetlistImage as N
-use Rattle.meaning.specs.NetlistImage.{memoryOf, registerBitOf, outPortOf}
 use Rattle.meaning.specs.Step.{Setting, Contents}
 use Rattle.model.specs.Words.{Netlist}
 use Rattle.model.specs.Lowering.{State, signalWidth}
-use Rattle.netlist_laws.specs.Meaning.{recordsWith, isOutputPort, netValue}
+use Rattle.netlist_laws.specs.Meaning.{meaningOf, netValue}
 use Rattle.netlist_laws.specs.Sound.{Later}
 use Rattle.netlist_laws.specs.Run.{later-trans}
-use Rattle.walk_laws.specs.Kept.{Table, Agrees, More, agrees-less, Holds, holds-later, Inv, Grew}
-use Rattle.record_laws.specs.Find.{find}
+use Rattle.netlist_laws.specs.Lists.{memories-same, registers-same, outputs-same}
+use Rattle.walk_laws.specs.Tables.{some-eq}
+use Rattle.walk_laws.specs.Kept.{Table, Agrees, More, more-refl, agrees-less, Holds, holds-later, Inv, Grew}
+use Rattle.record_laws.specs.Find.{find, find-old, find-last}
 
 -- ---- one record ----
 
@@ -73,14 +75,14 @@ pub record SameBit (m : Module) (l : Netlist) (t : Table) (i : ℕ) (r : R.Regis
   pub enable : SameControl l t (r .enable) (b .register .enable)
   pub reset : SameReset m l t i (r .reset) (b .register .reset)
 
-module _ {l l′ : Netlist} {t t′ : Table} (a : Later l l′) (w : More t t′) where
+module _ (m : Module) {l l′ : Netlist} {t t′ : Table} (a : Later l l′) (w : More t t′) where
   control-later : (x y : Option Control) → SameControl l t x y → SameControl l′ t′ x y
   control-later none none h = tt
   control-later none (some y) h = absurd h
   control-later (some x) none h = absurd h
   control-later (some x) (some y) h = (holds-later a w (h .0), h .1)
 
-  port-later : {m : Module} (p : R.Port) (q : N.MemoryPort) → SamePort m l t p q → SamePort m l′ t′ p q
+  port-later : (p : R.Port) (q : N.MemoryPort) → SamePort m l t p q → SamePort m l′ t′ p q
   port-later p q h = record {
     readAddress = holds-later a w (h .readAddress);
     writeAddress = holds-later a w (h .writeAddress);
@@ -91,13 +93,13 @@ module _ {l l′ : Netlist} {t t′ : Table} (a : Later l l′) (w : More t t′
     rising = h .rising;
   }
 
-  second-later : {m : Module} (p : Option R.Port) (q : Option N.MemoryPort) → SameSecond m l t p q → SameSecond m l′ t′ p q
+  second-later : (p : Option R.Port) (q : Option N.MemoryPort) → SameSecond m l t p q → SameSecond m l′ t′ p q
   second-later none none h = tt
   second-later none (some q) h = absurd h
   second-later (some p) none h = absurd h
   second-later (some p) (some q) h = port-later p q h
 
-  memory-later : {m : Module} (x : R.Memory) (y : N.MemoryCell) → SameMemory m l t x y → SameMemory m l′ t′ x y
+  pub memory-later : (x : R.Memory) (y : N.MemoryCell) → SameMemory m l t x y → SameMemory m l′ t′ x y
   memory-later x y h = record {
     depth = h .depth;
     wide = h .wide;
@@ -105,13 +107,13 @@ module _ {l l′ : Netlist} {t t′ : Table} (a : Later l l′) (w : More t t′
     second = second-later (x .second) (y .second) (h .second);
   }
 
-  reset-later : {m : Module} (i : ℕ) (x y : Option R.Reset) → SameReset m l t i x y → SameReset m l′ t′ i x y
+  reset-later : (i : ℕ) (x y : Option R.Reset) → SameReset m l t i x y → SameReset m l′ t′ i x y
   reset-later i none none h = tt
   reset-later i none (some y) h = absurd h
   reset-later i (some x) none h = absurd h
   reset-later i (some x) (some y) h = (holds-later a w (h .0), h .1, h .2, record { is = λ k b s c v g. h .3 .is k (later-trans a b) s c v (agrees-less w g) })
 
-  bit-later : {m : Module} (i : ℕ) (r : R.Register) (b : N.RegisterBit) → SameBit m l t i r b → SameBit m l′ t′ i r b
+  pub bit-later : (i : ℕ) (r : R.Register) (b : N.RegisterBit) → SameBit m l t i r b → SameBit m l′ t′ i r b
   bit-later i r b h = record {
     next = holds-later a w (h .next);
     clock = holds-later a w (h .clock);
@@ -131,33 +133,31 @@ found-map : {A : Type 0} {o o′ : Option A} {P Q : A → Type 0} → o′ ≡ o
 found-map e f x = record { value = x .value; is = e ∙ x .is; holds = f (x .value) (x .holds) }
 
 -- the record of memory j in this list
-abbrev pub memoryIn : List (List ℕ) → ℕ → Option N.MemoryCell
-memoryIn rs j = find (λ y. eqb (y .index) j) (map memoryOf rs)
+abbrev pub memoryIn : List N.MemoryCell → ℕ → Option N.MemoryCell
+memoryIn ys j = find (λ y. eqb (y .index) j) ys
 
 -- that of bit i of register j
-abbrev pub bitIn : List (List ℕ) → ℕ → ℕ → Option N.RegisterBit
-bitIn rs j i = find (λ y. eqb (y .index) j && eqb (y .bit) i) (map registerBitOf rs)
+abbrev pub bitIn : List N.RegisterBit → ℕ → ℕ → Option N.RegisterBit
+bitIn ys j i = find (λ y. eqb (y .index) j && eqb (y .bit) i) ys
 
 -- that of the output port p
-abbrev pub portIn : List (List ℕ) → ℕ → Option N.OutPort
-portIn rs p = find (λ y. eqb (y .signal) p) (map outPortOf rs)
+abbrev pub portIn : List N.OutPort → ℕ → Option N.OutPort
+portIn ys p = find (λ y. eqb (y .signal) p) ys
 
 -- the first k memories have their records, and no others
 pub record Memories (m : Module) (l : Netlist) (t : Table) (k : ℕ) : Type 0 where
-  pub made : (j : ℕ) (x : R.Memory) → j < k → getElem? (m .memories) j ≡ some x → Found (memoryIn (recordsWith 2 (l .records)) j) (SameMemory m l t x)
-  pub rest : (j : ℕ) → k ≤ j → memoryIn (recordsWith 2 (l .records)) j ≡ none
+  pub made : (j : ℕ) (x : R.Memory) → j < k → getElem? (m .memories) j ≡ some x → Found (memoryIn (meaningOf l .memories) j) (SameMemory m l t x)
+  pub rest : (j : ℕ) → k ≤ j → memoryIn (meaningOf l .memories) j ≡ none
 
 -- of register j the first b j bits
 pub record Registers (m : Module) (l : Netlist) (t : Table) (b : ℕ → ℕ) : Type 0 where
-  pub made : (j i : ℕ) (r : R.Register) → i < b j → getElem? (m .registers) j ≡ some r → Found (bitIn (recordsWith 1 (l .records)) j i) (SameBit m l t i r)
-  pub rest : (j i : ℕ) → b j ≤ i → bitIn (recordsWith 1 (l .records)) j i ≡ none
+  pub made : (j i : ℕ) (r : R.Register) → i < b j → getElem? (m .registers) j ≡ some r → Found (bitIn (meaningOf l .registers) j i) (SameBit m l t i r)
+  pub rest : (j i : ℕ) → b j ≤ i → bitIn (meaningOf l .registers) j i ≡ none
 
--- the outputs among the first n signals have their ports; which records are output ports is settled for all later netlists
+-- the outputs among the first n signals have their ports, and no others
 pub record Outputs (m : Module) (l : Netlist) (t : Table) (n : ℕ) : Type 0 where
-  pub ports : List (List ℕ)
-  pub shown : (h : Netlist) → Later l h → only (isOutputPort h) (recordsWith 0 (l .records)) ≡ ports
-  pub made : (p : ℕ) → p < n → dirOf m p ≡ R.Output → Found (portIn ports p) (λ o. Holds l t (o .nets) (λ v. tab (signalWidth m p) (v p)))
-  pub rest : (p : ℕ) → ((p < n) × (dirOf m p ≡ R.Output) → ⊥) → portIn ports p ≡ none
+  pub made : (p : ℕ) → p < n → dirOf m p ≡ R.Output → Found (portIn (meaningOf l .outputs) p) (λ o. Holds l t (o .nets) (λ v. tab (signalWidth m p) (v p)))
+  pub rest : (p : ℕ) → ((p < n) × (dirOf m p ≡ R.Output) → ⊥) → portIn (meaningOf l .outputs) p ≡ none
 
 pub record Connected (m : Module) (st : State) (k : ℕ) (b : ℕ → ℕ) (n : ℕ) : Type 0 where
   pub inv : Inv m st
@@ -166,31 +166,124 @@ pub record Connected (m : Module) (st : State) (k : ℕ) (b : ℕ → ℕ) (n : 
   pub outputs : Outputs m (st .netlist) (st .signalBits) n
 
 module _ {m : Module} {l l′ : Netlist} {t t′ : Table} (a : Later l l′) (w : More t t′) where
-  pub memories-later : {k : ℕ} → recordsWith 2 (l′ .records) ≡ recordsWith 2 (l .records) → Memories m l t k → Memories m l′ t′ k
+  pub memories-later : {k : ℕ} → meaningOf l′ .memories ≡ meaningOf l .memories → Memories m l t k → Memories m l′ t′ k
   memories-later e x = record {
-    made = λ j y h q. found-map (ap (λ (rs : List (List ℕ)). memoryIn rs j) e) (λ z p. memory-later a w y z p) (x .made j y h q);
-    rest = λ j h. ap (λ (rs : List (List ℕ)). memoryIn rs j) e ∙ x .rest j h;
+    made = λ j y h q. found-map (ap (λ (ys : List N.MemoryCell). memoryIn ys j) e) (λ z p. memory-later m a w y z p) (x .made j y h q);
+    rest = λ j h. ap (λ (ys : List N.MemoryCell). memoryIn ys j) e ∙ x .rest j h;
   }
 
-  pub registers-later : {b : ℕ → ℕ} → recordsWith 1 (l′ .records) ≡ recordsWith 1 (l .records) → Registers m l t b → Registers m l′ t′ b
+  pub registers-later : {b : ℕ → ℕ} → meaningOf l′ .registers ≡ meaningOf l .registers → Registers m l t b → Registers m l′ t′ b
   registers-later e x = record {
-    made = λ j i r h q. found-map (ap (λ (rs : List (List ℕ)). bitIn rs j i) e) (λ z p. bit-later a w i r z p) (x .made j i r h q);
-    rest = λ j i h. ap (λ (rs : List (List ℕ)). bitIn rs j i) e ∙ x .rest j i h;
+    made = λ j i r h q. found-map (ap (λ (ys : List N.RegisterBit). bitIn ys j i) e) (λ z p. bit-later m a w i r z p) (x .made j i r h q);
+    rest = λ j i h. ap (λ (ys : List N.RegisterBit). bitIn ys j i) e ∙ x .rest j i h;
   }
 
-  pub outputs-later : {n : ℕ} → recordsWith 0 (l′ .records) ≡ recordsWith 0 (l .records) → Outputs m l t n → Outputs m l′ t′ n
+  pub outputs-later : {n : ℕ} → meaningOf l′ .outputs ≡ meaningOf l .outputs → Outputs m l t n → Outputs m l′ t′ n
   outputs-later e x = record {
-    ports = x .ports;
-    shown = λ h b. ap (only (isOutputPort h)) e ∙ x .shown h (later-trans a b);
-    made = λ p h q. found-map refl (λ z y. holds-later a w y) (x .made p h q);
-    rest = x .rest;
+    made = λ p h q. found-map (ap (λ (ys : List N.OutPort). portIn ys p) e) (λ z y. holds-later a w y) (x .made p h q);
+    rest = λ p h. ap (λ (ys : List N.OutPort). portIn ys p) e ∙ x .rest p h;
   }
 
 -- the walk leaves the records as they were
 pub connected-grew : {m : Module} {st st′ : State} {k n : ℕ} {b : ℕ → ℕ} → Connected m st k b n → Inv m st′ → Grew st st′ → Connected m st′ k b n
 connected-grew x i g = record {
   inv = i;
-  memories = memories-later (g .later) (g .more) (g .cells .cells 2 (omega arith)) (x .memories);
-  registers = registers-later (g .later) (g .more) (g .cells .cells 1 (omega arith)) (x .registers);
-  outputs = outputs-later (g .later) (g .more) (g .cells .cells 0 (omega arith)) (x .outputs);
+  memories = memories-later (g .later) (g .more) (memories-same (g .later .grew) (g .cells)) (x .memories);
+  registers = registers-later (g .later) (g .more) (registers-same (g .later .grew) (g .cells)) (x .registers);
+  outputs = outputs-later (g .later) (g .more) (outputs-same (g .later .grew) (g .cells) (x .inv .sound)) (x .outputs);
 }
+
+-- ---- one record more ----
+
+module _ (m : Module) (l l′ : Netlist) (t : Table) (a : Later l l′) where
+  pub one-memory : (k : ℕ) (x : R.Memory) (y : N.MemoryCell) → getElem? (m .memories) k ≡ some x → y .index ≡ k → SameMemory m l′ t x y
+      → meaningOf l′ .memories ≡ meaningOf l .memories ++ (y ∷ []) → Memories m l t k → Memories m l′ t (suc k)
+  one-memory k x y q n s e c = record {
+    made = λ j z h p. made j z h p (ℕ-discrete j k);
+    rest = λ j h. ap (λ (ys : List N.MemoryCell). memoryIn ys j) e ∙ find-last (λ z. eqb (z .index) j) y (meaningOf l .memories) (c .rest j (omega arith))
+        ∙ rw (ne-eqb (y .index) j (λ f. omega arith));
+  }
+    where
+      made : (j : ℕ) (z : R.Memory) → j < suc k → getElem? (m .memories) j ≡ some z → Dec (j ≡ k) → Found (memoryIn (meaningOf l′ .memories) j) (SameMemory m l′ t z)
+      made j z h p (yes d) =
+          let w : x ≡ z = some-eq (sym q ∙ ap (getElem? (m .memories)) (sym d) ∙ p) in
+          record {
+            value = y;
+            is = ap (λ (ys : List N.MemoryCell). memoryIn ys j) e ∙ find-last (λ z. eqb (z .index) j) y (meaningOf l .memories) (c .rest j (omega arith))
+                ∙ rw (eq-eqb (y .index) j (n ∙ sym d));
+            holds = rw (← w) s;
+          }
+      made j z h p (no d) =
+          let f = c .made j z (omega arith) p in
+          record {
+            value = f .value;
+            is = ap (λ (ys : List N.MemoryCell). memoryIn ys j) e ∙ find-old (λ z. eqb (z .index) j) y (meaningOf l .memories) (f .value) (f .is);
+            holds = memory-later m a more-refl z (f .value) (f .holds);
+          }
+
+  -- bit b of register k
+  pub one-bit : (k : ℕ) (r : R.Register) (y : N.RegisterBit) (b : ℕ → ℕ) → getElem? (m .registers) k ≡ some r → y .index ≡ k → y .bit ≡ b k → SameBit m l′ t (b k) r y
+      → meaningOf l′ .registers ≡ meaningOf l .registers ++ (y ∷ []) → Registers m l t b → Registers m l′ t (λ j. cond (eqb j k) (suc (b k)) (b j))
+  one-bit k r y b q n o s e c = record { made = λ j i z h p. made j i z (ℕ-discrete j k) (ℕ-discrete i (b k)) h p; rest = λ j i h. rest j i (ℕ-discrete j k) h }
+    where
+      test : ℕ → ℕ → N.RegisterBit → Bool
+      test j i z = eqb (z .index) j && eqb (z .bit) i
+
+      new : (j i : ℕ) → bitIn (meaningOf l .registers) j i ≡ none → bitIn (meaningOf l′ .registers) j i ≡ cond (eqb (y .index) j && eqb (y .bit) i) (some y) none
+      new j i h = ap (λ (ys : List N.RegisterBit). bitIn ys j i) e ∙ find-last (λ z. eqb (z .index) j && eqb (z .bit) i) y (meaningOf l .registers) h
+
+      old : (j i : ℕ) (z : R.Register) → i < b j → getElem? (m .registers) j ≡ some z → Found (bitIn (meaningOf l′ .registers) j i) (SameBit m l′ t i z)
+      old j i z h p =
+          let f = c .made j i z h p in
+          record {
+            value = f .value;
+            is = ap (λ (ys : List N.RegisterBit). bitIn ys j i) e ∙ find-old (λ z. eqb (z .index) j && eqb (z .bit) i) y (meaningOf l .registers) (f .value) (f .is);
+            holds = bit-later m a more-refl i z (f .value) (f .holds);
+          }
+
+      here : (j i : ℕ) (z : R.Register) → j ≡ k → i ≡ b k → getElem? (m .registers) j ≡ some z → Found (bitIn (meaningOf l′ .registers) j i) (SameBit m l′ t i z)
+      here j i z d f p =
+          let w : r ≡ z = some-eq (sym q ∙ ap (getElem? (m .registers)) (sym d) ∙ p) in
+          record {
+            value = y;
+            is = new j i (c .rest j i (rw (d, f) (omega arith))) ∙ rw (eq-eqb (y .index) j (n ∙ sym d), eq-eqb (y .bit) i (o ∙ sym f));
+            holds = rw (← w, f) s;
+          }
+
+      made : (j i : ℕ) (z : R.Register) → Dec (j ≡ k) → Dec (i ≡ b k) → i < cond (eqb j k) (suc (b k)) (b j) → getElem? (m .registers) j ≡ some z
+          → Found (bitIn (meaningOf l′ .registers) j i) (SameBit m l′ t i z)
+      made j i z (yes d) (yes f) h p = here j i z d f p
+      made j i z (yes d) (no f) h p =
+          let g : i < suc (b k) = rw (eq-eqb j k d) at h in
+          old j i z (rw d (omega arith)) p
+      made j i z (no d) f h p = old j i z (rw (ne-eqb j k d) at h) p
+
+      rest : (j i : ℕ) → Dec (j ≡ k) → cond (eqb j k) (suc (b k)) (b j) ≤ i → bitIn (meaningOf l′ .registers) j i ≡ none
+      rest j i (yes d) h =
+          let g : suc (b k) ≤ i = rw (eq-eqb j k d) at h in
+          new j i (c .rest j i (rw d (omega arith))) ∙ rw (eq-eqb (y .index) j (n ∙ sym d), ne-eqb (y .bit) i (λ f. omega arith))
+      rest j i (no d) h =
+          new j i (c .rest j i (rw (ne-eqb j k d) at h)) ∙ rw (ne-eqb (y .index) j (λ f. d (sym f ∙ n)))
+
+  pub one-output : (p : ℕ) (y : N.OutPort) → dirOf m p ≡ R.Output → y .signal ≡ p → Holds l′ t (y .nets) (λ v. tab (signalWidth m p) (v p))
+      → meaningOf l′ .outputs ≡ meaningOf l .outputs ++ (y ∷ []) → Outputs m l t p → Outputs m l′ t (suc p)
+  one-output p y q n s e c = record {
+    made = λ j h z. made j h z (ℕ-discrete j p);
+    rest = λ j h. ap (λ (ys : List N.OutPort). portIn ys j) e ∙ find-last (λ z. eqb (z .signal) j) y (meaningOf l .outputs) (c .rest j (λ x. h (omega arith, x .1)))
+        ∙ rw (ne-eqb (y .signal) j (λ f. h (omega arith, rw (sym f ∙ n) q)));
+  }
+    where
+      made : (j : ℕ) → j < suc p → dirOf m j ≡ R.Output → Dec (j ≡ p) → Found (portIn (meaningOf l′ .outputs) j) (λ o. Holds l′ t (o .nets) (λ v. tab (signalWidth m j) (v j)))
+      made j h z (yes d) = record {
+        value = y;
+        is = ap (λ (ys : List N.OutPort). portIn ys j) e ∙ find-last (λ z. eqb (z .signal) j) y (meaningOf l .outputs) (c .rest j (λ x. omega arith))
+            ∙ rw (eq-eqb (y .signal) j (n ∙ sym d));
+        holds = rw d s;
+      }
+      made j h z (no d) =
+          let f = c .made j (omega arith) z in
+          record {
+            value = f .value;
+            is = ap (λ (ys : List N.OutPort). portIn ys j) e ∙ find-old (λ z. eqb (z .signal) j) y (meaningOf l .outputs) (f .value) (f .is);
+            holds = holds-later a more-refl (f .holds);
+          }

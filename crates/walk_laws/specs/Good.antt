@@ -42,12 +42,10 @@ pub record GoodPort (m : Module) (p : Port) : Type 0 where
   pub writeAddress : p .writeAddress < length (m .exprs)
   pub writeData : p .writeData < length (m .exprs)
 
--- memory k: no read data is another's, and both have one width
+-- memory k: no read data is another's
 pub record GoodMemory (m : Module) (k : ℕ) (x : Memory) : Type 0 where
   pub first : GoodPort m (x .first)
   pub second : (q : Port) → x .second ≡ some q → GoodPort m q
-  pub apart : (q : Port) → x .second ≡ some q → q .readData ≡ x .first .readData → ⊥
-  pub wide : (q : Port) → x .second ≡ some q → signalWidth m (q .readData) ≡ signalWidth m (x .first .readData)
   pub first-first : (j : ℕ) (y : Memory) → getElem? (m .memories) j ≡ some y → y .first .readData ≡ x .first .readData → j ≡ k
   pub second-first : (j : ℕ) (y : Memory) (q : Port) → getElem? (m .memories) j ≡ some y → y .second ≡ some q → q .readData ≡ x .first .readData → ⊥
   pub second-second : (j : ℕ) (y : Memory) (q p : Port) → getElem? (m .memories) j ≡ some y → y .second ≡ some q → x .second ≡ some p → q .readData ≡ p .readData → j ≡ k

@@ -14,9 +14,9 @@ use Rattle.model.specs.Builder.{Out, refused, done, andThen, Made}
 use Rattle.model.specs.Ranges.{widthAt}
 use Rattle.model.specs.Lowering.{State, cell, whole, signalWidth}
 use Rattle.word_laws.specs.Widths.{AllBelow}
-use Rattle.netlist_laws.specs.Meaning.{meaningOf, recordsWith, netValue}
-use Rattle.netlist_laws.specs.Sound.{count, Sound, Later, At, StandsAll}
-use Rattle.netlist_laws.specs.Run.{later-refl, later-trans, later-count, below-more, Meets, Run}
+use Rattle.netlist_laws.specs.Meaning.{meaningOf, netValue}
+use Rattle.netlist_laws.specs.Sound.{count, Sound, Later, Cells}
+use Rattle.netlist_laws.specs.Run.{later-refl, later-trans, later-count, below-more, cells-refl, cells-trans, Meets, Built, Run}
 use Rattle.walk_laws.specs.Tables.{Has, Shaped, Fits, filled}
 
 abbrev pub Table : Type 0
@@ -90,16 +90,6 @@ pub record Inv (m : Module) (st : State) : Type 0 where
   pub cells : (e : ℕ) → e < length (m .exprs) → whole st e ≡ none → length (getD (st .expressionRanges) e []) ≡ widthAt (m .exprs) e
   pub ranges : (e : ℕ) → HoldsRow (st .netlist) (st .signalBits) (getD (st .expressionRanges) e []) (λ v. word (m .exprs) v e)
 
--- list records of ports, registers and memories are as they were
-pub record Cells (l l′ : Netlist) : Type 0 where
-  pub cells : (t : ℕ) → t < 3 → recordsWith t (l′ .records) ≡ recordsWith t (l .records)
-
-pub cells-refl : {l : Netlist} → Cells l l
-cells-refl = record { cells = λ t h. refl }
-
-pub cells-trans : {l l′ l″ : Netlist} → Cells l l′ → Cells l′ l″ → Cells l l″
-cells-trans a b = record { cells = λ t h. b .cells t h ∙ a .cells t h }
-
 -- a marked bit stays marked, and its net as it was
 pub record Framed (st st′ : State) : Type 0 where
   pub marks : (p i : ℕ) → cell false (st .resolving) p i ≡ true → cell false (st′ .resolving) p i ≡ true
@@ -170,14 +160,9 @@ pub walks-bind : {m : Module} {st : State} {P Q : State → Type 0} (o : Out Sta
 walks-bind (refused n x y) k w f = walks-refused
 walks-bind (done st′) k w f = let a = w .walks in from-later (a .grew) (k st′) (f st′ (a .inv) (a .grew) (a .post))
 
--- a call of the builder at l
-pub record Made′ {A : Type 0} (l : Netlist) (P : A → Netlist → Type 0) (r : A × Netlist) : Type 0 where
-  pub later : Later l (r .1)
-  pub cells : Cells l (r .1)
-  pub post : P (r .0) (r .1)
-
+-- a call of the builder at l: of a refusal nothing is asked
 pub record Makes {A : Type 0} (l : Netlist) (P : A → Netlist → Type 0) (o : Made A) : Type 0 where
-  pub makes : Meets Any (Made′ l P) o
+  pub makes : Meets Any (Built l P) o
 
 pub makes-refused : {A : Type 0} {l : Netlist} {P : A → Netlist → Type 0} {n x y : ℕ} → Makes l P (refused n x y)
 makes-refused = record { makes = tt }
@@ -198,3 +183,7 @@ pub makes-bind : {A B : Type 0} {l : Netlist} {P : A → Netlist → Type 0} {Q 
     → ((a : A) (l′ : Netlist) → Later l l′ → P a l′ → Makes l′ Q (k (a, l′))) → Makes l Q (andThen o k)
 makes-bind (refused n x y) k w f = makes-refused
 makes-bind (done r) k w f = let a = w .makes in from-earlier (a .later) (a .cells) (k r) (f (r .0) (r .1) (a .later) (a .post))
+
+pub run-makes : {A : Type 0} {l : Netlist} {P : A → Netlist → Type 0} (o : Made A) → Run l P o → Makes l P o
+run-makes (refused n x y) r = makes-refused
+run-makes (done a) r = record { makes = r .run }

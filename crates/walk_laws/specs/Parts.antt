@@ -23,9 +23,9 @@ use Rattle.word_laws.specs.Values.{slice-wide}
 use Rattle.word_laws.specs.Widths.{AllBelow, BelowE, Formed, WidthOk, word-is, word-width}
 use Rattle.netlist_laws.specs.Meaning.{netValue}
 use Rattle.netlist_laws.specs.Sound.{count}
-use Rattle.netlist_laws.specs.Run.{later-refl}
+use Rattle.netlist_laws.specs.Run.{cells-refl, later-refl}
 use Rattle.walk_laws.specs.Tables.{none-some, some-eq, Has}
-use Rattle.walk_laws.specs.Kept.{Holds, Inv, cells-refl, Makes, makes-done, makes-map}
+use Rattle.walk_laws.specs.Kept.{Holds, Inv, Makes, makes-done, makes-map}
 use Rattle.walk_laws.specs.Writes.{holds-length}
 use Rattle.walk_laws.specs.Reads.{Asked, AllAsked, AllAfter, holds-as, holds-nil, holds-append, read-range, whole-after, read-bits}
 use Rattle.walk_laws.specs.Gates.{Gates, gateOp, gives-holds}

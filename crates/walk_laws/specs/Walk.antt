@@ -23,7 +23,7 @@ use Rattle.netlist_laws.specs.Meaning.{netValue}
 use Rattle.netlist_laws.specs.Sound.{count, Later}
 use Rattle.walk_laws.specs.Tables.{none-some, some-eq, Has, has-some, has-eq}
 use Rattle.walk_laws.specs.Good.{Good, GoodAssign, Undriven}
-use Rattle.walk_laws.specs.Kept.{Agrees, Holds, Inv, Grew, grew-refl, grew-trans, Walks, walks-refused, walks-done, walks-map, walks-bind, Makes, Made′}
+use Rattle.walk_laws.specs.Kept.{Agrees, Holds, Inv, Grew, grew-refl, grew-trans, Walks, walks-refused, walks-done, walks-map, walks-bind, Makes}
 use Rattle.walk_laws.specs.Writes.{holds-length, inv-netlist, grew-netlist, inv-whole, grew-whole, has-whole, inv-range, grew-range, has-range, inv-mark, grew-mark, marked, inv-bit, grew-bit, has-bit}
 use Rattle.walk_laws.specs.Reads.{Asked, After, after-grew, needOf, AllAsked, AllAfter, all-after-grew, map-at, below-at, read-whole, whole-length, known-after}
 use Rattle.walk_laws.specs.Gates.{Gates}
@@ -32,7 +32,7 @@ use Rattle.walk_laws.specs.Parts.{gate-wide, below-turned, pieces-asked,
 
 -- ---- what the steps ask ----
 
-bits-asked : (m : Module) (s b w : ℕ) → AllAsked m (signalSteps s b w)
+pub bits-asked : (m : Module) (s b w : ℕ) → AllAsked m (signalSteps s b w)
 unfolding signalSteps from
 bits-asked m s b zero = tt
 bits-asked m s b (suc w) = (tt, bits-asked m s (suc b) w)
@@ -144,7 +144,7 @@ module _ (m : Module) (s b : ℕ) where
       let x = by-assign (m .assigns) (g .assigns) d q in
       record { here = x .0; inside = x .1; value = x .2; bit = x .3; undriven = x .4; by = x .5 }
 
-  no-register : (k : ℕ) (rs : List R.Register) (d : R.Driver) → ((j : ℕ) (r : R.Register) → getElem? rs j ≡ some r → r .target ≡ s → ⊥) → byRegister k rs s d ≡ d
+  pub no-register : (k : ℕ) (rs : List R.Register) (d : R.Driver) → ((j : ℕ) (r : R.Register) → getElem? rs j ≡ some r → r .target ≡ s → ⊥) → byRegister k rs s d ≡ d
   no-register k [] d h = refl
   no-register k (r ∷ rs) d h = go (eqb (r .target) s) refl (no-register (suc k) rs d (λ j x e. h (suc j) x e))
     where
@@ -169,7 +169,7 @@ module _ (m : Module) (s b : ℕ) where
       go false t none e r = r
       go false t (some q) e r = second q e (eqb (q .readData) s) refl r
 
-  no-input : (x : R.Dir) (d : R.Driver) → (x ≡ R.Input → ⊥) → byDir x d ≡ d
+  pub no-input : (x : R.Dir) (d : R.Driver) → (x ≡ R.Input → ⊥) → byDir x d ≡ d
   no-input R.Internal d h = refl
   no-input R.Input d h = absurd (h refl)
   no-input R.Output d h = refl

@@ -23,9 +23,9 @@ use Rattle.word_laws.specs.Widths.{AllBelow, BelowE, BinWidth, Formed, WidthOk,
 use Rattle.range_laws.specs.Fusion.{cellWord, carryBit, CarryBelow, Operate, Narrowed, operands, narrowed}
 use Rattle.netlist_laws.specs.Meaning.{netValue}
 use Rattle.netlist_laws.specs.Sound.{count, Sound, Later}
-use Rattle.netlist_laws.specs.Run.{later-refl, later-count, stands-later}
+use Rattle.netlist_laws.specs.Run.{cells-refl, later-refl, later-count, stands-later}
 use Rattle.walk_laws.specs.Tables.{none-some, some-eq, Has}
-use Rattle.walk_laws.specs.Kept.{Table, Agrees, more-refl, Holds, holds-later, Inv, cells-refl, Makes, makes-done, makes-map, makes-bind}
+use Rattle.walk_laws.specs.Kept.{Table, Agrees, more-refl, Holds, holds-later, Inv, Makes, makes-done, makes-map, makes-bind}
 use Rattle.walk_laws.specs.Writes.{holds-length}
 use Rattle.walk_laws.specs.Reads.{AllAfter, map-append, map-at, below-at, below-append, holds-as, holds-nil, holds-append, holds-slice, read-whole, whole-length, read-range, read-bits}
 use Rattle.walk_laws.specs.Gates.{Gates, gives-holds}

@@ -19,10 +19,10 @@ use Rattle.model.specs.Ranges.{widthAt}
 use Rattle.model.specs.Lowering.{State, cell, put, state, whole, withNetlist, setWhole, setRange, rangesBy, setSignalBit, mark, signalWidth, signalBit}
 use Rattle.word_laws.specs.Widths.{AllBelow, Formed, word-width}
 use Rattle.netlist_laws.specs.Meaning.{netValue}
-use Rattle.netlist_laws.specs.Sound.{count, Sound, Later}
-use Rattle.netlist_laws.specs.Run.{later-refl, later-trans, later-count}
+use Rattle.netlist_laws.specs.Sound.{Cells, count, Sound, Later}
+use Rattle.netlist_laws.specs.Run.{cells-refl, later-refl, later-trans, later-count}
 use Rattle.walk_laws.specs.Tables.{none-some, some-eq, Has, has-some, has-none, has-eq, Shaped, same-cell, put-shaped, put-same, put-other, filled, filled-put, Fits, has-sets, known-sets, fits-sets, below-sets}
-use Rattle.walk_laws.specs.Kept.{Table, Agrees, More, more-refl, more-trans, agrees-less, Holds, holds-later, HoldsRow, row-later, Wide, HeldBy, Held, Settles, Inv, Cells, cells-refl, Framed, Grew, grew-refl, grew-trans}
+use Rattle.walk_laws.specs.Kept.{Table, Agrees, More, more-refl, more-trans, agrees-less, Holds, holds-later, HoldsRow, row-later, Wide, HeldBy, Held, Settles, Inv, Framed, Grew, grew-refl, grew-trans}
 
 -- ---- how many nets stand for a word ----
 

@@ -9,7 +9,7 @@ use lib.ListN.{length, length-map}
 use Rattle.rtl.specs.Ops.{xorB, map2}
 use Rattle.model.specs.Words.{Netlist}
 use Rattle.model.specs.Builder as B
-use Rattle.model.specs.Builder.{Made, refused, done, addMux, both}
+use Rattle.model.specs.Builder.{addMux}
 use Rattle.model.specs.Ranges.{Gate, AndGate, OrGate, XorGate}
 use Rattle.model.specs.Lowering.{addGate}
 use Rattle.netlist_laws.specs.Meaning.{netValue}
@@ -19,13 +19,8 @@ use Rattle.gate_laws.specs.Gates.{Op2, constant-run, and-run, or-run, xor-run, 
 use Rattle.gate_laws.specs.Many.{both-run, constants-run, nots-run}
 use Rattle.cell_laws.specs.Arithmetic.{arithmetic-run}
 use Rattle.operator_laws.specs.Operators.{unary-run, binary-run}
-use Rattle.walk_laws.specs.Kept.{Makes, makes-refused, makes-done}
+use Rattle.walk_laws.specs.Kept.{run-makes}
 use Rattle.walk_laws.specs.Gates.{gateOp, Gates}
-use Rattle.walk_gates.specs.Records.{Only, constant-only, constants-only, nots-only, both-only, gate-only, mux-only, unary-only, binary-only, arithmetic-only}
-
-pub makes : {A : Type 0} {l : Netlist} {P : A → Netlist → Type 0} (o : Made A) → Run l P o → Only l o → Makes l P o
-makes (refused n x y) r p = makes-refused
-makes (done a) r p = let k = r .run in makes-done (k .0) (p .only) (k .1)
 
 gate-run : (k : Gate) (a b : ℕ) (l : Netlist) → Sound l → a < count l → b < count l → Run l (Op2 (gateOp k) a b) (addGate k a b l)
 gate-run AndGate a b l q h j = and-run a b l q h j
@@ -43,18 +38,16 @@ all-cond false (x ∷ xs) (y ∷ ys) e = rw (all-cond false xs ys (omega arith))
 
 pub supply : Gates
 supply = record {
-  constant = λ b l q. makes _ (constant-run b l q) (constant-only b l);
-  constants = λ bs l q. makes _ (constants-run bs l q) (constants-only bs l);
-  nots = λ xs l q b. makes _ (nots-run xs l q b) (nots-only xs l);
-  gates = λ k xs ys l q a b e. makes _
-      (both-run (addGate k) (λ h s c. gateOp k) 0 (λ x y l q n hx hy. gate-run k x y l q hx hy) xs ys l q (omega arith) a b)
-      (both-only (addGate k) (gate-only k) xs ys l);
-  mux = λ d ts es l q h a b e. makes _
+  constant = λ b l q. run-makes _ (constant-run b l q);
+  constants = λ bs l q. run-makes _ (constants-run bs l q);
+  nots = λ xs l q b. run-makes _ (nots-run xs l q b);
+  gates = λ k xs ys l q a b e. run-makes _
+      (both-run (addGate k) (λ h s c. gateOp k) 0 (λ x y l q n hx hy. gate-run k x y l q hx hy) xs ys l q (omega arith) a b);
+  mux = λ d ts es l q h a b e. run-makes _
       (run-map (both-run (addMux d) (λ h s c x y. cond (netValue h s c d) x y) (suc d) (λ x y l q n hx hy. mux-run d x y l q n hx hy) ts es l q h a b)
         (λ zs l′ g w. all-as w (λ h x s c. all-cond (netValue h s c d) (map (netValue h s c) ts) (map (netValue h s c) es)
-          (length-map ts (netValue h s c) ∙ e ∙ sym (length-map es (netValue h s c))))))
-      (both-only (addMux d) (mux-only d) ts es l);
-  un = λ op xs l q b. makes _ (unary-run op xs l q b) (unary-only op xs l);
-  bin = λ op w xs ys l q a b e. makes _ (binary-run xs ys l q a b op w e) (binary-only op xs ys l);
-  carry = λ xs ys d l q a b h e. makes _ (arithmetic-run xs ys l q a b (sym e) B.Add (some d) h tt) (arithmetic-only B.Add xs ys (some d) l);
+          (length-map ts (netValue h s c) ∙ e ∙ sym (length-map es (netValue h s c))))));
+  un = λ op xs l q b. run-makes _ (unary-run op xs l q b);
+  bin = λ op w xs ys l q a b e. run-makes _ (binary-run xs ys l q a b op w e);
+  carry = λ xs ys d l q a b h e. run-makes _ (arithmetic-run xs ys l q a b (sym e) B.Add (some d) h tt);
 }

@@ -1,3 +1,0 @@
--- What the builder's calls give the walk.
-pub mod Records
-pub mod Supply

@@ -1,1 +1,0 @@
-// What the builder's calls give the walk: laws only, in specs/.
