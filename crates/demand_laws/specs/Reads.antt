@@ -27,10 +27,10 @@ head-eq p = cc
 -- ---- before the step: the nets g have the values of the signals' bits v ----
 
 module _ (m : Module) (l : Netlist) (q : Sound l) (t : Table) (s : Setting) (c : Contents) (v : Valuation) (a : Agrees (netValue l s c) v t) where
-  bit-at : (n p : ℕ) → IsBit l t n p → netValue l s c n ≡ v p 0
+  pub bit-at : (n p : ℕ) → IsBit l t n p → netValue l s c n ≡ v p 0
   bit-at n p h = head-eq (h .holds l (later-refl q) s c v a)
 
-  word-at : (ns : List ℕ) (w : Valuation → List Bool) → Holds l t ns w → map (netValue l s c) ns ≡ w v
+  pub word-at : (ns : List ℕ) (w : Valuation → List Bool) → Holds l t ns w → map (netValue l s c) ns ≡ w v
   word-at ns w h = h .holds l (later-refl q) s c v a
 
   enabled-at : (x y : Option Control) → SameControl l t x y → enabled (λ p. v p 0) x ≡ enabled (netValue l s c) y
