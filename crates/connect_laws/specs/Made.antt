@@ -159,7 +159,15 @@ pub record Outputs (m : Module) (l : Netlist) (t : Table) (n : ℕ) : Type 0 whe
   pub made : (p : ℕ) → p < n → dirOf m p ≡ R.Output → Found (portIn (meaningOf l .outputs) p) (λ o. Holds l t (o .nets) (λ v. tab (signalWidth m p) (v p)))
   pub rest : (p : ℕ) → ((p < n) × (dirOf m p ≡ R.Output) → ⊥) → portIn (meaningOf l .outputs) p ≡ none
 
-pub record Connected (m : Module) (st : State) (k : ℕ) (b : ℕ → ℕ) (n : ℕ) : Type 0 where
+-- the limits on nets and list words
+abbrev pub Limited : ℕ × ℕ → Netlist → Type 0
+Limited lim l = (l .maxNets ≡ lim .0) × (l .maxList ≡ lim .1)
+
+pub limited-later : (lim : ℕ × ℕ) {l l′ : Netlist} → Later l l′ → Limited lim l → Limited lim l′
+limited-later lim a h = (a .grew .nets ∙ h .0, a .grew .list ∙ h .1)
+
+pub record Connected (m : Module) (lim : ℕ × ℕ) (st : State) (k : ℕ) (b : ℕ → ℕ) (n : ℕ) : Type 0 where
+  pub limited : Limited lim (st .netlist)
   pub inv : Inv m st
   pub memories : Memories m (st .netlist) (st .signalBits) k
   pub registers : Registers m (st .netlist) (st .signalBits) b
@@ -185,8 +193,10 @@ module _ {m : Module} {l l′ : Netlist} {t t′ : Table} (a : Later l l′) (w 
   }
 
 -- the walk leaves the records as they were
-pub connected-grew : {m : Module} {st st′ : State} {k n : ℕ} {b : ℕ → ℕ} → Connected m st k b n → Inv m st′ → Grew st st′ → Connected m st′ k b n
-connected-grew x i g = record {
+pub connected-grew : {m : Module} {lim : ℕ × ℕ} {st st′ : State} {k n : ℕ} {b : ℕ → ℕ} → Connected m lim st k b n → Inv m st′ → Grew st st′
+    → Connected m lim st′ k b n
+connected-grew {lim} x i g = record {
+  limited = limited-later lim (g .later) (x .limited);
   inv = i;
   memories = memories-later (g .later) (g .more) (memories-same (g .later .grew) (g .cells)) (x .memories);
   registers = registers-later (g .later) (g .more) (registers-same (g .later .grew) (g .cells)) (x .registers);

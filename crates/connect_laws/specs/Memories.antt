@@ -25,7 +25,7 @@ use Rattle.walk_laws.specs.Reads.{AllAsked, AllAfter, read-whole}
 use Rattle.walk_laws.specs.Gates.{Gates}
 use Rattle.walk_laws.specs.Walk.{all-walk}
 use Rattle.record_laws.specs.Back.{memoryPort, wordsOf, ported, port-back, memory-back, memory-back₂}
-use Rattle.connect_laws.specs.Made.{SameControl, SamePort, SameSecond, SameMemory, memory-later, Connected, registers-later, outputs-later, connected-grew, one-memory}
+use Rattle.connect_laws.specs.Made.{limited-later, SameControl, SamePort, SameSecond, SameMemory, memory-later, Connected, registers-later, outputs-later, connected-grew, one-memory}
 use Rattle.connect_laws.specs.Pushed.{asked-append, after-append, control-asked, bit-is, net-there, control-same, control-there, nets-length, memories-one, registers-left, outputs-left, pushed}
 
 -- a port as it is recorded
@@ -139,14 +139,15 @@ module _ (m : Module) (st : State) (i : Inv m st) where
           (memory-back₂ k (x .depth) (x .style) 1 (wordsIn m st (x .first)) (wordsIn m st q) (cellOf m st (x .first)) (cellOf m st q) (port-ported (x .first))
           (back (x .first) h (wordsIn m st q)) (back q g [])) (port-same q g)
 
-module _ (G : Gates) (m : Module) (good : Good m) where
-  memory-pushed : (k : ℕ) (b : ℕ → ℕ) (n : ℕ) (x : Memory) (st : State) → getElem? (m .memories) k ≡ some x → Connected m st k b n → AllAfter st (memorySteps x)
-      → Meets Any (λ st′. Connected m st′ (suc k) b n) (pushRecord (2 ∷ k ∷ x .depth ∷ x .style ∷ 1 ∷ portsWords m st (x .first) (x .second)) st)
+module _ (G : Gates) (m : Module) (good : Good m) (lim : ℕ × ℕ) where
+  memory-pushed : (k : ℕ) (b : ℕ → ℕ) (n : ℕ) (x : Memory) (st : State) → getElem? (m .memories) k ≡ some x → Connected m lim st k b n → AllAfter st (memorySteps x)
+      → Meets Any (λ st′. Connected m lim st′ (suc k) b n) (pushRecord (2 ∷ k ∷ x .depth ∷ x .style ∷ 1 ∷ portsWords m st (x .first) (x .second)) st)
   memory-pushed k b n x st e c h =
       let y = first-ready m st x h in
       let r = recorded m st (c .inv) k x (y .0) (y .1) in
       let w : List ℕ = 2 ∷ k ∷ x .depth ∷ x .style ∷ 1 ∷ portsWords m st (x .first) (x .second) in
-      pushed (λ st′. Connected m st′ (suc k) b n) w st (c .inv .sound) (r .formed) (omega arith) (omega arith) (λ a. record {
+      pushed (λ st′. Connected m lim st′ (suc k) b n) w st (c .inv .sound) (r .formed) (omega arith) (omega arith) (λ a. record {
+        limited = limited-later lim a (c .limited);
         inv = inv-netlist m st (withRecord w (st .netlist)) (c .inv) a;
         memories = one-memory m (st .netlist) (withRecord w (st .netlist)) (st .signalBits) a k x (memoryOf w) e (r .index) (memory-later m a more-refl x (memoryOf w) (r .same))
             (memories-one w (st .netlist) refl) (c .memories);
@@ -155,15 +156,15 @@ module _ (G : Gates) (m : Module) (good : Good m) where
       })
 
   pub memories-walk : (k : ℕ) (b : ℕ → ℕ) (n : ℕ) (xs : List Memory) → ((j : ℕ) (x : Memory) → getElem? xs j ≡ some x → getElem? (m .memories) (k + j) ≡ some x)
-      → (st : State) → Connected m st k b n → Meets Any (λ st′. Connected m st′ (k + length xs) b n) (connectMemories m false k xs st)
+      → (st : State) → Connected m lim st k b n → Meets Any (λ st′. Connected m lim st′ (k + length xs) b n) (connectMemories m false k xs st)
   unfolding connectMemories
   memories-walk k b n [] f st c = let z : k + 0 ≡ k = omega arith in rw z c
   memories-walk k b n (x ∷ xs) f st c =
       let e : getElem? (m .memories) k ≡ some x = let z : k + 0 ≡ k = omega arith in rw z at (f 0 x refl) in
       let g = good .memories k x e in
       let w = all-walk G m good (memorySteps x) st (c .inv) (steps-asked m x (g .first) (g .second)) in
-      meets-bind Any (Kept m st (λ st′. AllAfter st′ (memorySteps x))) (λ st′. Connected m st′ (k + suc (length xs)) b n) (lowerAll m false (memorySteps x) st) _ (w .walks) (λ st₁ q.
-      meets-bind Any (λ st′. Connected m st′ (suc k) b n) (λ st′. Connected m st′ (k + suc (length xs)) b n)
+      meets-bind Any (Kept m st (λ st′. AllAfter st′ (memorySteps x))) (λ st′. Connected m lim st′ (k + suc (length xs)) b n) (lowerAll m false (memorySteps x) st) _ (w .walks) (λ st₁ q.
+      meets-bind Any (λ st′. Connected m lim st′ (suc k) b n) (λ st′. Connected m lim st′ (k + suc (length xs)) b n)
       (pushRecord (2 ∷ k ∷ x .depth ∷ x .style ∷ 1 ∷ portsWords m st₁ (x .first) (x .second)) st₁) _
       (memory-pushed k b n x st₁ e (connected-grew c (q .inv) (q .grew)) (q .post))
       (λ st₂ c₂. let z : k + suc (length xs) ≡ suc k + length xs = omega arith in

@@ -32,7 +32,7 @@ use Rattle.walk_laws.specs.Reads.{AllAsked, AllAfter, below-at, map-at, read-wh
 use Rattle.walk_laws.specs.Gates.{Gates}
 use Rattle.walk_laws.specs.Walk.{all-walk}
 use Rattle.record_laws.specs.Back.{There, ThereReset, bitOf, register-back}
-use Rattle.connect_laws.specs.Made.{IsConstant, SameReset, SameBit, bit-later, Connected, memories-later, outputs-later, connected-grew, one-bit}
+use Rattle.connect_laws.specs.Made.{limited-later, IsConstant, SameReset, SameBit, bit-later, Connected, memories-later, outputs-later, connected-grew, one-bit}
 use Rattle.connect_laws.specs.Pushed.{asked-append, after-append, control-asked, all-after-netlist, bit-is, net-there, control-same, control-there, memories-left, registers-one, outputs-left, pushed}
 
 reset-asked : (m : Module) (o : Option Reset) → ((x : Reset) → o ≡ some x → x .value < length (m .exprs)) → AllAsked m (resetSteps o)
@@ -68,7 +68,11 @@ bit-back : (v : Bool) → eqb (bitWord v) 1 ≡ v
 bit-back true = refl
 bit-back false = refl
 
-module _ (m : Module) (good : Good m) where
+-- the bits of register k
+abbrev pub bitsOf : Module → ℕ → ℕ
+bitsOf m k = perhaps 0 (λ (r : Register). signalWidth m (r .target)) (getElem? (m .registers) k)
+
+module _ (m : Module) (good : Good m) (lim : ℕ × ℕ) where
   module _ (st : State) (i : Inv m st) (e : ℕ) (here : e < length (m .exprs)) (h : Has (whole st e)) (b : ℕ) (fits : b < widthAt (m .exprs) e) where
     into : b < length (wholeNets st e)
     into = omega (arith, whole-length m st i (good .exprs) e here h)
@@ -91,9 +95,9 @@ module _ (m : Module) (good : Good m) where
 
   module _ (k : ℕ) (r : Register) (at : getElem? (m .registers) k ≡ some r) where
     abbrev One : ℕ → ℕ → (ℕ → ℕ) → ℕ → State → Type 0
-    One j n f b st′ = Connected m st′ j (λ x. cond (eqb x k) (suc b) (f x)) n × AllAfter st′ (registerSteps r)
+    One j n f b st′ = Connected m lim st′ j (λ x. cond (eqb x k) (suc b) (f x)) n × AllAfter st′ (registerSteps r)
 
-    module _ (j n : ℕ) (f : ℕ → ℕ) (st : State) (c : Connected m st j f n) (h : AllAfter st (registerSteps r)) (w : f k < signalWidth m (r .target)) where
+    module _ (j n : ℕ) (f : ℕ → ℕ) (st : State) (c : Connected m lim st j f n) (h : AllAfter st (registerSteps r)) (w : f k < signalWidth m (r .target)) where
       g : GoodRegister m k r
       g = good .registers k r at
 
@@ -114,6 +118,7 @@ module _ (m : Module) (good : Good m) where
                 reset = s;
               }) in
           pushed (One j n f (f k)) v st (i .sound) (formed-register _ (words-long k (f k) (signalNet st (r .target) (f k)) (wholeNet st (r .next) (f k)) (signalNet st (r .clock) 0) (lowWord (r .rising)) o q)) (omega arith) (omega arith) (λ a. (record {
+            limited = limited-later lim a (c .limited);
             inv = inv-netlist m st (withRecord v (st .netlist)) i a;
             memories = memories-later a more-refl (memories-left v (st .netlist) (λ z. omega arith)) (c .memories);
             registers = one-bit m (st .netlist) (withRecord v (st .netlist)) (st .signalBits) a k r (registerBitOf v) f at (rw back) (rw back)
@@ -140,11 +145,11 @@ module _ (m : Module) (good : Good m) where
     -- its first e bits are done, and no other register's
     record Done (j n : ℕ) (f : ℕ → ℕ) (e : ℕ) (st : State) : Type 0 where
       pub bits : ℕ → ℕ
-      pub connected : Connected m st j bits n
+      pub connected : Connected m lim st j bits n
       pub here : bits k ≡ e
       pub others : (x : ℕ) → (x ≡ k → ⊥) → bits x ≡ f x
 
-    bits-run : (w b j n : ℕ) (f : ℕ → ℕ) (st : State) → f k ≡ b → b + w ≤ signalWidth m (r .target) → Connected m st j f n → AllAfter st (registerSteps r)
+    bits-run : (w b j n : ℕ) (f : ℕ → ℕ) (st : State) → f k ≡ b → b + w ≤ signalWidth m (r .target) → Connected m lim st j f n → AllAfter st (registerSteps r)
         → Meets Any (Done j n f (b + w)) (registerBits k r b w st)
     unfolding registerBits
     bits-run zero b j n f st e h c a = record { bits = f; connected = c; here = e ∙ omega arith; others = λ x d. refl }
@@ -161,13 +166,10 @@ module _ (m : Module) (good : Good m) where
 
   -- ---- all registers ----
 
-  abbrev pub bitsOf : ℕ → ℕ
-  bitsOf k = perhaps 0 (λ (r : Register). signalWidth m (r .target)) (getElem? (m .registers) k)
-
   pub record AllBits (j n : ℕ) (st : State) : Type 0 where
     pub bits : ℕ → ℕ
-    pub connected : Connected m st j bits n
-    pub all : (k : ℕ) → bits k ≡ bitsOf k
+    pub connected : Connected m lim st j bits n
+    pub all : (k : ℕ) → bits k ≡ bitsOf m k
 
   past : {A : Type 0} (xs : List A) (k : ℕ) → length xs ≤ k → getElem? xs k ≡ none
   past [] k h = refl
@@ -176,12 +178,12 @@ module _ (m : Module) (good : Good m) where
 
   module _ (G : Gates) where
     pub registers-walk : (k : ℕ) (rs : List Register) → ((j : ℕ) (r : Register) → getElem? rs j ≡ some r → getElem? (m .registers) (k + j) ≡ some r)
-        → k + length rs ≡ length (m .registers) → (j n : ℕ) (f : ℕ → ℕ) → ((x : ℕ) → x < k → f x ≡ bitsOf x) → ((x : ℕ) → k ≤ x → f x ≡ 0)
-        → (st : State) → Connected m st j f n → Meets Any (AllBits j n) (connectRegisters m false k rs st)
+        → k + length rs ≡ length (m .registers) → (j n : ℕ) (f : ℕ → ℕ) → ((x : ℕ) → x < k → f x ≡ bitsOf m x) → ((x : ℕ) → k ≤ x → f x ≡ 0)
+        → (st : State) → Connected m lim st j f n → Meets Any (AllBits j n) (connectRegisters m false k rs st)
     unfolding connectRegisters
     registers-walk k [] g e j n f lo hi st c = record { bits = f; connected = c; all = λ x. all x (decLt x k) }
       where
-        all : (x : ℕ) → Dec (x < k) → f x ≡ bitsOf x
+        all : (x : ℕ) → Dec (x < k) → f x ≡ bitsOf m x
         all x (yes h) = lo x h
         all x (no h) = hi x (omega arith) ∙ rw (past (m .registers) x (omega arith))
     registers-walk k (r ∷ rs) g e j n f lo hi st c =
@@ -193,6 +195,6 @@ module _ (m : Module) (good : Good m) where
         (λ st₂ d. registers-walk (suc k) rs (λ x y p. let v : k + suc x ≡ suc k + x = omega arith in rw v at (g (suc x) y p)) (omega arith) j n (d .bits)
           (λ x h. low at (d .bits) (d .here) (d .others) x h (ℕ-discrete x k)) (λ x h. d .others x (λ z. omega arith) ∙ hi x (omega arith)) st₂ (d .connected)))
       where
-        low : getElem? (m .registers) k ≡ some r → (b : ℕ → ℕ) → b k ≡ 0 + signalWidth m (r .target) → ((x : ℕ) → (x ≡ k → ⊥) → b x ≡ f x) → (x : ℕ) → x < suc k → Dec (x ≡ k) → b x ≡ bitsOf x
+        low : getElem? (m .registers) k ≡ some r → (b : ℕ → ℕ) → b k ≡ 0 + signalWidth m (r .target) → ((x : ℕ) → (x ≡ k → ⊥) → b x ≡ f x) → (x : ℕ) → x < suc k → Dec (x ≡ k) → b x ≡ bitsOf m x
         low at b h o x l (yes z) = rw (z, at) (h ∙ omega arith)
         low at b h o x l (no z) = o x z ∙ lo x (omega arith)

@@ -37,7 +37,7 @@ use Rattle.walk_laws.specs.Tables.{none-some, some-eq, Has, Shaped, filled}
 use Rattle.walk_laws.specs.Good.{Good}
 use Rattle.walk_laws.specs.Kept.{Any, Agrees, Wide, Settles, Inv, HoldsRow}
 use Rattle.walk_laws.specs.Reads.{below-at, map-at}
-use Rattle.connect_laws.specs.Made.{Connected}
+use Rattle.connect_laws.specs.Made.{Limited, limited-later, Connected}
 use Rattle.connect_laws.specs.Drivers.{input-driver, register-driver, first-driver, second-driver}
 
 -- ---- lists ----
@@ -86,7 +86,8 @@ shaped b w xs d wide e = record {
 
 -- ---- what holds while sources are reserved ----
 
-pub record Reserved (m : Module) (st : State) : Type 0 where
+pub record Reserved (m : Module) (lim : ℕ × ℕ) (st : State) : Type 0 where
+  pub limited : Limited lim (st .netlist)
   pub sound : Sound (st .netlist)
   pub bits : Shaped (length (m .signals)) (signalWidth m) (st .signalBits)
   pub nets : (p i n : ℕ) → cell none (st .signalBits) p i ≡ some n → n < count (st .netlist)
@@ -99,9 +100,10 @@ pub record Reserved (m : Module) (st : State) : Type 0 where
   pub registers : meaningOf (st .netlist) .registers ≡ []
   pub outputs : meaningOf (st .netlist) .outputs ≡ []
 
-pub started : (m : Module) (n p : ℕ) → n ≤ absent → Reserved m (start m n p)
+pub started : (m : Module) (n p : ℕ) → n ≤ absent → Reserved m (n, p) (start m n p)
 unfolding start meaningOf recordsWith only
 started m n p h = record {
+  limited = (refl, refl);
   sound = sound-empty n p h;
   bits = shaped none (λ (s : Sig). s .width) (m .signals) (record { width = 0; dir = R.Internal }) (signalWidth m) (λ i. refl);
   nets = λ q i k e. absurd (none-some (sym (blank (λ (s : Sig). s .width) (m .signals) q i) ∙ e));
@@ -131,7 +133,7 @@ stands-length {l} {ns} w f q a =
     let c : Contents = record { reg = λ k i. false; dat = λ k b i. false; mem = λ k a i. false } in
     sym (length-map ns (netValue l s c)) ∙ ap length (a .are l (later-refl q) s c) ∙ length-tab w (f l s c)
 
-module _ (m : Module) (st : State) (i : Reserved m st) (s : ℕ) (here : s < length (m .signals)) (ns : List ℕ) (l : Netlist) (r : Row m (st .netlist) s (ns, l)) where
+module _ (m : Module) (lim : ℕ × ℕ) (st : State) (i : Reserved m lim st) (s : ℕ) (here : s < length (m .signals)) (ns : List ℕ) (l : Netlist) (r : Row m (st .netlist) s (ns, l)) where
   wide : length ns ≡ signalWidth m s
   wide = stands-length (signalWidth m s) (r .values) (r .later .sound) (r .stands)
 
@@ -142,9 +144,10 @@ module _ (m : Module) (st : State) (i : Reserved m st) (s : ℕ) (here : s < len
       ∙ (rw q at e)) in inl (q, x .0, x .1)
   row-at p j n e (no g) = inr (sym (ap (λ (t : List (Option ℕ)). getD t j none) (getD-set-other (st .signalBits) s p (map some ns) [] g)) ∙ e)
 
-  reserved-row : Reserved m (setSignal (withNetlist st l) s ns)
+  reserved-row : Reserved m lim (setSignal (withNetlist st l) s ns)
   unfolding setSignal
   reserved-row = record {
+    limited = limited-later lim (r .later) (i .limited);
     sound = r .later .sound;
     bits = record {
       rows = length-set (st .signalBits) s (map some ns) ∙ i .bits .rows;
@@ -174,10 +177,10 @@ module _ (m : Module) (st : State) (i : Reserved m st) (s : ℕ) (here : s < len
       cells p h (yes q) = rw q (ap length (getD-set-same (st .signalBits) s (map some ns) [] (omega (arith, i .bits .rows))) ∙ length-map ns (λ (n : ℕ). some n) ∙ wide)
       cells p h (no g) = ap length (getD-set-other (st .signalBits) s p (map some ns) [] g) ∙ i .bits .cells p h
 
-reserved : (m : Module) (st : State) → Reserved m st → (s : ℕ) → s < length (m .signals) → (R : ℕ → ℕ → ℕ → Type 0) (o : Made (List ℕ)) → Meets R (Row m (st .netlist) s) o
-    → Meets Any (Reserved m) (reserve st s o)
-reserved m st i s here R (refused n x y) w = tt
-reserved m st i s here R (done r) w = reserved-row m st i s here (r .0) (r .1) w
+reserved : (m : Module) (lim : ℕ × ℕ) (st : State) → Reserved m lim st → (s : ℕ) → s < length (m .signals) → (R : ℕ → ℕ → ℕ → Type 0) (o : Made (List ℕ)) → Meets R (Row m (st .netlist) s) o
+    → Meets Any (Reserved m lim) (reserve st s o)
+reserved m lim st i s here R (refused n x y) w = tt
+reserved m lim st i s here R (done r) w = reserved-row m lim st i s here (r .0) (r .1) w
 
 built-row : (m : Module) (l : Netlist) (s : ℕ) (ns : List ℕ) (l′ : Netlist) → Sound l → (f : At (ℕ → Bool)) (P : List ℕ → Netlist → Type 0) → Built l P (ns, l′)
     → StandsAll l′ ns (λ h x c. tab (signalWidth m s) (f h x c))
@@ -193,7 +196,7 @@ built-row m l s ns l′ q f P b a d = record {
   outputs = outputs-same (b .later .grew) (b .cells) q;
 }
 
-module _ (m : Module) (g : Good m) where
+module _ (m : Module) (g : Good m) (lim : ℕ × ℕ) where
   -- ---- inputs ----
 
   input-row : (l : Netlist) → Sound l → (s w : ℕ) → dirOf m s ≡ R.Input → signalWidth m s ≡ w → 0 < w → (r : List ℕ × Netlist) → InputPort s w l r → Row m l s r
@@ -208,12 +211,12 @@ module _ (m : Module) (g : Good m) where
     outputs = input-outputs s l (r .0) (r .1) w q h p;
   }
 
-  inputs-run : (s : ℕ) (xs : List Sig) → ((j : ℕ) (x : Sig) → getElem? xs j ≡ some x → getElem? (m .signals) (s + j) ≡ some x) → (st : State) → Reserved m st
-      → Meets Any (Reserved m) (reserveInputs s xs st)
+  inputs-run : (s : ℕ) (xs : List Sig) → ((j : ℕ) (x : Sig) → getElem? xs j ≡ some x → getElem? (m .signals) (s + j) ≡ some x) → (st : State) → Reserved m lim st
+      → Meets Any (Reserved m lim) (reserveInputs s xs st)
   unfolding reserveInputs
   inputs-run s [] f st i = i
   inputs-run s (x ∷ xs) f st i =
-      meets-bind Any (Reserved m) (Reserved m) (reserveInput (x .dir) s (x .width) st) _ (one (x .dir) refl)
+      meets-bind Any (Reserved m lim) (Reserved m lim) (reserveInput (x .dir) s (x .width) st) _ (one (x .dir) refl)
       (λ st₁ i₁. inputs-run (suc s) xs (λ j y e. let z : s + suc j ≡ suc s + j = omega arith in rw z at (f (suc j) y e)) st₁ i₁)
     where
       at : getElem? (m .signals) s ≡ some x
@@ -222,34 +225,34 @@ module _ (m : Module) (g : Good m) where
       is : getD (m .signals) s (record { width = 0; dir = R.Internal }) ≡ x
       is = got (m .signals) s x (record { width = 0; dir = R.Internal }) at
 
-      one : (d : Dir) → x .dir ≡ d → Meets Any (Reserved m) (reserveInput d s (x .width) st)
+      one : (d : Dir) → x .dir ≡ d → Meets Any (Reserved m lim) (reserveInput d s (x .width) st)
       one R.Internal e = i
       one R.Output e = i
       one R.Input e =
           let w : signalWidth m s ≡ x .width = ap (λ (y : Sig). y .width) is in
           let b = inside (m .signals) s x at in
-          reserved m st i s b Limit (addInputPort s (x .width) (st .netlist))
+          reserved m lim st i s b Limit (addInputPort s (x .width) (st .netlist))
           (meets-map Limit Limit (InputPort s (x .width) (st .netlist)) (Row m (st .netlist) s) (addInputPort s (x .width) (st .netlist)) (input-port-run s (x .width) (st .netlist) (i .sound))
           (λ n y z h. h) (λ r p. input-row (st .netlist) (i .sound) s (x .width) (ap (λ (y : Sig). y .dir) is ∙ e) w (omega (arith, g .signals s b)) r p))
 
   -- ---- registers ----
 
-  registers-run : (k : ℕ) (rs : List Register) → ((j : ℕ) (r : Register) → getElem? rs j ≡ some r → getElem? (m .registers) (k + j) ≡ some r) → (st : State) → Reserved m st
-      → Meets Any (Reserved m) (reserveRegisters m k rs st)
+  registers-run : (k : ℕ) (rs : List Register) → ((j : ℕ) (r : Register) → getElem? rs j ≡ some r → getElem? (m .registers) (k + j) ≡ some r) → (st : State) → Reserved m lim st
+      → Meets Any (Reserved m lim) (reserveRegisters m k rs st)
   unfolding reserveRegisters
   registers-run k [] f st i = i
   registers-run k (r ∷ rs) f st i =
-      meets-bind Any (Reserved m) (Reserved m) (reserveBits m 7 k 0 (r .target) st) _ one
+      meets-bind Any (Reserved m lim) (Reserved m lim) (reserveBits m 7 k 0 (r .target) st) _ one
       (λ st₁ i₁. registers-run (suc k) rs (λ j y e. let z : k + suc j ≡ suc k + j = omega arith in rw z at (f (suc j) y e)) st₁ i₁)
     where
       at : getElem? (m .registers) k ≡ some r
       at = let z : k + 0 ≡ k = omega arith in rw z at (f 0 r refl)
 
-      one : Meets Any (Reserved m) (reserveBits m 7 k 0 (r .target) st)
+      one : Meets Any (Reserved m lim) (reserveBits m 7 k 0 (r .target) st)
       one =
           let w = signalWidth m (r .target) in
           let q = register-run k 0 w (st .netlist) (i .sound) in
-          reserved m st i (r .target) (g .registers k r at .inside) Limit (addNodes (source 7 k) 0 w (st .netlist))
+          reserved m lim st i (r .target) (g .registers k r at .inside) Limit (addNodes (source 7 k) 0 w (st .netlist))
           (meets-map Limit Limit _ (Row m (st .netlist) (r .target)) (addNodes (source 7 k) 0 w (st .netlist)) (q .run) (λ n y z h. h)
           (λ x p. built-row m (st .netlist) (r .target) (x .0) (x .1) (i .sound) (λ h y c j. c .reg k (0 + j)) _ p (p .post .stands)
             (λ h d y c v j b. rw (register-driver m g k r j at, zero-add j))))
@@ -262,34 +265,34 @@ module _ (m : Module) (g : Good m) where
   second-value : (c : Contents) (k w j : ℕ) → memoryBit c k w (w + j) ≡ c .dat k true j
   second-value c k w j = rw (le-ltb (w + j) w (omega arith)) (ap (c .dat k true) {x = w + j - w} {y = j} (omega arith))
 
-  memory-bits : (k b p : ℕ) (st : State) → Reserved m st → p < length (m .signals)
+  memory-bits : (k b p : ℕ) (st : State) → Reserved m lim st → p < length (m .signals)
       → ((h : Netlist) → Wide m h → (x : Setting) (c : Contents) (v : Valuation) (j : ℕ) → j < signalWidth m p
         → bitBy m x c v p j (driver m p j) ≡ memoryBit c k (dataWidth (meaningOf h) k) (b + j))
-      → Meets Any (Reserved m) (reserveBits m 9 k b p st)
+      → Meets Any (Reserved m lim) (reserveBits m 9 k b p st)
   memory-bits k b p st i here d =
       let w = signalWidth m p in
       let q = memory-run k b w (st .netlist) (i .sound) in
-      reserved m st i p here Limit (addNodes (source 9 k) b w (st .netlist))
+      reserved m lim st i p here Limit (addNodes (source 9 k) b w (st .netlist))
       (meets-map Limit Limit _ (Row m (st .netlist) p) (addNodes (source 9 k) b w (st .netlist)) (q .run) (λ n y z h. h)
       (λ x a. built-row m (st .netlist) p (x .0) (x .1) (i .sound) (λ h y c j. memoryBit c k (dataWidth (meaningOf h) k) (b + j)) _ a (a .post .stands) d))
 
-  memories-run : (k : ℕ) (xs : List Memory) → ((j : ℕ) (x : Memory) → getElem? xs j ≡ some x → getElem? (m .memories) (k + j) ≡ some x) → (st : State) → Reserved m st
-      → Meets Any (Reserved m) (reserveMemories m k xs st)
+  memories-run : (k : ℕ) (xs : List Memory) → ((j : ℕ) (x : Memory) → getElem? xs j ≡ some x → getElem? (m .memories) (k + j) ≡ some x) → (st : State) → Reserved m lim st
+      → Meets Any (Reserved m lim) (reserveMemories m k xs st)
   unfolding reserveMemories
   memories-run k [] f st i = i
   memories-run k (x ∷ xs) f st i =
-      meets-bind Any (Reserved m) (Reserved m) (reserveBits m 9 k 0 (x .first .readData) st) _ first (λ st₁ i₁.
-      meets-bind Any (Reserved m) (Reserved m) (reserveSecond m k (signalWidth m (x .first .readData)) (x .second) st₁) _ (second st₁ i₁ (x .second) refl)
+      meets-bind Any (Reserved m lim) (Reserved m lim) (reserveBits m 9 k 0 (x .first .readData) st) _ first (λ st₁ i₁.
+      meets-bind Any (Reserved m lim) (Reserved m lim) (reserveSecond m k (signalWidth m (x .first .readData)) (x .second) st₁) _ (second st₁ i₁ (x .second) refl)
       (λ st₂ i₂. memories-run (suc k) xs (λ j y e. let z : k + suc j ≡ suc k + j = omega arith in rw z at (f (suc j) y e)) st₂ i₂))
     where
       at : getElem? (m .memories) k ≡ some x
       at = let z : k + 0 ≡ k = omega arith in rw z at (f 0 x refl)
 
-      first : Meets Any (Reserved m) (reserveBits m 9 k 0 (x .first .readData) st)
+      first : Meets Any (Reserved m lim) (reserveBits m 9 k 0 (x .first .readData) st)
       first = memory-bits k 0 (x .first .readData) st i (g .memories k x at .first .inside)
           (λ h w y c v j b. rw (first-driver m g k x j at, w .wide k x at) (sym (first-value c k (signalWidth m (x .first .readData)) j b)))
 
-      second : (st₁ : State) → Reserved m st₁ → (o : Option Port) → x .second ≡ o → Meets Any (Reserved m) (reserveSecond m k (signalWidth m (x .first .readData)) o st₁)
+      second : (st₁ : State) → Reserved m lim st₁ → (o : Option Port) → x .second ≡ o → Meets Any (Reserved m lim) (reserveSecond m k (signalWidth m (x .first .readData)) o st₁)
       second st₁ i₁ none e = i₁
       second st₁ i₁ (some p) e = memory-bits k (signalWidth m (x .first .readData)) (p .readData) st₁ i₁ (g .memories k x at .second p e .inside)
           (λ h w y c v j b. rw (second-driver m g k x p j at e, w .wide k x at) (sym (second-value c k (signalWidth m (x .first .readData)) j)))
@@ -299,18 +302,19 @@ module _ (m : Module) (g : Good m) where
   self : {A : Type 0} (xs : List A) (j : ℕ) (x : A) → getElem? xs j ≡ some x → getElem? xs (0 + j) ≡ some x
   self xs j x e = rw (zero-add j) e
 
-  pub sources-run : (st : State) → Reserved m st → Meets Any (Reserved m) (reserveSources m st)
+  pub sources-run : (st : State) → Reserved m lim st → Meets Any (Reserved m lim) (reserveSources m st)
   unfolding reserveSources
   sources-run st i =
-      meets-bind Any (Reserved m) (Reserved m) (reserveInputs 0 (m .signals) st) _ (inputs-run 0 (m .signals) (self (m .signals)) st i) (λ st₁ i₁.
-      meets-bind Any (Reserved m) (Reserved m) (reserveRegisters m 0 (m .registers) st₁) _ (registers-run 0 (m .registers) (self (m .registers)) st₁ i₁) (λ st₂ i₂.
+      meets-bind Any (Reserved m lim) (Reserved m lim) (reserveInputs 0 (m .signals) st) _ (inputs-run 0 (m .signals) (self (m .signals)) st i) (λ st₁ i₁.
+      meets-bind Any (Reserved m lim) (Reserved m lim) (reserveRegisters m 0 (m .registers) st₁) _ (registers-run 0 (m .registers) (self (m .registers)) st₁ i₁) (λ st₂ i₂.
       memories-run 0 (m .memories) (self (m .memories)) st₂ i₂))
 
 -- ---- what the walk starts from ----
 
-pub connected : (m : Module) (st : State) → Reserved m st → Connected m st 0 (λ j. 0) 0
+pub connected : (m : Module) (lim : ℕ × ℕ) (st : State) → Reserved m lim st → Connected m lim st 0 (λ j. 0) 0
 unfolding whole
-connected m st i = record {
+connected m lim st i = record {
+  limited = i .limited;
   inv = record {
     sound = i .sound;
     bits = i .bits;

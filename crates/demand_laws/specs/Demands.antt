@@ -19,13 +19,15 @@ use Rattle.meaning.specs.Step.{Setting, Contents, perhaps, Load, Accesses, Read
 use Rattle.model.specs.Words.{Netlist, absent, words}
 use Rattle.model.specs.Builder.{Out, done}
 use Rattle.model.specs.Lowering.{State, cell, whole, expressionNet, signalWidth, lowerState}
+use Rattle.netlist_view.specs.View.{Fit}
+use Rattle.netlist_view.specs.Laws.{length-words}
 use Rattle.netlist_laws.specs.Meaning.{meaningOf, netValue}
 use Rattle.netlist_laws.specs.Sound.{Sound, Later}
-use Rattle.netlist_laws.specs.Run.{later-refl}
-use Rattle.netlist_laws.specs.Image.{words-netlist, sound-fit}
+use Rattle.netlist_laws.specs.Run.{later-refl, Meets}
+use Rattle.netlist_laws.specs.Image.{words-netlist}
 use Rattle.walk_laws.specs.Tables.{none-some, some-eq, filled-le}
 use Rattle.walk_laws.specs.Good.{Good}
-use Rattle.walk_laws.specs.Kept.{Table, Agrees, Holds, Wide, Inv}
+use Rattle.walk_laws.specs.Kept.{Any, Table, Agrees, Holds, Wide, Inv}
 use Rattle.record_laws.specs.Find.{memory-find, bit-find, port-find}
 use Rattle.connect_laws.specs.Made.{bitIn, portIn, IsBit, SamePort, SameSecond, SameMemory, SameBit, Found, Connected}
 use Rattle.connect_laws.specs.Drivers.{input-driver}
@@ -77,7 +79,7 @@ output-there m p e = elim (decLt p (length (m .signals))) [
         let y : _≡_ {A = ℕ} 0 1 = cc in absurd (omega arith))
 ]
 
-module _ (m : Module) (good : Good m) (st : State) (w : Lowered m good st) where
+module _ (m : Module) (good : Good m) (lim : ℕ × ℕ) (st : State) (w : Lowered m good lim st) where
   abbrev L : Netlist
   L = st .netlist
 
@@ -222,3 +224,88 @@ module _ (m : Module) (good : Good m) (st : State) (w : Lowered m good st) where
         memory = λ k. memories-read u s c t ported k i;
       })
       c settings
+
+  -- ---- the module has one run ----
+
+  -- the clocks and resets need be no ports for this
+  module _ (u u′ : Valuation) where
+    register-alike : (s : Setting) (c : Contents) (t : Setting) (k i : ℕ)
+        → perhaps none (λ (r : R.Register). cond (ltb i (widthOf m (r .target))) (some (moduleLoad (word (m .exprs) (settled m u s c)) (settled m u s c) t i r)) none) (getElem? (m .registers) k)
+        ≡ perhaps none (λ (r : R.Register). cond (ltb i (widthOf m (r .target))) (some (moduleLoad (word (m .exprs) (settled m u′ s c)) (settled m u′ s c) t i r)) none) (getElem? (m .registers) k)
+    register-alike s c t k i = go (getElem? (m .registers) k) refl
+      where
+        one : (r : R.Register) → getElem? (m .registers) k ≡ some r → (z : Bool) → ltb i (widthOf m (r .target)) ≡ z
+            → cond z (some (moduleLoad (word (m .exprs) (settled m u s c)) (settled m u s c) t i r)) none ≡ cond z (some (moduleLoad (word (m .exprs) (settled m u′ s c)) (settled m u′ s c) t i r)) none
+        one r e true z =
+            let a : w .bits k ≡ signalWidth m (r .target) = w .all k ∙ rw e in
+            let f = w .connected .registers .made k i r (omega (arith, ltb-true i (widthOf m (r .target)) z)) e in
+            ap some (register-half u s c t k i r (f .value) (f .holds) ∙ sym (register-half u′ s c t k i r (f .value) (f .holds)))
+        one r e false z = refl
+
+        go : (o : Option R.Register) → getElem? (m .registers) k ≡ o
+            → perhaps none (λ (r : R.Register). cond (ltb i (widthOf m (r .target))) (some (moduleLoad (word (m .exprs) (settled m u s c)) (settled m u s c) t i r)) none) o
+            ≡ perhaps none (λ (r : R.Register). cond (ltb i (widthOf m (r .target))) (some (moduleLoad (word (m .exprs) (settled m u′ s c)) (settled m u′ s c) t i r)) none) o
+        go none e = refl
+        go (some r) e = one r e (ltb i (widthOf m (r .target))) refl
+
+    module _ (s : Setting) (c : Contents) (t : Setting) where
+      port-alike : (p : R.Port) (b : N.MemoryPort) → SamePort m L (st .signalBits) p b
+          → moduleAccess (word (m .exprs) (settled m u s c)) (settled m u s c) t p ≡ moduleAccess (word (m .exprs) (settled m u′ s c)) (settled m u′ s c) t p
+      port-alike p b h = port-half u s c t p b h ∙ sym (port-half u′ s c t p b h)
+
+      second-alike : (p : Option R.Port) (b : Option N.MemoryPort) → SameSecond m L (st .signalBits) p b
+          → Option·map (moduleAccess (word (m .exprs) (settled m u s c)) (settled m u s c) t) p ≡ Option·map (moduleAccess (word (m .exprs) (settled m u′ s c)) (settled m u′ s c) t) p
+      second-alike none b h = refl
+      second-alike (some p) none h = absurd h
+      second-alike (some p) (some b) h = ap some (port-alike p b h)
+
+      memory-alike : (k : ℕ) → Option·map (moduleAccesses (word (m .exprs) (settled m u s c)) (settled m u s c) t) (getElem? (m .memories) k)
+          ≡ Option·map (moduleAccesses (word (m .exprs) (settled m u′ s c)) (settled m u′ s c) t) (getElem? (m .memories) k)
+      memory-alike k = go (getElem? (m .memories) k) refl
+        where
+          go : (o : Option R.Memory) → getElem? (m .memories) k ≡ o → Option·map (moduleAccesses (word (m .exprs) (settled m u s c)) (settled m u s c) t) o
+              ≡ Option·map (moduleAccesses (word (m .exprs) (settled m u′ s c)) (settled m u′ s c) t) o
+          go none e = refl
+          go (some x) e =
+              let f = memory-is k x e in
+              ap some (rw (port-alike (x .first) (f .value .first) (f .holds .first), second-alike (x .second) (f .value .second) (f .holds .second)))
+
+    pub one-run : (c : Contents) (settings : List Setting) → run (ofModule m u) c settings ≡ run (ofModule m u′) c settings
+    one-run c settings = run-alike (ofModule m u) (ofModule m u′)
+        (λ s c. fun-ext (λ p. fun-ext (λ i. shown u s c p i ∙ sym (shown u′ s c p i))))
+        (λ s c t i. record { register = λ k b. register-alike s c t k b i; memory = λ k. memory-alike s c t k i })
+        c settings
+
+  -- ---- the image ----
+
+  fit : Fit (lim .0) (lim .1) L
+  fit =
+      let q = inv .sound in
+      let e = w .connected .limited in
+      record { nets = e .0; list = e .1; few = omega (arith, q .few, e .0); short = omega (arith, q .short, e .1); formed = q .formed }
+
+  pub image : netlist (words (lim .0) (lim .1) L) ≡ meaningOf L
+  image = words-netlist (lim .0) (lim .1) L fit
+
+  pub image-length : length (words (lim .0) (lim .1) L) ≡ 16 + 6 * lim .0 + lim .1
+  image-length = length-words (lim .0) (lim .1) L fit
+
+-- ---- of a lowering that succeeds ----
+
+module _ (m : Module) (good : Good m) (n p : ℕ) (small : n ≤ absent) (st : State) (ok : lowerState false m n p ≡ done st) where
+  end : Lowered m good (n, p) st
+  end = subst (λ (o : Out State). Meets Any (Lowered m good (n, p)) o) ok (lowered m good (n, p) small)
+
+  pub demand2 : Demand2 m (netlist (words n p (st .netlist))) (expressionNet st)
+  unfolding netValue
+  demand2 = rw (image m good (n, p) st end) (expressions m good (n, p) st end)
+
+  pub demand3 : Demand3 m (netlist (words n p (st .netlist)))
+  demand3 = rw (image m good (n, p) st end) (runs m good (n, p) st end)
+
+  -- the settled values, and so the module's run, do not hang on the values before the first round
+  pub determined : (u u′ : Valuation) (c : Contents) (settings : List Setting) → run (ofModule m u) c settings ≡ run (ofModule m u′) c settings
+  determined u u′ c settings = one-run m good (n, p) st end u u′ c settings
+
+  pub sized : length (words n p (st .netlist)) ≡ 16 + 6 * n + p
+  sized = image-length m good (n, p) st end
