@@ -1,16 +1,15 @@
 -- What drives an input, a register's target and a memory port's read data. Assumes nothing.
 use mathlib.Core.Path.{_≡_, refl, sym, ap, _∙_}
-use mathlib.Core.Bool.{Bool, true, false, cond}
+use mathlib.Core.Bool.{true, false}
 use mathlib.Core.List.{List, [], _∷_}
 use mathlib.Core.Option.{Option, none, some}
 use Prim.Native.Nat.{ℕ, zero, suc, _+_}
 use native.Mathlib.Nat.{add-zero}
 use native.Mathlib.Omega.{arith}
-use lib.Dec.{eqb}
 use lib.ListN.{getElem?}
-use borrow.Author.Tests.{eqb-true, eq-eqb, ne-eqb}
+use borrow.Author.Tests.{eq-eqb, ne-eqb}
 use Rattle.rtl.specs.Rtl as R
-use Rattle.rtl.specs.Rtl.{Module, Register, Memory, Port, Driver, FromInput, FromRegister, FromData, byAssign, byMemory, byRegister, byDir, ofPort, driver, dirOf}
+use Rattle.rtl.specs.Rtl.{Module, Register, Memory, Port, Driver, FromInput, FromRegister, FromData, byMemory, byRegister, ofPort, driver, dirOf}
 use Rattle.walk_laws.specs.Tables.{none-some, some-eq}
 use Rattle.walk_laws.specs.Good.{Good}
 use Rattle.walk_laws.specs.Walk.{no-register, no-input}

@@ -1,32 +1,28 @@
 -- `connect_memories`: each memory's record has the nets of its addresses, data and controls. Assumes nothing.
-use mathlib.Core.Path.{_≡_, refl, sym, ap, ap₂, subst, _∙_}
-use mathlib.Core.Bool.{Bool, true, false}
-use mathlib.Core.List.{List, [], _∷_, _++_, map, append-assoc}
+use mathlib.Core.Path.{_≡_, refl, ap, ap₂}
+use mathlib.Core.Bool.{false}
+use mathlib.Core.List.{List, [], _∷_, _++_, append-assoc}
 use mathlib.Core.Option.{Option, none, some}
-use Prim.Native.Nat.{ℕ, zero, suc, _+_, _≤_, _<_}
+use Prim.Native.Nat.{ℕ, suc, _+_}
 use native.Mathlib.Omega.{arith}
-use lib.ListN.{length, getD, getElem?}
-use Rattle.rtl.specs.Rtl as R
+use lib.ListN.{length, getElem?}
 use Rattle.rtl.specs.Rtl.{Module, Memory, Port}
 use Rattle.meaning.specs.NetlistImage as N
 use Rattle.meaning.specs.NetlistImage.{memoryOf}
-use Rattle.model.specs.Words.{Netlist}
-use Rattle.model.specs.Builder.{Out, done, andThen}
-use Rattle.model.specs.Lowering.{State, Step, withNetlist, signalWidth, signalNet, signalNets, wholeNets, netControl, optionControl, wordSteps, enableSteps, bitStep, controlSteps, secondSteps, memorySteps, portWords, portsWords, pushRecord, lowerAll, connectMemories}
+use Rattle.model.specs.Lowering.{State, signalWidth, signalNet, signalNets, wholeNets, netControl, optionControl, wordSteps, enableSteps, bitStep, controlSteps, secondSteps, memorySteps, portWords, portsWords, pushRecord, lowerAll, connectMemories}
 use Rattle.netlist_view.specs.View.{Formed}
 use Rattle.netlist_view.specs.Formed.{Ported, formed-memory, formed-memory₂}
 use Rattle.netlist_view.specs.Laws.{withRecord}
-use Rattle.netlist_laws.specs.Sound.{Later}
 use Rattle.netlist_laws.specs.Run.{Meets, meets-bind}
 use Rattle.walk_laws.specs.Good.{Good, GoodPort}
-use Rattle.walk_laws.specs.Kept.{Any, Table, more-refl, holds-later, Inv, Kept}
+use Rattle.walk_laws.specs.Kept.{Any, more-refl, Inv, Kept}
 use Rattle.walk_laws.specs.Writes.{inv-netlist}
 use Rattle.walk_laws.specs.Reads.{AllAsked, AllAfter, read-whole}
 use Rattle.walk_laws.specs.Gates.{Gates}
 use Rattle.walk_laws.specs.Walk.{all-walk}
 use Rattle.record_laws.specs.Back.{memoryPort, wordsOf, ported, port-back, memory-back, memory-back₂}
-use Rattle.connect_laws.specs.Made.{limited-later, SameControl, SamePort, SameSecond, SameMemory, memory-later, Connected, registers-later, outputs-later, connected-grew, one-memory}
-use Rattle.connect_laws.specs.Pushed.{asked-append, after-append, control-asked, bit-is, net-there, control-same, control-there, nets-length, memories-one, registers-left, outputs-left, pushed}
+use Rattle.connect_laws.specs.Made.{limited-later, SamePort, SameSecond, SameMemory, memory-later, Connected, registers-later, outputs-later, connected-grew, one-memory}
+use Rattle.connect_laws.specs.Pushed.{asked-append, after-append, control-asked, bit-is, control-same, control-there, nets-length, memories-one, registers-left, outputs-left, pushed}
 
 -- a port as it is recorded
 abbrev cellOf : Module → State → Port → N.MemoryPort
@@ -168,4 +164,4 @@ module _ (G : Gates) (m : Module) (good : Good m) (lim : ℕ × ℕ) where
       (pushRecord (2 ∷ k ∷ x .depth ∷ x .style ∷ 1 ∷ portsWords m st₁ (x .first) (x .second)) st₁) _
       (memory-pushed k b n x st₁ e (connected-grew c (q .inv) (q .grew)) (q .post))
       (λ st₂ c₂. let z : k + suc (length xs) ≡ suc k + length xs = omega arith in
-        rw z (memories-walk (suc k) b n xs (λ j y p. let v : k + suc j ≡ suc k + j = omega arith in rw v at (f (suc j) y p)) st₂ c₂)))
+      rw z (memories-walk (suc k) b n xs (λ j y p. let v : k + suc j ≡ suc k + j = omega arith in rw v at (f (suc j) y p)) st₂ c₂)))

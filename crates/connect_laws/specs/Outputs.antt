@@ -1,35 +1,32 @@
 -- `connect_outputs`, and with it all of `lower`: what holds of the state at its end. Assumes nothing.
-use mathlib.Core.Path.{_≡_, refl, sym, ap, subst, _∙_}
-use mathlib.Core.Bool.{Bool, true, false}
-use mathlib.Core.List.{List, [], _∷_, _++_, map}
-use mathlib.Core.Option.{Option, none, some}
-use Prim.Native.Nat.{ℕ, zero, suc, _+_, _≤_, _<_}
+use mathlib.Core.Path.{_≡_, refl, ap, _∙_}
+use mathlib.Core.Bool.{false}
+use mathlib.Core.List.{List, [], _∷_, map}
+use mathlib.Core.Option.{some}
+use Prim.Native.Nat.{ℕ, suc, _+_, _≤_, _<_}
 use native.Mathlib.Nat.{zero-add, not-suc-le-zero}
 use native.Mathlib.Decide.{ℕ-discrete}
 use native.Mathlib.Omega.{arith}
 use lib.ListN.{length, getD, getElem?}
-use Rattle.rtl.specs.Ops.{tab}
 use Rattle.rtl.specs.Rtl as R
-use Rattle.rtl.specs.Rtl.{Module, Sig, Dir, Valuation, dirOf}
-use Rattle.meaning.specs.NetlistImage as N
+use Rattle.rtl.specs.Rtl.{Module, Sig, Dir, dirOf}
 use Rattle.meaning.specs.NetlistImage.{memoryOf, registerBitOf}
 use Rattle.model.specs.Words.{Netlist, absent}
-use Rattle.model.specs.Builder.{Out, refused, done, andThen, Made, addOutputPort, from}
+use Rattle.model.specs.Builder.{refused, done, andThen, Made, addOutputPort}
 use Rattle.model.specs.Lowering.{State, withNetlist, signalWidth, signalNets, signalSteps, lowerAll, start, reserveSources, connectMemories, connectRegisters, connectOutput, connectOutputs, lowerState}
 use Rattle.word_laws.specs.Shift.{tab-ext}
 use Rattle.netlist_laws.specs.Meaning.{meaningOf}
-use Rattle.netlist_laws.specs.Sound.{count, Later}
 use Rattle.netlist_laws.specs.Run.{later-trans, Meets, meets-bind, meets-map, Limit}
 use Rattle.gate_laws.specs.Added.{recorded-others}
 use Rattle.gate_laws.specs.Ports.{OutputPort, output-port-run, output-outputs, outputNodes}
 use Rattle.walk_laws.specs.Good.{Good}
-use Rattle.walk_laws.specs.Kept.{Any, Table, more-refl, Holds, Kept}
+use Rattle.walk_laws.specs.Kept.{Any, more-refl, Kept}
 use Rattle.walk_laws.specs.Writes.{inv-netlist}
-use Rattle.walk_laws.specs.Reads.{AllAsked, AllAfter, read-bits}
+use Rattle.walk_laws.specs.Reads.{AllAfter, read-bits}
 use Rattle.walk_laws.specs.Walk.{bits-asked, all-walk}
 use Rattle.connect_laws.specs.Supply.{supply}
-use Rattle.connect_laws.specs.Made.{limited-later, Connected, Outputs, memories-later, registers-later, connected-grew, one-output}
-use Rattle.connect_laws.specs.Sources.{inside, got, Reserved, started, sources-run, connected}
+use Rattle.connect_laws.specs.Made.{limited-later, Connected, memories-later, registers-later, connected-grew, one-output}
+use Rattle.connect_laws.specs.Sources.{got, Reserved, started, sources-run, connected}
 use Rattle.connect_laws.specs.Memories.{memories-walk}
 use Rattle.connect_laws.specs.Registers.{bitsOf, AllBits, registers-walk}
 
@@ -106,7 +103,7 @@ module _ (m : Module) (good : Good m) (lim : ℕ × ℕ) where
       let e : getElem? (m .signals) p ≡ some x = let z : p + 0 ≡ p = omega arith in rw z at (g 0 x refl) in
       meets-bind Any (λ st′. Connected m lim st′ k f (suc p)) (λ st′. Connected m lim st′ k f (p + suc (length ys))) (connectOutput m false (x .dir) p (x .width) st) _ (output-walk p k f x st e c)
       (λ st₁ c₁. let z : p + suc (length ys) ≡ suc p + length ys = omega arith in
-        rw z (outputs-walk (suc p) ys (λ j y q. let v : p + suc j ≡ suc p + j = omega arith in rw v at (g (suc j) y q)) k f st₁ c₁))
+      rw z (outputs-walk (suc p) ys (λ j y q. let v : p + suc j ≡ suc p + j = omega arith in rw v at (g (suc j) y q)) k f st₁ c₁))
 
   -- all memories, all bits of registers and all outputs are connected
   pub record Lowered (st : State) : Type 0 where
@@ -127,7 +124,7 @@ module _ (m : Module) (good : Good m) (lim : ℕ × ℕ) where
       (memories-walk supply m good lim 0 (λ j. 0) 0 (m .memories) (self (m .memories)) st₁ (connected m lim st₁ i₁)) (λ st₂ c₂.
       meets-bind Any (AllBits m good lim (length (m .memories)) 0) Lowered (connectRegisters m false 0 (m .registers) st₂) _
       (registers-walk m good lim supply 0 (m .registers) (self (m .registers)) (zero-add (length (m .registers))) (length (m .memories)) 0 (λ j. 0)
-        (λ x b. absurd (not-suc-le-zero b)) (λ x b. refl) st₂ (rw (zero-add (length (m .memories))) at c₂)) (λ st₃ d.
+      (λ x b. absurd (not-suc-le-zero b)) (λ x b. refl) st₂ (rw (zero-add (length (m .memories))) at c₂)) (λ st₃ d.
       meets-map Any Any (λ st′. Connected m lim st′ (length (m .memories)) (d .bits) (0 + length (m .signals))) Lowered (connectOutputs m false 0 (m .signals) st₃)
       (outputs-walk 0 (m .signals) (self (m .signals)) (length (m .memories)) (d .bits) st₃ (d .connected)) (λ x y z q. q)
       (λ st₄ c₄. record { bits = d .bits; connected = rw (zero-add (length (m .signals))) at c₄; all = d .all }))))

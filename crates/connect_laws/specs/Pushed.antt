@@ -1,29 +1,27 @@
 -- A record pushed after the walk, and what is read of the tables for it. Assumes nothing.
 use mathlib.Core.Path.{_≡_, refl, sym, ap, subst, _∙_}
-use mathlib.Core.Bool.{Bool, true, false}
 use mathlib.Core.List.{List, [], _∷_, _++_, map}
 use mathlib.Core.Option.{Option, none, some}
-use Prim.Native.Nat.{ℕ, zero, suc, _+_, _≤_, _<_}
+use Prim.Native.Nat.{ℕ, _<_}
 use native.Mathlib.Omega.{arith}
 use lib.ListN.{length, getD, length-map}
-use Rattle.rtl.specs.Rtl as R
 use Rattle.rtl.specs.Rtl.{Module, Control}
 use Rattle.meaning.specs.NetlistImage.{memoryOf, registerBitOf}
 use Rattle.model.specs.Words.{Netlist, absent}
 use Rattle.model.specs.Builder.{Out, refused, done, andThen, push, from}
-use Rattle.model.specs.Lowering.{State, Need, Bit, Whole, Range, Step, Always, Unless, cell, whole, withNetlist, signalNet, signalNets, bitStep, controlSteps, netControl, optionControl, pushRecord}
+use Rattle.model.specs.Lowering.{State, Need, Bit, Whole, Range, Step, cell, whole, withNetlist, signalNet, signalNets, controlSteps, optionControl, pushRecord}
 use Rattle.netlist_view.specs.View.{Formed}
 use Rattle.netlist_view.specs.Laws.{withRecord}
 use Rattle.netlist_laws.specs.Meaning.{meaningOf, recordsWith}
-use Rattle.netlist_laws.specs.Sound.{count, Sound, Later}
+use Rattle.netlist_laws.specs.Sound.{Sound, Later}
 use Rattle.netlist_laws.specs.Run.{Meets, Limit}
 use Rattle.netlist_laws.specs.Nodes.{with-new, with-same}
 use Rattle.netlist_laws.specs.Lists.{outputs-none}
 use Rattle.gate_laws.specs.Added.{length-from}
 use Rattle.gate_laws.specs.Sources.{push-run}
 use Rattle.walk_laws.specs.Tables.{Has}
-use Rattle.walk_laws.specs.Kept.{Any, Table, Inv}
-use Rattle.walk_laws.specs.Reads.{Asked, After, needOf, AllAsked, AllAfter, map-append, read-bit}
+use Rattle.walk_laws.specs.Kept.{Any, Inv}
+use Rattle.walk_laws.specs.Reads.{After, needOf, AllAsked, AllAfter, map-append, read-bit}
 use Rattle.record_laws.specs.Back.{There}
 use Rattle.connect_laws.specs.Made.{IsBit, SameControl}
 

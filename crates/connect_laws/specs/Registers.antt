@@ -1,7 +1,7 @@
 -- `connect_registers`: each bit of each register has its record, with the nets of its next value and controls. Assumes nothing.
-use mathlib.Core.Path.{_≡_, refl, sym, ap, subst, _∙_}
+use mathlib.Core.Path.{_≡_, refl, sym, ap, _∙_}
 use mathlib.Core.Bool.{Bool, true, false, cond}
-use mathlib.Core.List.{List, [], _∷_, _++_, map}
+use mathlib.Core.List.{List, [], _∷_, _++_}
 use mathlib.Core.Option.{Option, none, some}
 use Prim.Native.Nat.{ℕ, zero, suc, _+_, _≤_, _<_}
 use native.Mathlib.Decide.{ℕ-discrete, decLt}
@@ -9,15 +9,13 @@ use native.Mathlib.Omega.{arith}
 use borrow.Author.Tests.{eq-eqb, ne-eqb}
 use lib.Dec.{eqb}
 use lib.ListN.{length, getD, getElem?}
-use Rattle.rtl.specs.Rtl as R
 use Rattle.rtl.specs.Rtl.{Module, Control, Reset, Register, Valuation, word}
 use Rattle.meaning.specs.NetlistImage.{registerBitOf}
 use Rattle.meaning.specs.Step.{Setting, Contents, perhaps}
 use Rattle.model.specs.Words.{Netlist, absent, bitWord, lowWord, controlWords, resetWords}
-use Rattle.model.specs.Builder.{Out, refused, done, andThen, constantValue}
+use Rattle.model.specs.Builder.{constantValue}
 use Rattle.model.specs.Ranges.{widthAt}
-use Rattle.model.specs.Lowering.{State, Step, Whole, whole, withNetlist, signalWidth, signalNet, wholeNet, wholeNets, netControl, optionControl, wholes, bitStep, controlSteps, resetSteps, registerSteps, pushRecord, pushRegister, resetBy, registerBit, registerBits, lowerAll, connectRegisters}
-use Rattle.netlist_view.specs.View.{Formed}
+use Rattle.model.specs.Lowering.{State, whole, signalWidth, signalNet, wholeNet, wholeNets, netControl, optionControl, wholes, bitStep, controlSteps, resetSteps, registerSteps, pushRegister, resetBy, registerBit, registerBits, lowerAll, connectRegisters}
 use Rattle.netlist_view.specs.Formed.{formed-register}
 use Rattle.netlist_view.specs.Laws.{withRecord}
 use Rattle.netlist_laws.specs.Meaning.{netValue}
@@ -26,12 +24,12 @@ use Rattle.netlist_laws.specs.Run.{Meets, meets-bind, meets-map}
 use Rattle.gate_laws.specs.Gates.{constant-later}
 use Rattle.walk_laws.specs.Tables.{Has}
 use Rattle.walk_laws.specs.Good.{Good, GoodRegister}
-use Rattle.walk_laws.specs.Kept.{Any, Table, Agrees, more-refl, Holds, Inv, Kept}
+use Rattle.walk_laws.specs.Kept.{Any, Agrees, more-refl, Holds, Inv, Kept}
 use Rattle.walk_laws.specs.Writes.{inv-netlist}
 use Rattle.walk_laws.specs.Reads.{AllAsked, AllAfter, below-at, map-at, read-whole, whole-length}
 use Rattle.walk_laws.specs.Gates.{Gates}
 use Rattle.walk_laws.specs.Walk.{all-walk}
-use Rattle.record_laws.specs.Back.{There, ThereReset, bitOf, register-back}
+use Rattle.record_laws.specs.Back.{ThereReset, register-back}
 use Rattle.connect_laws.specs.Made.{limited-later, IsConstant, SameReset, SameBit, bit-later, Connected, memories-later, outputs-later, connected-grew, one-bit}
 use Rattle.connect_laws.specs.Pushed.{asked-append, after-append, control-asked, all-after-netlist, bit-is, net-there, control-same, control-there, memories-left, registers-one, outputs-left, pushed}
 
@@ -90,8 +88,10 @@ module _ (m : Module) (good : Good m) (lim : ℕ × ℕ) where
     net-holds = record { there = (net-there′, tt); holds = λ l a s c v g. rw (net-value l a s c v g) }
 
     pub net-constant : (x : Bool) → constantValue (st .netlist) (wholeNet st e b) ≡ some x → IsConstant m (st .netlist) (st .signalBits) e b (bitWord x)
-    net-constant x q = record { is = λ l a s c v g.
-        sym (net-value l a s c v g) ∙ constant-later (st .netlist) (wholeNet st e b) x net-there′ q .is l a s c ∙ sym (bit-back x) }
+    net-constant x q = record {
+      is = λ l a s c v g.
+          sym (net-value l a s c v g) ∙ constant-later (st .netlist) (wholeNet st e b) x net-there′ q .is l a s c ∙ sym (bit-back x);
+    }
 
   module _ (k : ℕ) (r : Register) (at : getElem? (m .registers) k ≡ some r) where
     abbrev One : ℕ → ℕ → (ℕ → ℕ) → ℕ → State → Type 0
@@ -109,22 +109,25 @@ module _ (m : Module) (good : Good m) (lim : ℕ × ℕ) where
           let o = optionControl st (r .enable) in
           let v : List ℕ = 1 ∷ k ∷ f k ∷ signalNet st (r .target) (f k) ∷ wholeNet st (r .next) (f k) ∷ signalNet st (r .clock) 0 ∷ lowWord (r .rising) ∷ (controlWords o ++ resetWords q) in
           let back = register-back k (f k) (signalNet st (r .target) (f k)) (wholeNet st (r .next) (f k)) (signalNet st (r .clock) 0) (r .rising) o q
-              (control-there m st i (r .enable) (y .enable)) t in
+          (control-there m st i (r .enable) (y .enable)) t in
           let same : SameBit m (st .netlist) (st .signalBits) (f k) r (registerBitOf v) = rw back (record {
-                next = net-holds st i (r .next) (g .next) (y .next) (f k) (omega (arith, g .wide));
-                clock = bit-is m st i (r .clock) (y .clock .0);
-                rising = refl;
-                enable = control-same m st i (r .enable) (y .enable);
-                reset = s;
-              }) in
-          pushed (One j n f (f k)) v st (i .sound) (formed-register _ (words-long k (f k) (signalNet st (r .target) (f k)) (wholeNet st (r .next) (f k)) (signalNet st (r .clock) 0) (lowWord (r .rising)) o q)) (omega arith) (omega arith) (λ a. (record {
-            limited = limited-later lim a (c .limited);
-            inv = inv-netlist m st (withRecord v (st .netlist)) i a;
-            memories = memories-later a more-refl (memories-left v (st .netlist) (λ z. omega arith)) (c .memories);
-            registers = one-bit m (st .netlist) (withRecord v (st .netlist)) (st .signalBits) a k r (registerBitOf v) f at (rw back) (rw back)
-                (bit-later m a more-refl (f k) r (registerBitOf v) same) (registers-one v (st .netlist) refl) (c .registers);
-            outputs = outputs-later a more-refl (outputs-left v (st .netlist) a (i .sound) (λ z. omega arith)) (c .outputs);
-          }, all-after-netlist st (withRecord v (st .netlist)) (registerSteps r) h))
+            next = net-holds st i (r .next) (g .next) (y .next) (f k) (omega (arith, g .wide));
+            clock = bit-is m st i (r .clock) (y .clock .0);
+            rising = refl;
+            enable = control-same m st i (r .enable) (y .enable);
+            reset = s;
+          }) in
+          pushed (One j n f (f k)) v st (i .sound) (formed-register _ (words-long k (f k) (signalNet st (r .target) (f k)) (wholeNet st (r .next) (f k)) (signalNet st (r .clock) 0) (lowWord (r .rising)) o q)) (omega arith) (omega arith) (λ a. (
+            record {
+              limited = limited-later lim a (c .limited);
+              inv = inv-netlist m st (withRecord v (st .netlist)) i a;
+              memories = memories-later a more-refl (memories-left v (st .netlist) (λ z. omega arith)) (c .memories);
+              registers = one-bit m (st .netlist) (withRecord v (st .netlist)) (st .signalBits) a k r (registerBitOf v) f at (rw back) (rw back)
+                  (bit-later m a more-refl (f k) r (registerBitOf v) same) (registers-one v (st .netlist) refl) (c .registers);
+              outputs = outputs-later a more-refl (outputs-left v (st .netlist) a (i .sound) (λ z. omega arith)) (c .outputs);
+            },
+            all-after-netlist st (withRecord v (st .netlist)) (registerSteps r) h,
+          ))
 
       reset-run : (x : Reset) → r .reset ≡ some x → (o : Option Bool) → constantValue (st .netlist) (wholeNet st (x .value) (f k)) ≡ o → Meets Any (One j n f (f k)) (resetBy o k r (f k) st x)
       reset-run x e none q = tt
@@ -193,7 +196,7 @@ module _ (m : Module) (good : Good m) (lim : ℕ × ℕ) where
         meets-bind Any (Done k r at j n f (0 + signalWidth m (r .target))) (AllBits j n) (registerBits k r 0 (signalWidth m (r .target)) st₁) _
         (bits-run k r at (signalWidth m (r .target)) 0 j n f st₁ (hi k (omega arith)) (omega arith) (connected-grew c (q .inv) (q .grew)) (q .post))
         (λ st₂ d. registers-walk (suc k) rs (λ x y p. let v : k + suc x ≡ suc k + x = omega arith in rw v at (g (suc x) y p)) (omega arith) j n (d .bits)
-          (λ x h. low at (d .bits) (d .here) (d .others) x h (ℕ-discrete x k)) (λ x h. d .others x (λ z. omega arith) ∙ hi x (omega arith)) st₂ (d .connected)))
+        (λ x h. low at (d .bits) (d .here) (d .others) x h (ℕ-discrete x k)) (λ x h. d .others x (λ z. omega arith) ∙ hi x (omega arith)) st₂ (d .connected)))
       where
         low : getElem? (m .registers) k ≡ some r → (b : ℕ → ℕ) → b k ≡ 0 + signalWidth m (r .target) → ((x : ℕ) → (x ≡ k → ⊥) → b x ≡ f x) → (x : ℕ) → x < suc k → Dec (x ≡ k) → b x ≡ bitsOf m x
         low at b h o x l (yes z) = rw (z, at) (h ∙ omega arith)

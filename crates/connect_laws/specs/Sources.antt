@@ -1,41 +1,38 @@
 -- `reserve_sources`: each bit of an input, a register's target and a read data has its net, and the net its value. Assumes nothing.
-use mathlib.Core.Path.{_≡_, refl, sym, ap, subst, _∙_}
+use mathlib.Core.Path.{_≡_, refl, sym, ap, _∙_}
 use mathlib.Core.Logic.{_⊎_, inl, inr, ⊎-elim}
-use mathlib.Core.Bool.{Bool, true, false, cond}
-use mathlib.Core.List.{List, [], _∷_, _++_, map}
+use mathlib.Core.Bool.{Bool, true, false}
+use mathlib.Core.List.{List, [], _∷_, map}
 use mathlib.Core.Option.{Option, none, some}
 use Prim.Native.Nat.{ℕ, zero, suc, _+_, _-_, _≤_, _<_, suc-le-suc}
-use native.Mathlib.Nat.{not-suc-le-zero, le-of-suc-le-suc, le-trans, zero-add}
+use native.Mathlib.Nat.{not-suc-le-zero, le-of-suc-le-suc, zero-add}
 use native.Mathlib.Decide.{ℕ-discrete}
 use native.Mathlib.Omega.{arith}
 use borrow.Author.Tests.{lt-ltb, le-ltb}
-use lib.Dec.{ltb}
-use lib.ListN.{length, getD, getElem?, set, replicate, length-map, length-set, length-replicate, List·getD-eq-default}
+use lib.ListN.{length, getD, getElem?, set, replicate, length-map, length-set, length-replicate}
 use lib.Seq.{getD-set-same, getD-set-other}
 use Rattle.rules.specs.Rules.{only}
 use Rattle.rtl.specs.Ops.{tab}
 use Rattle.rtl.specs.Rtl as R
-use Rattle.rtl.specs.Rtl.{Module, Sig, Dir, Register, Memory, Port, Valuation, word, driver, dirOf}
+use Rattle.rtl.specs.Rtl.{Module, Sig, Dir, Register, Memory, Port, Valuation, driver, dirOf}
 use Rattle.meaning.specs.NetlistImage.{memoryOf, registerBitOf}
 use Rattle.meaning.specs.Step.{Setting, Contents, bitBy, rounds, memoryBit, dataWidth}
 use Rattle.model.specs.Words.{Netlist, absent, source}
-use Rattle.model.specs.Builder.{Out, refused, done, andThen, Made, addNodes, addInputPort}
-use Rattle.model.specs.Ranges.{exprAt, widthAt}
-use Rattle.model.specs.Lowering.{State, cell, whole, state, withNetlist, setSignal, signalWidth, start, reserve, reserveInput, reserveInputs, reserveBits, reserveRegisters, reserveSecond, reserveMemories, reserveSources}
+use Rattle.model.specs.Builder.{refused, done, Made, addNodes, addInputPort}
+use Rattle.model.specs.Ranges.{widthAt}
+use Rattle.model.specs.Lowering.{State, cell, whole, withNetlist, setSignal, signalWidth, start, reserve, reserveInput, reserveInputs, reserveBits, reserveRegisters, reserveSecond, reserveMemories, reserveSources}
 use Rattle.word_laws.specs.Shift.{length-tab}
-use Rattle.word_laws.specs.Widths.{AllBelow}
 use Rattle.netlist_laws.specs.Meaning.{meaningOf, recordsWith, netValue}
 use Rattle.netlist_laws.specs.Sound.{count, Sound, Later, At, StandsAll}
-use Rattle.netlist_laws.specs.Run.{later-refl, later-trans, later-count, Meets, meets-bind, meets-map, Limit, Built, Run}
+use Rattle.netlist_laws.specs.Run.{later-refl, later-trans, later-count, Meets, meets-bind, meets-map, Limit, Built}
 use Rattle.netlist_laws.specs.Nodes.{getD-map-in, sound-empty}
 use Rattle.netlist_laws.specs.Lists.{memories-same, registers-same, outputs-same}
 use Rattle.gate_laws.specs.Added.{recorded-others}
-use Rattle.gate_laws.specs.Sources as G
 use Rattle.gate_laws.specs.Sources.{register-run, memory-run}
 use Rattle.gate_laws.specs.Ports.{InputPort, input-port-run, input-outputs, inputNodes}
-use Rattle.walk_laws.specs.Tables.{none-some, some-eq, Has, Shaped, filled}
+use Rattle.walk_laws.specs.Tables.{none-some, some-eq, Shaped, filled}
 use Rattle.walk_laws.specs.Good.{Good}
-use Rattle.walk_laws.specs.Kept.{Any, Agrees, Wide, Settles, Inv, HoldsRow}
+use Rattle.walk_laws.specs.Kept.{Any, Agrees, Wide}
 use Rattle.walk_laws.specs.Reads.{below-at, map-at}
 use Rattle.connect_laws.specs.Made.{Limited, limited-later, Connected}
 use Rattle.connect_laws.specs.Drivers.{input-driver, register-driver, first-driver, second-driver}
@@ -157,14 +154,16 @@ module _ (m : Module) (lim : ℕ × ℕ) (st : State) (i : Reserved m lim st) (s
         (λ (x : (p ≡ s) × (j < length ns) × (getD ns j absent ≡ n)). rw (x .2) at (below-at (count l) ns j absent (x .1) (r .stands .there)))
         (λ (x : cell none (st .signalBits) p j ≡ some n). omega (arith, i .nets p j n x, later-count (r .later)))
         (row-at p j n e (ℕ-discrete p s));
-    agrees = λ h a w x c u n. record { at = λ p j k e. ⊎-elim
-        (λ (y : (p ≡ s) × (j < length ns) × (getD ns j absent ≡ k)).
-        let b : j < signalWidth m s = omega (arith, y .1, wide) in
-        rw (y .0) (r .drives h w x c (rounds m x c u n) j b
-        ∙ sym (tab-at (signalWidth m s) (r .values h x c) j false b) ∙ ap (λ (t : List Bool). getD t j false) (sym (r .stands .are h a x c))
-        ∙ map-at (netValue h x c) ns j absent false (y .1) ∙ ap (netValue h x c) (y .2)))
-        (λ (y : cell none (st .signalBits) p j ≡ some k). i .agrees h (later-trans (r .later) a) w x c u n .at p j k y)
-        (row-at p j k e (ℕ-discrete p s)) };
+    agrees = λ h a w x c u n. record {
+      at = λ p j k e. ⊎-elim
+          (λ (y : (p ≡ s) × (j < length ns) × (getD ns j absent ≡ k)).
+          let b : j < signalWidth m s = omega (arith, y .1, wide) in
+          rw (y .0) (r .drives h w x c (rounds m x c u n) j b
+          ∙ sym (tab-at (signalWidth m s) (r .values h x c) j false b) ∙ ap (λ (t : List Bool). getD t j false) (sym (r .stands .are h a x c))
+          ∙ map-at (netValue h x c) ns j absent false (y .1) ∙ ap (netValue h x c) (y .2)))
+          (λ (y : cell none (st .signalBits) p j ≡ some k). i .agrees h (later-trans (r .later) a) w x c u n .at p j k y)
+          (row-at p j k e (ℕ-discrete p s));
+    };
     marks = i .marks;
     wholes = i .wholes;
     rows = i .rows;
@@ -255,7 +254,7 @@ module _ (m : Module) (g : Good m) (lim : ℕ × ℕ) where
           reserved m lim st i (r .target) (g .registers k r at .inside) Limit (addNodes (source 7 k) 0 w (st .netlist))
           (meets-map Limit Limit _ (Row m (st .netlist) (r .target)) (addNodes (source 7 k) 0 w (st .netlist)) (q .run) (λ n y z h. h)
           (λ x p. built-row m (st .netlist) (r .target) (x .0) (x .1) (i .sound) (λ h y c j. c .reg k (0 + j)) _ p (p .post .stands)
-            (λ h d y c v j b. rw (register-driver m g k r j at, zero-add j))))
+          (λ h d y c v j b. rw (register-driver m g k r j at, zero-add j))))
 
   -- ---- memories ----
 
@@ -267,7 +266,7 @@ module _ (m : Module) (g : Good m) (lim : ℕ × ℕ) where
 
   memory-bits : (k b p : ℕ) (st : State) → Reserved m lim st → p < length (m .signals)
       → ((h : Netlist) → Wide m h → (x : Setting) (c : Contents) (v : Valuation) (j : ℕ) → j < signalWidth m p
-        → bitBy m x c v p j (driver m p j) ≡ memoryBit c k (dataWidth (meaningOf h) k) (b + j))
+      → bitBy m x c v p j (driver m p j) ≡ memoryBit c k (dataWidth (meaningOf h) k) (b + j))
       → Meets Any (Reserved m lim) (reserveBits m 9 k b p st)
   memory-bits k b p st i here d =
       let w = signalWidth m p in

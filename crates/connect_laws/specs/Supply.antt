@@ -1,20 +1,20 @@
 -- The builder's calls give what the walk asks of them. Assumes nothing.
-use mathlib.Core.Path.{_≡_, refl, sym, ap, _∙_}
-use mathlib.Core.Bool.{Bool, true, false, not, cond, _&&_, _||_}
+use mathlib.Core.Path.{_≡_, refl, sym, _∙_}
+use mathlib.Core.Bool.{Bool, true, false, cond}
 use mathlib.Core.List.{List, [], _∷_, map}
-use mathlib.Core.Option.{Option, none, some}
+use mathlib.Core.Option.{some}
 use Prim.Native.Nat.{ℕ, suc, _<_}
 use native.Mathlib.Omega.{arith}
 use lib.ListN.{length, length-map}
-use Rattle.rtl.specs.Ops.{xorB, map2}
+use Rattle.rtl.specs.Ops.{map2}
 use Rattle.model.specs.Words.{Netlist}
 use Rattle.model.specs.Builder as B
 use Rattle.model.specs.Builder.{addMux}
 use Rattle.model.specs.Ranges.{Gate, AndGate, OrGate, XorGate}
 use Rattle.model.specs.Lowering.{addGate}
 use Rattle.netlist_laws.specs.Meaning.{netValue}
-use Rattle.netlist_laws.specs.Sound.{count, Sound, StandsAll}
-use Rattle.netlist_laws.specs.Run.{later-count, all-as, Run, run-map}
+use Rattle.netlist_laws.specs.Sound.{count, Sound}
+use Rattle.netlist_laws.specs.Run.{all-as, Run, run-map}
 use Rattle.gate_laws.specs.Gates.{Op2, constant-run, and-run, or-run, xor-run, mux-run}
 use Rattle.gate_laws.specs.Many.{both-run, constants-run, nots-run}
 use Rattle.cell_laws.specs.Arithmetic.{arithmetic-run}
@@ -45,8 +45,8 @@ supply = record {
       (both-run (addGate k) (λ h s c. gateOp k) 0 (λ x y l q n hx hy. gate-run k x y l q hx hy) xs ys l q (omega arith) a b);
   mux = λ d ts es l q h a b e. run-makes _
       (run-map (both-run (addMux d) (λ h s c x y. cond (netValue h s c d) x y) (suc d) (λ x y l q n hx hy. mux-run d x y l q n hx hy) ts es l q h a b)
-        (λ zs l′ g w. all-as w (λ h x s c. all-cond (netValue h s c d) (map (netValue h s c) ts) (map (netValue h s c) es)
-          (length-map ts (netValue h s c) ∙ e ∙ sym (length-map es (netValue h s c))))));
+      (λ zs l′ g w. all-as w (λ h x s c. all-cond (netValue h s c d) (map (netValue h s c) ts) (map (netValue h s c) es)
+      (length-map ts (netValue h s c) ∙ e ∙ sym (length-map es (netValue h s c))))));
   un = λ op xs l q b. run-makes _ (unary-run op xs l q b);
   bin = λ op w xs ys l q a b e. run-makes _ (binary-run xs ys l q a b op w e);
   carry = λ xs ys d l q a b h e. run-makes _ (arithmetic-run xs ys l q a b (sym e) B.Add (some d) h tt);

@@ -3,36 +3,34 @@ use mathlib.Core.Path.{_≡_, refl, sym, ap, subst, _∙_, fun-ext}
 use mathlib.Core.Bool.{Bool, true, false, cond, _&&_}
 use mathlib.Core.List.{List, [], _∷_, map}
 use mathlib.Core.Option.{Option, none, some, Option·map}
-use Prim.Native.Nat.{ℕ, zero, suc, _+_, _*_, _-_, _≤_, _<_, suc-le-suc}
+use Prim.Native.Nat.{ℕ, zero, suc, _+_, _*_, _≤_, _<_, suc-le-suc}
 use native.Mathlib.Nat.{not-suc-le-zero, le-of-suc-le-suc}
 use native.Mathlib.Decide.{decLt}
 use native.Mathlib.Omega.{arith}
 use borrow.Author.Tests.{ltb-true, ltb-false}
-use lib.Dec.{eqb, ltb}
+use lib.Dec.{ltb}
 use lib.ListN.{length, getD, getElem?, List·getD-eq-default}
 use Rattle.rtl.specs.Ops.{tab}
 use Rattle.rtl.specs.Rtl as R
 use Rattle.rtl.specs.Rtl.{Module, Valuation, word, dirOf}
 use Rattle.meaning.specs.NetlistImage as N
 use Rattle.meaning.specs.NetlistImage.{netlist}
-use Rattle.meaning.specs.Step.{Setting, Contents, perhaps, Load, Accesses, Reads, Machine, Seen, act, onward, run, rounds, settled, bitCount, widthOf, isOutput, moduleLoad, moduleAccess, moduleAccesses, netLoad, netAccess, netAccesses, findMemory, findBit, findPort, dataWidth, net, ofModule, ofNetlist, IsInput, Ported, Demand2, Demand3}
+use Rattle.meaning.specs.Step.{Setting, Contents, perhaps, Load, Machine, act, onward, run, settled, bitCount, widthOf, isOutput, moduleLoad, moduleAccess, moduleAccesses, netLoad, netAccess, netAccesses, findMemory, findBit, findPort, ofModule, ofNetlist, IsInput, Ported, Demand2, Demand3}
 use Rattle.model.specs.Words.{Netlist, absent, words}
 use Rattle.model.specs.Builder.{Out, done}
 use Rattle.model.specs.Lowering.{State, cell, whole, expressionNet, signalWidth, lowerState}
 use Rattle.netlist_view.specs.View.{Fit}
 use Rattle.netlist_view.specs.Laws.{length-words}
 use Rattle.netlist_laws.specs.Meaning.{meaningOf, netValue}
-use Rattle.netlist_laws.specs.Sound.{Sound, Later}
 use Rattle.netlist_laws.specs.Run.{later-refl, Meets}
 use Rattle.netlist_laws.specs.Image.{words-netlist}
-use Rattle.walk_laws.specs.Tables.{none-some, some-eq, filled-le}
+use Rattle.walk_laws.specs.Tables.{none-some, filled-le}
 use Rattle.walk_laws.specs.Good.{Good}
-use Rattle.walk_laws.specs.Kept.{Any, Table, Agrees, Holds, Wide, Inv}
+use Rattle.walk_laws.specs.Kept.{Any, Agrees, Wide, Inv}
 use Rattle.record_laws.specs.Find.{memory-find, bit-find, port-find}
-use Rattle.connect_laws.specs.Made.{bitIn, portIn, IsBit, SamePort, SameSecond, SameMemory, SameBit, Found, Connected}
+use Rattle.connect_laws.specs.Made.{bitIn, portIn, IsBit, SamePort, SameSecond, SameMemory, SameBit, Found}
 use Rattle.connect_laws.specs.Drivers.{input-driver}
 use Rattle.connect_laws.specs.Sources.{inside}
-use Rattle.connect_laws.specs.Registers.{bitsOf}
 use Rattle.connect_laws.specs.Outputs.{Lowered, lowered}
 use Rattle.demand_laws.specs.Reads.{bit-at, word-at, halfLoad, half-load, net-load, halfAccess, half-access, net-access}
 
@@ -73,10 +71,10 @@ output-there : (m : Module) (p : ℕ) → dirOf m p ≡ R.Output → p < length 
 output-there m p e = elim (decLt p (length (m .signals))) [
   | yes h ↦ h
   | no h ↦ (
-        let q : getD (m .signals) p (record { width = 0; dir = R.Internal }) ≡ record { width = 0; dir = R.Internal }
-        = List·getD-eq-default (m .signals) (record { width = 0; dir = R.Internal }) {n = p} (omega arith) in
-        let z : R.Internal ≡ R.Output = sym (ap (λ (x : R.Sig). x .dir) q) ∙ e in
-        let y : _≡_ {A = ℕ} 0 1 = cc in absurd (omega arith))
+      let q : getD (m .signals) p (record { width = 0; dir = R.Internal }) ≡ record { width = 0; dir = R.Internal }
+      = List·getD-eq-default (m .signals) (record { width = 0; dir = R.Internal }) {n = p} (omega arith) in
+      let z : R.Internal ≡ R.Output = sym (ap (λ (x : R.Sig). x .dir) q) ∙ e in
+      let y : _≡_ {A = ℕ} 0 1 = cc in absurd (omega arith))
 ]
 
 module _ (m : Module) (good : Good m) (lim : ℕ × ℕ) (st : State) (w : Lowered m good lim st) where

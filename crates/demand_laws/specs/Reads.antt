@@ -1,11 +1,11 @@
 -- What a step reads in the module and in its netlist, where the nets have the values that they are to have. Assumes nothing.
 -- Each reading of the module is first put in terms of the netlist before the step and the new inputs; with the clocks and
 -- asynchronous resets input ports it is then the netlist's.
-use mathlib.Core.Path.{_≡_, refl, sym, ap, ap₂, _∙_}
-use mathlib.Core.Bool.{Bool, true, false, not, cond, _&&_}
+use mathlib.Core.Path.{_≡_, refl, sym}
+use mathlib.Core.Bool.{Bool, true, false, not, _&&_}
 use mathlib.Core.List.{List, [], _∷_, map}
-use mathlib.Core.Option.{Option, none, some, Option·map}
-use Prim.Native.Nat.{ℕ, zero, suc}
+use mathlib.Core.Option.{Option, none, some}
+use Prim.Native.Nat.{ℕ}
 use lib.Dec.{eqb}
 use lib.ListN.{getD}
 use Rattle.rtl.specs.Word.{value}
@@ -13,13 +13,13 @@ use Rattle.rtl.specs.Ops.{xorB}
 use Rattle.rtl.specs.Rtl as R
 use Rattle.rtl.specs.Rtl.{Module, Valuation, Control, word, dirOf}
 use Rattle.meaning.specs.NetlistImage as N
-use Rattle.meaning.specs.Step.{Setting, Contents, edge, active, perhaps, enabled, resets, Load, load, Access, Accesses, resetBit, moduleLoad, moduleAccess, moduleAccesses, netLoad, netAccess, netAccesses}
+use Rattle.meaning.specs.Step.{Setting, Contents, edge, active, enabled, resets, Load, Access, resetBit, moduleLoad, moduleAccess, netLoad, netAccess}
 use Rattle.model.specs.Words.{Netlist}
 use Rattle.netlist_laws.specs.Meaning.{netValue}
-use Rattle.netlist_laws.specs.Sound.{Sound, Later}
+use Rattle.netlist_laws.specs.Sound.{Sound}
 use Rattle.netlist_laws.specs.Run.{later-refl}
 use Rattle.walk_laws.specs.Kept.{Table, Agrees, Holds}
-use Rattle.connect_laws.specs.Made.{IsBit, SameControl, SamePort, SameSecond, SameMemory, SameReset, SameBit}
+use Rattle.connect_laws.specs.Made.{IsBit, SameControl, SamePort, SameReset, SameBit}
 
 head-eq : {a b : Bool} → _≡_ {A = List Bool} (a ∷ []) (b ∷ []) → a ≡ b
 head-eq p = cc

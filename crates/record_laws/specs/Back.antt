@@ -1,14 +1,12 @@
 -- The words of a register's or a memory's record say the record that they were made of. Assumes nothing.
-use mathlib.Core.Path.{_≡_, refl, sym, ap, ap₂, subst, _∙_}
+use mathlib.Core.Path.{_≡_, refl, sym, ap, ap₂, _∙_}
 use mathlib.Core.Bool.{Bool, true, false}
 use mathlib.Core.List.{List, [], _∷_, _++_, append-assoc, append-nil}
-use mathlib.Core.Option.{Option, none, some, Option·map}
-use Prim.Native.Nat.{ℕ, zero, suc, _+_, _<_}
-use native.Mathlib.Nat.{add-zero}
+use mathlib.Core.Option.{Option, none, some}
+use Prim.Native.Nat.{ℕ, suc, _+_, _<_}
 use native.Mathlib.Omega.{arith}
-use lib.Dec.{eqb}
 use lib.ListN.{length, getD, take, drop, length-append}
-use lib.Seq.{take-at, drop-at, getD-at, getD-append-add}
+use lib.Seq.{take-at, drop-at, getD-append-add}
 use borrow.Author.Tests.{ne-eqb}
 use Rattle.rules.specs.Rules.{_≡?_, pick}
 use Rattle.rtl.specs.Rtl.{Control, Reset}
@@ -141,7 +139,7 @@ module _ (ra rd wa wd : List ℕ) (re : Option Control) (we : Control) (clock : 
     -- the controls, by what the read enable is
     enable-back : (o : Option Control) → There o → (t : List ℕ)
         → optional (getD (controlWords o ++ controlWords (some we) ++ (clock ∷ lowWord rising ∷ []) ++ t) 0 0)
-            (controlOf (getD (controlWords o ++ controlWords (some we) ++ (clock ∷ lowWord rising ∷ []) ++ t) 0 0) (getD (controlWords o ++ controlWords (some we) ++ (clock ∷ lowWord rising ∷ []) ++ t) 1 0)) ≡ o
+        (controlOf (getD (controlWords o ++ controlWords (some we) ++ (clock ∷ lowWord rising ∷ []) ++ t) 0 0) (getD (controlWords o ++ controlWords (some we) ++ (clock ∷ lowWord rising ∷ []) ++ t) 1 0)) ≡ o
     enable-back none h t = absent-back (controlOf absent 0)
     enable-back (some c) h t = rw (control-back c) (there-back (c .signal) c h)
 

@@ -1,6 +1,6 @@
 -- A module that document 01's checks accept: what the laws of the lowering ask of it. Assumes nothing.
 use mathlib.Core.Path.{_≡_}
-use mathlib.Core.Option.{Option, none, some}
+use mathlib.Core.Option.{some}
 use Prim.Native.Nat.{ℕ, _+_, _≤_, _<_}
 use lib.ListN.{length, getElem?}
 use Rattle.rtl.specs.Rtl as R

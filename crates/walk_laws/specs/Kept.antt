@@ -1,10 +1,10 @@
 -- What a lowering keeps of its state, when one state comes after another, and outcomes that keep it. Assumes nothing.
 -- A fact about an expression's nets is conditional: it holds for every valuation that gives each resolved signal bit its net's value.
-use mathlib.Core.Path.{_≡_, refl, sym, ap, _∙_}
+use mathlib.Core.Path.{_≡_, refl, _∙_}
 use mathlib.Core.Bool.{Bool, true, false}
-use mathlib.Core.List.{List, [], _∷_, map}
+use mathlib.Core.List.{List, [], map}
 use mathlib.Core.Option.{Option, none, some}
-use Prim.Native.Nat.{ℕ, zero, suc, _+_, _≤_, _<_}
+use Prim.Native.Nat.{ℕ, _<_}
 use native.Mathlib.Omega.{arith}
 use lib.ListN.{length, getD, getElem?}
 use Rattle.rtl.specs.Rtl.{Module, Valuation, Memory, word}

@@ -1,33 +1,29 @@
 -- What is made of a range of an expression, once its steps are done, stands for the slice of its word. Assumes nothing.
-use mathlib.Core.Path.{_≡_, refl, sym, ap, ap₂, subst, _∙_}
-use mathlib.Core.Bool.{Bool, true, false, not, cond, _&&_, _||_}
+use mathlib.Core.Path.{_≡_, refl, sym, ap, _∙_}
+use mathlib.Core.Bool.{Bool, true, false, not, cond}
 use mathlib.Core.List.{List, [], _∷_, _++_, map, append-assoc, append-nil}
 use mathlib.Core.Option.{Option, none, some}
-use Prim.Native.Nat.{ℕ, zero, suc, _+_, _-_, _≤_, _<_, min, max}
-use native.Mathlib.Nat.{le-trans}
-use native.Mathlib.Decide.{decLt, decLe}
+use Prim.Native.Nat.{ℕ, _+_, _-_, _≤_, _<_, min, max}
+use native.Mathlib.Decide.{decLt}
 use native.Mathlib.Omega.{arith}
 use borrow.Author.Tests.{ltb-true, ltb-false}
 use lib.Dec.{ltb}
-use lib.ListN.{length, getD, take, drop, length-take, length-drop}
+use lib.ListN.{length, getD, take, drop}
 use Rattle.rtl.specs.Word.{bits}
-use Rattle.rtl.specs.Ops.{joinW, sliceW, map2, tab}
+use Rattle.rtl.specs.Ops.{joinW, sliceW, map2}
 use Rattle.rtl.specs.Rtl as R
-use Rattle.rtl.specs.Rtl.{Module, Expr, Valuation, Kind, Unary, Binary, word, word1, binary, unary}
+use Rattle.rtl.specs.Rtl.{Module, Valuation, Kind, Unary, Binary, word, word1, binary}
 use Rattle.model.specs.Words.{Netlist}
-use Rattle.model.specs.Builder.{Made}
 use Rattle.model.specs.Ranges.{exprAt, widthAt, classOf, Gate, AndGate, OrGate, XorGate}
-use Rattle.model.specs.Lowering.{State, Step, Always, Range, Whole, Piece, pieces, concatPieces, backwards, isBitNot, gateOf, gateSteps, whole, wholeNet, rangeNets, pieceNets, rangeGate, kindRangeSteps, rangeSteps, rangeKind, buildRange}
+use Rattle.model.specs.Lowering.{State, Step, Always, Range, Piece, pieces, concatPieces, backwards, gateOf, gateSteps, whole, wholeNet, rangeNets, pieceNets, rangeGate, kindRangeSteps, rangeSteps, rangeKind, buildRange}
 use Rattle.word_laws.specs.Slices.{map-slice, map2-slice, cond-slice, tab-slice, slice-slice, append-slice}
 use Rattle.word_laws.specs.Values.{slice-wide}
 use Rattle.word_laws.specs.Widths.{AllBelow, BelowE, Formed, WidthOk, word-is, word-width}
-use Rattle.netlist_laws.specs.Meaning.{netValue}
-use Rattle.netlist_laws.specs.Sound.{count}
 use Rattle.netlist_laws.specs.Run.{cells-refl, later-refl}
 use Rattle.walk_laws.specs.Tables.{none-some, some-eq, Has}
-use Rattle.walk_laws.specs.Kept.{Holds, Inv, Makes, makes-done, makes-map}
+use Rattle.walk_laws.specs.Kept.{Holds, Inv, Makes, makes-done}
 use Rattle.walk_laws.specs.Writes.{holds-length}
-use Rattle.walk_laws.specs.Reads.{Asked, AllAsked, AllAfter, holds-as, holds-nil, holds-append, read-range, whole-after, read-bits}
+use Rattle.walk_laws.specs.Reads.{AllAsked, AllAfter, holds-as, holds-nil, holds-append, read-range, whole-after, read-bits}
 use Rattle.walk_laws.specs.Gates.{Gates, gateOp, gives-holds}
 use Rattle.walk_laws.specs.Wholes.{bit0, bit0-there}
 
@@ -47,8 +43,8 @@ piece-width : (lsb end at n : ℕ) → min (end - max lsb at) (n - (lsb - at)) �
 piece-width lsb end at n = elim (decLt lsb at) [
   | yes h ↦ (let p : max lsb at ≡ at = omega arith in let q : lsb - at ≡ 0 = omega arith in rw (p, q) (before-width end at n))
   | no h ↦ (
-        let p : max lsb at ≡ at + (lsb - at) = omega arith in
-        rw p (inside-width end at n (lsb - at)))
+      let p : max lsb at ≡ at + (lsb - at) = omega arith in
+      rw p (inside-width end at n (lsb - at)))
 ]
 
 rest-low : (lsb at n : ℕ) → lsb - at - n ≡ lsb - (at + n)
@@ -63,14 +59,14 @@ past-width end at n d = omega arith
 rest-width : (lsb end at n : ℕ) → end - max lsb at - (n - (lsb - at)) ≡ end - max lsb (at + n)
 rest-width lsb end at n = elim (decLt lsb at) [
   | yes h ↦ (
-        let p : max lsb at ≡ at = omega arith in
-        let q : lsb - at ≡ 0 = omega arith in
-        let r : max lsb (at + n) ≡ at + n = omega arith in
-        rw (p, q, r) (after-width end at n))
+      let p : max lsb at ≡ at = omega arith in
+      let q : lsb - at ≡ 0 = omega arith in
+      let r : max lsb (at + n) ≡ at + n = omega arith in
+      rw (p, q, r) (after-width end at n))
   | no h ↦ (
-        let p : max lsb at ≡ at + (lsb - at) = omega arith in
-        let q : max lsb (at + n) ≡ max (at + (lsb - at)) (at + n) = omega arith in
-        rw (p, q) (past-width end at n (lsb - at)))
+      let p : max lsb at ≡ at + (lsb - at) = omega arith in
+      let q : max lsb (at + n) ≡ max (at + (lsb - at)) (at + n) = omega arith in
+      rw (p, q) (past-width end at n (lsb - at)))
 ]
 
 -- ---- a Concat's parts, the least significant first ----
@@ -155,14 +151,14 @@ gate-wide g w a b R.ShiftA k e h = absurd (none-some e)
 module _ (G : Gates) (m : Module) (f : Formed (m .exprs)) (st : State) (i : Inv m st) where
   pieces-made : (lsb end at : ℕ) (ps : List ℕ) → AllBelow (length (m .exprs)) ps → AllAfter st (pieceSteps (pieces (m .exprs) lsb end at ps))
       → Holds (st .netlist) (st .signalBits) (pieceNets st (pieces (m .exprs) lsb end at ps))
-          (λ v. sliceW (lsb - at) (end - max lsb at) (flat (word (m .exprs) v) ps))
+      (λ v. sliceW (lsb - at) (end - max lsb at) (flat (word (m .exprs) v) ps))
   unfolding pieces
   pieces-made lsb end at [] b h = holds-as holds-nil (λ v. sym (rw (lib.Seq.drop-nil {A = Bool} (lsb - at)) (lib.Seq.take-nil {A = Bool} (end - max lsb at))))
   pieces-made lsb end at (p ∷ ps) b h =
       go (ltb (max lsb at) (min end (at + widthAt (m .exprs) p))) refl (pieces-made lsb end (at + widthAt (m .exprs) p) ps (b .1)) h
     where
       cut : (v : Valuation) → sliceW (max lsb at - at) (min end (at + widthAt (m .exprs) p) - max lsb at) (word (m .exprs) v p)
-              ++ sliceW (lsb - (at + widthAt (m .exprs) p)) (end - max lsb (at + widthAt (m .exprs) p)) (flat (word (m .exprs) v) ps)
+          ++ sliceW (lsb - (at + widthAt (m .exprs) p)) (end - max lsb (at + widthAt (m .exprs) p)) (flat (word (m .exprs) v) ps)
           ≡ sliceW (lsb - at) (end - max lsb at) (word (m .exprs) v p ++ flat (word (m .exprs) v) ps)
       cut v =
           let l = word-width (m .exprs) f v p (b .0) in
@@ -177,12 +173,12 @@ module _ (G : Gates) (m : Module) (f : Formed (m .exprs)) (st : State) (i : Inv 
 
       go : (t : Bool) → ltb (max lsb at) (min end (at + widthAt (m .exprs) p)) ≡ t
           → (AllAfter st (pieceSteps (pieces (m .exprs) lsb end (at + widthAt (m .exprs) p) ps))
-            → Holds (st .netlist) (st .signalBits) (pieceNets st (pieces (m .exprs) lsb end (at + widthAt (m .exprs) p) ps))
-                (λ v. sliceW (lsb - (at + widthAt (m .exprs) p)) (end - max lsb (at + widthAt (m .exprs) p)) (flat (word (m .exprs) v) ps)))
+          → Holds (st .netlist) (st .signalBits) (pieceNets st (pieces (m .exprs) lsb end (at + widthAt (m .exprs) p) ps))
+          (λ v. sliceW (lsb - (at + widthAt (m .exprs) p)) (end - max lsb (at + widthAt (m .exprs) p)) (flat (word (m .exprs) v) ps)))
           → AllAfter st (pieceSteps (cond t (record { part = p; lsb = max lsb at - at; width = min end (at + widthAt (m .exprs) p) - max lsb at } ∷ pieces (m .exprs) lsb end (at + widthAt (m .exprs) p) ps) (pieces (m .exprs) lsb end (at + widthAt (m .exprs) p) ps)))
           → Holds (st .netlist) (st .signalBits)
-              (pieceNets st (cond t (record { part = p; lsb = max lsb at - at; width = min end (at + widthAt (m .exprs) p) - max lsb at } ∷ pieces (m .exprs) lsb end (at + widthAt (m .exprs) p) ps) (pieces (m .exprs) lsb end (at + widthAt (m .exprs) p) ps)))
-              (λ v. sliceW (lsb - at) (end - max lsb at) (word (m .exprs) v p ++ flat (word (m .exprs) v) ps))
+          (pieceNets st (cond t (record { part = p; lsb = max lsb at - at; width = min end (at + widthAt (m .exprs) p) - max lsb at } ∷ pieces (m .exprs) lsb end (at + widthAt (m .exprs) p) ps) (pieces (m .exprs) lsb end (at + widthAt (m .exprs) p) ps)))
+          (λ v. sliceW (lsb - at) (end - max lsb at) (word (m .exprs) v p ++ flat (word (m .exprs) v) ps))
       go true t r h =
           holds-as (holds-append (read-range m st i f p (max lsb at - at) (min end (at + widthAt (m .exprs) p) - max lsb at) (b .0)
           (inside (max lsb at) (min end (at + widthAt (m .exprs) p)) at (widthAt (m .exprs) p) (ltb-true (max lsb at) (min end (at + widthAt (m .exprs) p)) t) (omega arith) (omega arith)) (h .0)) (r (h .1))) cut

@@ -1,25 +1,24 @@
 -- What is asked before something is lowered, what is there after it, and that the nets read back have the bits meant. Assumes nothing.
-use mathlib.Core.Path.{_≡_, refl, sym, ap, subst, _∙_}
-use mathlib.Core.Bool.{Bool, true, false}
+use mathlib.Core.Path.{_≡_, refl, sym, ap, _∙_}
+use mathlib.Core.Bool.{Bool, true}
 use mathlib.Core.List.{List, [], _∷_, _++_, map}
 use mathlib.Core.Option.{Option, none, some}
-use Prim.Native.Nat.{ℕ, zero, suc, _+_, _-_, _≤_, _<_}
-use native.Mathlib.Nat.{not-suc-le-zero, le-of-suc-le-suc, le-trans, add-zero}
+use Prim.Native.Nat.{ℕ, zero, suc, _+_, _≤_, _<_}
+use native.Mathlib.Nat.{not-suc-le-zero, le-of-suc-le-suc, add-zero}
 use native.Mathlib.Omega.{arith}
 use lib.ListN.{length, getD, take, drop}
 use Rattle.rtl.specs.Ops.{sliceW, tab}
 use Rattle.rtl.specs.Rtl.{Module, Valuation, word}
-use Rattle.meaning.specs.Step.{Setting, Contents}
-use Rattle.model.specs.Words.{Netlist, absent}
+use Rattle.model.specs.Words.{Netlist}
 use Rattle.model.specs.Builder.{from}
 use Rattle.model.specs.Ranges.{widthAt}
-use Rattle.model.specs.Lowering.{State, Need, Bit, Whole, Range, Step, Always, Unless, cell, whole, wholeNets, wholeNet, netsOf, netOf, rangeNets, rangeBy, rangeKnown, knownBy, allSome, signalBit, signalNet, signalNets, signalSteps, wholes}
+use Rattle.model.specs.Lowering.{State, Need, Bit, Whole, Range, Step, Always, Unless, cell, whole, wholeNets, rangeNets, rangeBy, rangeKnown, allSome, signalBit, signalNet, signalNets, signalSteps, wholes}
 use Rattle.word_laws.specs.Shift.{tab-ext}
 use Rattle.word_laws.specs.Widths.{AllBelow, Formed, word-width}
 use Rattle.netlist_laws.specs.Meaning.{netValue}
-use Rattle.netlist_laws.specs.Sound.{count, Sound, Later}
-use Rattle.walk_laws.specs.Tables.{none-some, some-eq, Has, has-some, has-none, has-eq, Known, Fits, row-slice, row-below, all-known}
-use Rattle.walk_laws.specs.Kept.{Table, Agrees, Holds, HoldsRow, HeldBy, Held, Inv, Grew}
+use Rattle.netlist_laws.specs.Sound.{count}
+use Rattle.walk_laws.specs.Tables.{Has, Known, row-slice, row-below, all-known}
+use Rattle.walk_laws.specs.Kept.{Table, Holds, Held, Inv, Grew}
 use Rattle.walk_laws.specs.Writes.{holds-length}
 
 -- a range stays inside its expression

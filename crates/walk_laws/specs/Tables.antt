@@ -1,15 +1,15 @@
 -- Tables of rows: one cell or a stretch of a row written, how many cells are filled, what a row's known cells say of a word. Assumes nothing.
-use mathlib.Core.Path.{_≡_, refl, sym, ap, subst, _∙_}
-use mathlib.Core.Logic.{_⊎_, inl, inr, ⊎-elim}
-use mathlib.Core.Bool.{Bool, true, false}
-use mathlib.Core.List.{List, [], _∷_, _++_, map}
+use mathlib.Core.Path.{_≡_, refl, sym, ap, _∙_}
+use mathlib.Core.Logic.{_⊎_, inl, inr}
+use mathlib.Core.Bool.{Bool, true}
+use mathlib.Core.List.{List, [], _∷_, map}
 use mathlib.Core.Option.{Option, none, some}
-use Prim.Native.Nat.{ℕ, zero, suc, _+_, _-_, _≤_, _<_}
-use native.Mathlib.Nat.{not-suc-le-zero, le-of-suc-le-suc, le-trans}
+use Prim.Native.Nat.{ℕ, zero, suc, _+_, _≤_, _<_}
+use native.Mathlib.Nat.{not-suc-le-zero, le-of-suc-le-suc}
 use native.Mathlib.Decide.{ℕ-discrete, decLt}
 use native.Mathlib.Omega.{arith}
-use lib.ListN.{length, getD, getElem?, take, drop, set, length-set, length-map, List·getD-eq-default}
-use lib.Seq.{getD-set-same, getD-set-other, sets, sets-eq, length-sets, set-out}
+use lib.ListN.{length, getD, getElem?, take, drop, set, length-set}
+use lib.Seq.{getD-set-same, getD-set-other, sets, set-out}
 use Rattle.rtl.specs.Rtl.{Sig}
 use Rattle.meaning.specs.Step.{bitCount}
 use Rattle.model.specs.Lowering.{cell, put, netOf, allSome}

@@ -1,7 +1,7 @@
 -- The walk: one step of it from what is lowered below, then all of it by induction on the bound. Assumes nothing.
-use mathlib.Core.Path.{_≡_, refl, sym, ap, subst, _∙_}
+use mathlib.Core.Path.{_≡_, refl, sym, ap, _∙_}
 use mathlib.Core.Bool.{Bool, true, false, cond, _&&_}
-use mathlib.Core.List.{List, [], _∷_, _++_, map}
+use mathlib.Core.List.{List, [], _∷_, map}
 use mathlib.Core.Option.{Option, none, some}
 use Prim.Native.Nat.{ℕ, zero, suc, _+_, _-_, _≤_, _<_}
 use native.Mathlib.Omega.{arith}
@@ -10,22 +10,22 @@ use lib.ListN.{length, getD, getElem?}
 use borrow.Author.Tests.{eqb-true, leb-true, ltb-true}
 use Rattle.rtl.specs.Ops.{sliceW}
 use Rattle.rtl.specs.Rtl as R
-use Rattle.rtl.specs.Rtl.{Module, Valuation, Kind, Unary, Binary, Assign, word, byAssign, byMemory, byRegister, byDir, ofPort, driver, dirOf}
-use Rattle.meaning.specs.Step.{Setting, Contents, bitBy}
+use Rattle.rtl.specs.Rtl.{Module, Kind, Unary, Binary, Assign, word, byAssign, byMemory, byRegister, byDir, ofPort, driver, dirOf}
+use Rattle.meaning.specs.Step.{Setting, Contents}
 use Rattle.model.specs.Words.{Netlist, absent}
 use Rattle.model.specs.Builder.{Out, refused, done, andThen, Made, from}
 use Rattle.model.specs.Ranges.{exprAt, widthAt, classOf, Gate}
-use Rattle.model.specs.Lowering.{State, Need, Bit, Whole, Range, Step, Always, Unless, cell, whole, wholeNets, wholeNet, withNetlist, setWhole, setRange, setSignalBit, mark, signalBit, signalWidth, rangeKnown, Operands, operandsOf, operandSteps, wholes, signalSteps, backwards, gateOf, gateSteps, concatPieces, kindSteps, wholeSteps, kindRangeSteps, rangeSteps, buildWhole, buildRange, lowerSteps, unless, exprDriver, driverOf, drive, resolveSignalBit, keepWhole, lowerExpression, keepRange, lowerExpressionRange, lowerBy, lowerNeed, plenty, lowerAll}
+use Rattle.model.specs.Lowering.{State, Need, Bit, Whole, Range, Step, Always, Unless, cell, whole, wholeNets, wholeNet, withNetlist, setSignalBit, mark, signalBit, signalWidth, rangeKnown, Operands, operandsOf, operandSteps, wholes, signalSteps, backwards, gateOf, gateSteps, concatPieces, kindSteps, wholeSteps, kindRangeSteps, rangeSteps, buildWhole, buildRange, lowerSteps, exprDriver, driverOf, drive, resolveSignalBit, keepWhole, lowerExpression, keepRange, lowerExpressionRange, lowerBy, lowerNeed, plenty, lowerAll}
 use Rattle.word_laws.specs.Values.{slice-wide}
 use Rattle.word_laws.specs.Widths.{AllBelow, BelowE, Formed, WidthOk, word-width}
-use Rattle.range_laws.specs.Fusion.{Operate, CarryBelow, operands}
+use Rattle.range_laws.specs.Fusion.{CarryBelow, operands}
 use Rattle.netlist_laws.specs.Meaning.{netValue}
-use Rattle.netlist_laws.specs.Sound.{count, Later}
-use Rattle.walk_laws.specs.Tables.{none-some, some-eq, Has, has-some, has-eq}
+use Rattle.netlist_laws.specs.Sound.{count}
+use Rattle.walk_laws.specs.Tables.{none-some, some-eq}
 use Rattle.walk_laws.specs.Good.{Good, GoodAssign, Undriven}
-use Rattle.walk_laws.specs.Kept.{Agrees, Holds, Inv, Grew, grew-refl, grew-trans, Walks, walks-refused, walks-done, walks-map, walks-bind, Makes}
-use Rattle.walk_laws.specs.Writes.{holds-length, inv-netlist, grew-netlist, inv-whole, grew-whole, has-whole, inv-range, grew-range, has-range, inv-mark, grew-mark, marked, inv-bit, grew-bit, has-bit}
-use Rattle.walk_laws.specs.Reads.{Asked, After, after-grew, needOf, AllAsked, AllAfter, all-after-grew, map-at, below-at, read-whole, whole-length, known-after}
+use Rattle.walk_laws.specs.Kept.{Holds, Inv, grew-refl, grew-trans, Walks, walks-refused, walks-done, walks-map, walks-bind, Makes}
+use Rattle.walk_laws.specs.Writes.{holds-length, inv-netlist, grew-netlist, inv-whole, grew-whole, has-whole, inv-range, grew-range, has-range, inv-mark, marked, inv-bit, grew-bit, has-bit}
+use Rattle.walk_laws.specs.Reads.{Asked, After, after-grew, AllAsked, AllAfter, map-at, below-at, read-whole, whole-length, known-after}
 use Rattle.walk_laws.specs.Gates.{Gates}
 use Rattle.walk_laws.specs.Wholes.{whole-made}
 use Rattle.walk_laws.specs.Parts.{gate-wide, below-turned, pieces-asked, range-made}
@@ -116,17 +116,17 @@ pub record Assigned (m : Module) (s b e o : ℕ) : Type 0 where
 module _ (m : Module) (s b : ℕ) where
   by-assign : (xs : List Assign) → ((k : ℕ) (a : Assign) → getElem? xs k ≡ some a → GoodAssign m a) → (d : ℕ × ℕ) → exprDriver (byAssign xs s b) ≡ some d
       → (s < length (m .signals)) × (b < signalWidth m s) × (d .0 < length (m .exprs)) × (d .1 < widthAt (m .exprs) (d .0)) × Undriven m s
-          × (byAssign xs s b ≡ R.FromExpr (d .0) (d .1))
+      × (byAssign xs s b ≡ R.FromExpr (d .0) (d .1))
   by-assign [] g d q = absurd (none-some q)
   by-assign (a ∷ xs) g d q =
       go (eqb (a .signal) s) refl (leb (a .lsb) b) refl (ltb b (a .lsb + a .width)) refl (by-assign xs (λ k x e. g (suc k) x e) d) q
     where
       go : (x : Bool) → eqb (a .signal) s ≡ x → (y : Bool) → leb (a .lsb) b ≡ y → (z : Bool) → ltb b (a .lsb + a .width) ≡ z
           → (exprDriver (byAssign xs s b) ≡ some d → (s < length (m .signals)) × (b < signalWidth m s) × (d .0 < length (m .exprs)) × (d .1 < widthAt (m .exprs) (d .0)) × Undriven m s
-              × (byAssign xs s b ≡ R.FromExpr (d .0) (d .1)))
+          × (byAssign xs s b ≡ R.FromExpr (d .0) (d .1)))
           → exprDriver (cond (x && y && z) (R.FromExpr (a .value) (b - a .lsb)) (byAssign xs s b)) ≡ some d
           → (s < length (m .signals)) × (b < signalWidth m s) × (d .0 < length (m .exprs)) × (d .1 < widthAt (m .exprs) (d .0)) × Undriven m s
-              × (cond (x && y && z) (R.FromExpr (a .value) (b - a .lsb)) (byAssign xs s b) ≡ R.FromExpr (d .0) (d .1))
+          × (cond (x && y && z) (R.FromExpr (a .value) (b - a .lsb)) (byAssign xs s b) ≡ R.FromExpr (d .0) (d .1))
       go true x true y true z r q =
           let e : _≡_ {A = ℕ × ℕ} (a .value, b - a .lsb) d = some-eq q in
           let k = g 0 a refl in
@@ -226,8 +226,8 @@ module _ (G : Gates) (m : Module) (good : Good m) where
           let ins : d .1 < length (wholeNets st₁ (d .0)) = omega (arith, got .bit) in
           walks-done
           (inv-bit m st₁ s b (wholeNet st₁ (d .0) (d .1)) (k .inv) (got .here) (got .inside) fr (there st₁ ins (rd .there))
-            (λ l a x c v g. rw (driver-by m s b (got .undriven), got .by)
-              (ap (λ (z : List Bool). getD z (d .1) false) (sym (rd .holds l a x c v g)) ∙ at st₁ ins l x c)))
+          (λ l a x c v g. rw (driver-by m s b (got .undriven), got .by)
+          (ap (λ (z : List Bool). getD z (d .1) false) (sym (rd .holds l a x c v g)) ∙ at st₁ ins l x c)))
           (grew-bit m st₁ s b (wholeNet st₁ (d .0) (d .1)) (k .inv) (got .here) (got .inside) fr on {st₀ = st} (k .grew) unmarked)
           (has-bit m st₁ s b (wholeNet st₁ (d .0) (d .1)) (k .inv) (got .here) (got .inside) fr)
 
@@ -287,7 +287,7 @@ module _ (G : Gates) (m : Module) (good : Good m) where
         let k = q .makes in
         let j′ = inv-netlist m st₁ (r .1) j (k .later) in
         let n : length (r .0) ≡ w = holds-length (k .later .sound) (k .post) w
-            (λ v. slice-wide lsb w (word (m .exprs) v e) (omega (arith, word-width (m .exprs) (good .exprs) v e h))) in
+        (λ v. slice-wide lsb w (word (m .exprs) v e) (omega (arith, word-width (m .exprs) (good .exprs) v e h))) in
         let ok : lsb + length (r .0) ≤ widthAt (m .exprs) e = omega arith in
         walks-done (inv-range m (withNetlist st₁ (r .1)) e lsb (r .0) j′ (good .exprs) h ok (rw n (k .post)))
         (grew-trans (grew-netlist m st₁ (r .1) (k .later) (k .cells)) (grew-range m (withNetlist st₁ (r .1)) e lsb (r .0) j′ (good .exprs) h ok))

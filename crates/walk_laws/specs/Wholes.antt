@@ -1,30 +1,26 @@
 -- What is made of a whole expression, once its steps are done, stands for its word. Assumes nothing.
-use mathlib.Core.Path.{_≡_, refl, sym, ap, subst, _∙_}
+use mathlib.Core.Path.{_≡_, refl, sym, ap, _∙_}
 use mathlib.Core.Bool.{Bool, true, false, cond}
 use mathlib.Core.List.{List, [], _∷_, _++_, map}
 use mathlib.Core.Option.{Option, none, some}
-use Prim.Native.Nat.{ℕ, zero, suc, _+_, _-_, _≤_, _<_}
-use native.Mathlib.Nat.{le-trans}
+use Prim.Native.Nat.{ℕ, zero, suc, _-_, _<_}
 use native.Mathlib.Omega.{arith}
-use lib.Dec.{T}
-use lib.ListN.{length, getD, take, drop, replicate, length-map}
+use lib.ListN.{length, getD, take, replicate}
 use Rattle.rtl.specs.Word.{bits, length-bits}
 use Rattle.rtl.specs.Ops.{joinW}
 use Rattle.rtl.specs.Rtl as R
-use Rattle.rtl.specs.Rtl.{Module, Valuation, Kind, Binary, word, word1, binary}
+use Rattle.rtl.specs.Rtl.{Module, Valuation, Kind, Binary, word, word1}
 use Rattle.meaning.specs.Step.{Setting, Contents}
 use Rattle.model.specs.Words.{Netlist, absent}
-use Rattle.model.specs.Builder as B
 use Rattle.model.specs.Builder.{Made, done, andThen, addConstant}
-use Rattle.model.specs.WordCells.{arithmetic}
 use Rattle.model.specs.Ranges.{exprAt, widthAt, classOf, adderWidth}
-use Rattle.model.specs.Lowering.{State, isAdd, addOperands, carryLsb, Operands, fused, operandsOf, Whole, whole, wholeNets, wholeNet, wholes, operandSteps, backwards, kindSteps, wholeSteps, lowerBinary, truncated, resized, buildOperands, buildBinary, partNets, buildKind, buildWhole}
-use Rattle.word_laws.specs.Widths.{AllBelow, BelowE, BinWidth, Formed, WidthOk, word-is, word-width, bin-width}
-use Rattle.range_laws.specs.Fusion.{cellWord, carryBit, CarryBelow, Operate, Narrowed, operands, narrowed}
+use Rattle.model.specs.Lowering.{State, isAdd, addOperands, carryLsb, Operands, fused, operandsOf, whole, wholeNets, wholeNet, wholes, operandSteps, backwards, kindSteps, wholeSteps, truncated, resized, buildOperands, buildBinary, partNets, buildKind, buildWhole}
+use Rattle.word_laws.specs.Widths.{AllBelow, BelowE, BinWidth, Formed, WidthOk, word-is, word-width}
+use Rattle.range_laws.specs.Fusion.{cellWord, carryBit, Operate, Narrowed, operands, narrowed}
 use Rattle.netlist_laws.specs.Meaning.{netValue}
-use Rattle.netlist_laws.specs.Sound.{count, Sound, Later}
-use Rattle.netlist_laws.specs.Run.{cells-refl, later-refl, later-count, stands-later}
-use Rattle.walk_laws.specs.Tables.{none-some, some-eq, Has}
+use Rattle.netlist_laws.specs.Sound.{count, Later}
+use Rattle.netlist_laws.specs.Run.{cells-refl, later-refl}
+use Rattle.walk_laws.specs.Tables.{none-some, Has}
 use Rattle.walk_laws.specs.Kept.{Table, Agrees, more-refl, Holds, holds-later, Inv, Makes, makes-done, makes-map, makes-bind}
 use Rattle.walk_laws.specs.Writes.{holds-length}
 use Rattle.walk_laws.specs.Reads.{AllAfter, map-append, map-at, below-at, below-append, holds-as, holds-nil, holds-append, holds-slice, read-whole, whole-length, read-range, read-bits}

@@ -1,28 +1,27 @@
 -- Each write of the lowering keeps what it must: a later netlist, the nets of an expression or of a range of it, a mark, a signal bit's net. Assumes nothing.
-use mathlib.Core.Path.{_≡_, refl, sym, ap, subst, _∙_}
-use mathlib.Core.Logic.{_⊎_, inl, inr, ⊎-elim}
+use mathlib.Core.Path.{_≡_, refl, sym, ap, _∙_}
+use mathlib.Core.Logic.{⊎-elim}
 use mathlib.Core.Bool.{Bool, true, false}
-use mathlib.Core.List.{List, [], _∷_, _++_, map}
+use mathlib.Core.List.{List, [], map}
 use mathlib.Core.Option.{Option, none, some}
-use Prim.Native.Nat.{ℕ, zero, suc, _+_, _-_, _≤_, _<_}
-use native.Mathlib.Nat.{not-suc-le-zero, le-of-suc-le-suc, le-trans}
+use Prim.Native.Nat.{ℕ, zero, suc, _+_, _≤_, _<_}
+use native.Mathlib.Nat.{not-suc-le-zero}
 use native.Mathlib.Decide.{ℕ-discrete}
 use native.Mathlib.Omega.{arith}
-use lib.ListN.{length, getD, getElem?, take, drop, set, length-set, length-map}
+use lib.ListN.{length, getD, length-set, length-map}
 use lib.Seq.{getD-set-same, getD-set-other, sets, sets-eq, length-sets}
 use Rattle.rtl.specs.Ops.{sliceW}
-use Rattle.rtl.specs.Rtl as R
 use Rattle.rtl.specs.Rtl.{Module, Valuation, word, driver}
 use Rattle.meaning.specs.Step.{Setting, Contents, rounds, bitBy, perhaps}
 use Rattle.model.specs.Words.{Netlist}
 use Rattle.model.specs.Ranges.{widthAt}
-use Rattle.model.specs.Lowering.{State, cell, put, state, whole, withNetlist, setWhole, setRange, rangesBy, setSignalBit, mark, signalWidth, signalBit}
-use Rattle.word_laws.specs.Widths.{AllBelow, Formed, word-width}
+use Rattle.model.specs.Lowering.{State, cell, put, whole, withNetlist, setWhole, setRange, rangesBy, setSignalBit, mark, signalWidth}
+use Rattle.word_laws.specs.Widths.{Formed}
 use Rattle.netlist_laws.specs.Meaning.{netValue}
 use Rattle.netlist_laws.specs.Sound.{Cells, count, Sound, Later}
 use Rattle.netlist_laws.specs.Run.{cells-refl, later-refl, later-trans, later-count}
-use Rattle.walk_laws.specs.Tables.{none-some, some-eq, Has, has-some, has-none, has-eq, Shaped, same-cell, put-shaped, put-same, put-other, filled, filled-put, Fits, has-sets, known-sets, fits-sets, below-sets}
-use Rattle.walk_laws.specs.Kept.{Table, Agrees, More, more-refl, more-trans, agrees-less, Holds, holds-later, HoldsRow, row-later, Wide, HeldBy, Held, Settles, Inv, Framed, Grew, grew-refl, grew-trans}
+use Rattle.walk_laws.specs.Tables.{none-some, some-eq, Has, has-eq, same-cell, put-shaped, put-same, put-other, filled, filled-put, has-sets, known-sets, fits-sets, below-sets}
+use Rattle.walk_laws.specs.Kept.{Table, Agrees, More, more-refl, more-trans, Holds, holds-later, HoldsRow, row-later, Wide, Held, Inv, Grew}
 
 -- ---- how many nets stand for a word ----
 
@@ -275,7 +274,7 @@ module _ (m : Module) where
     -- the bit's driver gives the net's value, whatever agrees
     pub inv-bit : n < count (st .netlist)
         → ((h : Netlist) → Later (st .netlist) h → (x : Setting) (c : Contents) (v : Valuation) → Agrees (netValue h x c) v (st .signalBits)
-            → bitBy m x c v s b (driver m s b) ≡ netValue h x c n)
+        → bitBy m x c v s b (driver m s b) ≡ netValue h x c n)
         → Inv m (setSignalBit st s b n)
     unfolding whole setSignalBit
     inv-bit there d = record {
