@@ -1,0 +1,3 @@
+-- Demands 2 and 3 of a lowering.
+pub mod Reads
+pub mod Demands
