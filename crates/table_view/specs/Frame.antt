@@ -1,17 +1,17 @@
 -- What others write into the scratch leaves the tables as they are: the index of gates and cells, and the six other words of each
 -- expression. Assumes nothing.
-use mathlib.Core.Path.{_≡_, refl, sym, ap, _∙_, subst}
+use mathlib.Core.Path.{_≡_, sym, ap, _∙_, subst}
 use mathlib.Core.List.{List}
-use Prim.Native.Nat.{ℕ, zero, suc, _+_, _*_, _-_, _≤_, _<_}
+use Prim.Native.Nat.{ℕ, _+_, _*_, _-_, _≤_, _<_}
 use native.Mathlib.Omega.{arith}
 use lib.ListN.{length, getD, set, take, drop, length-set}
 use lib.Seq.{getD-set-other, getD-take, getD-drop}
-use Rattle.meaning.specs.Image.{countAt, exprWidth}
+use Rattle.meaning.specs.Image.{countAt}
 use Rattle.meaning.specs.Checks.{signalBits, exprBits}
 use Rattle.model.specs.Words.{Netlist}
 use Rattle.model.specs.Lowering.{state}
-use Rattle.table_view.specs.View.{limitOf, signalColumn, exprColumn, bitColumn, signalBit, exprBit, exprAt, bitAt, stateAt, stateOf, freeAt, free, LaidAt, Laid}
-use Rattle.table_view.specs.Laws.{Kept, kept-laid, ExprSame, signals-few, signal-inside, expr-ends, still-whole, signals-stay, marks-stay, free-stays, wholes-stay, rangeses-stay}
+use Rattle.table_view.specs.View.{limitOf, signalColumn, bitColumn, signalBit, exprBit, exprAt, stateAt, stateOf, freeAt, free, LaidAt, Laid}
+use Rattle.table_view.specs.Laws.{ExprSame, signals-few, signal-inside, expr-ends, still-whole, signals-stay, marks-stay, free-stays, wholes-stay, rangeses-stay}
 
 pub record Stays (s w w′ : List ℕ) : Type 0 where
   pub says : (l : Netlist) → stateOf s l w′ ≡ stateOf s l w
@@ -55,10 +55,10 @@ module _ (s : List ℕ) (n : ℕ) (w w′ : List ℕ) (h : LaidAt s n w) (q : Sa
 
   same-state : (l : Netlist) → stateAt s n l w′ ≡ stateAt s n l w
   same-state l = λ j. state l
-    (signals-stay s n w w′ (λ i u. q .signals i (omega arith)) j)
-    (marks-stay s n w w′ (λ i u. column (2 * signalBits s) i (omega arith)) j)
-    (wholes-stay s n w w′ expr-same j)
-    (rangeses-stay s n w w′ expr-same j)
+      (signals-stay s n w w′ (λ i u. q .signals i (omega arith)) j)
+      (marks-stay s n w w′ (λ i u. column (2 * signalBits s) i (omega arith)) j)
+      (wholes-stay s n w w′ expr-same j)
+      (rangeses-stay s n w w′ expr-same j)
 
   same-free : freeAt s n w′ ≡ freeAt s n w
   same-free = free-stays s n w w′ (λ i u. column (2 * signalBits s) i (omega arith))
@@ -80,10 +80,10 @@ index-stays s w w′ h l t d =
     let n = limitOf w in
     let low : (j : ℕ) → j < 64 → getD w′ j 0 ≡ getD w j 0 = λ j u. sym (getD-take 64 w′ j 0 u) ∙ ap (λ (x : List ℕ). getD x j 0) t ∙ getD-take 64 w j 0 u in
     let high : (j : ℕ) → getD w′ (signalColumn n + j) 0 ≡ getD w (signalColumn n + j) 0 =
-        λ j. sym (getD-drop (signalColumn n) w′ j 0) ∙ ap (λ (x : List ℕ). getD x j 0) d ∙ getD-drop (signalColumn n) w j 0 in
+    λ j. sym (getD-drop (signalColumn n) w′ j 0) ∙ ap (λ (x : List ℕ). getD x j 0) d ∙ getD-drop (signalColumn n) w j 0 in
     let up : (j : ℕ) → signalColumn n ≤ j → getD w′ j 0 ≡ getD w j 0 =
-        λ j u. (let m : j ≡ signalColumn n + (j - signalColumn n) = omega arith in
-          ap (λ (i : ℕ). getD w′ i 0) m ∙ high (j - signalColumn n) ∙ ap (λ (i : ℕ). getD w i 0) (sym m)) in
+    λ j u. (let m : j ≡ signalColumn n + (j - signalColumn n) = omega arith in
+    ap (λ (i : ℕ). getD w′ i 0) m ∙ high (j - signalColumn n) ∙ ap (λ (i : ℕ). getD w i 0) (sym m)) in
     stays s w w′ h
     (record {
       long = l;

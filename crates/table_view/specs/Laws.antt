@@ -5,18 +5,17 @@ use mathlib.Core.List.{List, [], _∷_, _++_, map}
 use mathlib.Core.Logic.{⊎-elim, inl, inr, _⊎_}
 use mathlib.Core.Option.{Option, none, some}
 use Prim.Native.Nat.{ℕ, zero, suc, _+_, _*_, _-_, _≤_, _<_, min}
-use native.Mathlib.Nat.{sub-zero}
 use native.Mathlib.Omega.{arith}
-use lib.ListN.{length, getD, set, take, drop, length-set, length-append, length-take, length-drop, List·getD-append, List·getD-eq-default}
+use lib.ListN.{length, getD, set, take, drop, length-set, length-append, length-take, List·getD-append}
 use lib.Seq.{ext-getD, getD-set-same, getD-set-other, getD-take, getD-drop, getD-append-add, paste, length-paste, set-getD, take-all}
 use Rattle.rules.specs.Rules.{listOf, sumTo}
-use Rattle.meaning.specs.Image.{countAt, signalWidth, exprWidth, decode}
+use Rattle.meaning.specs.Image.{countAt, signalWidth, exprWidth}
 use Rattle.meaning.specs.Checks.{signalBits, exprBits, scratchNeed}
 use Rattle.model.specs.Words.{Netlist, absent}
 use Rattle.model.specs.Lowering as M
-use Rattle.model.specs.Lowering.{State, state, netOf, cell, put}
-use Rattle.table_view.specs.Rows.{listOf-agree, at-listOf, is-listOf, set-listOf, map-listOf, part-listOf, length-listOf, sum-agree, sum-falls, stretch-before, stretch-apart, sum-most, same-or, rows-agree, set-rows, put-rows, cell-rows}
-use Rattle.table_view.specs.View.{limitOf, signalColumn, exprColumn, bitColumn, signalBit, exprBit, netAt, driverAt, markAt, firstAt, exprAt, bitAt, known, netWord, isSet, wholeOf, rangesOf, isWhole, signalRows, markRows, wholeAt, rangesAt, stateAt, stateOf, unset, freeAt, free, Sized, LaidAt, Laid, Writes, Marks}
+use Rattle.model.specs.Lowering.{State, state, netOf, cell}
+use Rattle.table_view.specs.Rows.{listOf-agree, at-listOf, is-listOf, set-listOf, map-listOf, length-listOf, sum-agree, sum-falls, stretch-before, stretch-apart, sum-most, same-or, rows-agree, set-rows, put-rows, cell-rows}
+use Rattle.table_view.specs.View.{limitOf, signalColumn, exprColumn, bitColumn, signalBit, exprBit, netAt, markAt, exprAt, bitAt, known, netWord, isSet, wholeOf, rangesOf, isWhole, signalRows, markRows, wholeAt, rangesAt, stateAt, unset, freeAt, Sized, LaidAt, Laid, Writes, Marks}
 
 -- ---- words ----
 
