@@ -465,9 +465,6 @@ module _ (s w w′ ns : List ℕ) (e lsb k f : ℕ) (h : Laid s w) (u : e < coun
     (flag : getD w′ (exprAt s (limitOf w) e 1) 0 ≡ f)
     (other : (j : ℕ) → (j ≡ exprAt s (limitOf w) e 1 → ⊥) → ((i : ℕ) → i < k → j ≡ bitAt s (limitOf w) e lsb + i → ⊥) → getD w′ j 0 ≡ getD w j 0)
     (full : (b : ℕ) → b < exprWidth s e → isWhole s (limitOf w) w′ e ≡ true → 0 < getD w′ (bitAt s (limitOf w) e b) 0) where
-  here-expr : exprBit s e (exprWidth s e) ≤ exprBits s
-  here-expr = expr-ends s e u
-
   low : (j : ℕ) → j < exprColumn s (limitOf w) → getD w′ j 0 ≡ getD w j 0
   low j a = other j (λ z. absurd (omega arith)) (λ i c z. absurd (omega arith))
 
