@@ -14,10 +14,6 @@ use Rattle.rtl.specs.Rtl.{Expr}
 use Rattle.model.specs.Ranges as model
 use Rattle.range_rows.specs.Rows.{narrowWord}
 
--- a number in two words, the low half first
-abbrev pub halves : List ℕ → ℕ → ℕ
-halves t at = getD t at 0 + getD t (at + 1) 0 * 4294967296
-
 -- the range that the row of e holds
 unfoldable pub rangeIn : List ℕ → ℕ → model.Range
 rangeIn t e = record {
@@ -162,3 +158,8 @@ narrow-back w (some r) = go (max 1 (model.bitLen 64 (r .hi))) (ltb (max 1 (model
     go zero b h = absurd (not-suc-le-zero h)
     go (suc k) true h = refl
     go (suc k) false h = refl
+
+-- what the table says of an Add is the model's `adder_widths`
+pub filled-narrow : (xs : List Expr) (n : ℕ) (t : List ℕ) → n * 8 ≤ length t → (j : ℕ) → j < n → narrowOf (getD (filled xs n t) (j * 8 + 6) 0) ≡ model.adderWidth xs j
+unfolding model.adderWidth
+filled-narrow xs n t h j l = ap narrowOf (filled-width xs n t h j l) ∙ narrow-back (model.widthAt xs j) (model.rangeAt xs j)
