@@ -77,7 +77,7 @@ output-there m p e = elim (decLt p (length (m .signals))) [
       let y : _≡_ {A = ℕ} 0 1 = cc in absurd (omega arith))
 ]
 
-module _ (m : Module) (good : Good m) (lim : ℕ × ℕ) (st : State) (w : Lowered m good lim st) where
+module _ (m : Module) (good : Good m) (ob : Bool) (lim : ℕ × ℕ) (st : State) (w : Lowered m good ob lim st) where
   abbrev L : Netlist
   L = st .netlist
 
@@ -290,20 +290,20 @@ module _ (m : Module) (good : Good m) (lim : ℕ × ℕ) (st : State) (w : Lower
 
 -- ---- of a lowering that succeeds ----
 
-module _ (m : Module) (good : Good m) (n p : ℕ) (small : n ≤ absent) (st : State) (ok : lowerState false m n p ≡ done st) where
-  end : Lowered m good (n, p) st
-  end = subst (λ (o : Out State). Meets Any (Lowered m good (n, p)) o) ok (lowered m good (n, p) small)
+module _ (m : Module) (good : Good m) (ob : Bool) (n p : ℕ) (small : n ≤ absent) (st : State) (ok : lowerState ob m n p ≡ done st) where
+  end : Lowered m good ob (n, p) st
+  end = subst (λ (o : Out State). Meets Any (Lowered m good ob (n, p)) o) ok (lowered m good ob (n, p) small)
 
   pub demand2 : Demand2 m (netlist (words n p (st .netlist))) (expressionNet st)
   unfolding netValue
-  demand2 = rw (image m good (n, p) st end) (expressions m good (n, p) st end)
+  demand2 = rw (image m good ob (n, p) st end) (expressions m good ob (n, p) st end)
 
   pub demand3 : Demand3 m (netlist (words n p (st .netlist)))
-  demand3 = rw (image m good (n, p) st end) (runs m good (n, p) st end)
+  demand3 = rw (image m good ob (n, p) st end) (runs m good ob (n, p) st end)
 
   -- the settled values, and so the module's run, do not hang on the values before the first round
   pub determined : (u u′ : Valuation) (c : Contents) (settings : List Setting) → run (ofModule m u) c settings ≡ run (ofModule m u′) c settings
-  determined u u′ c settings = one-run m good (n, p) st end u u′ c settings
+  determined u u′ c settings = one-run m good ob (n, p) st end u u′ c settings
 
   pub sized : length (words n p (st .netlist)) ≡ 16 + 6 * n + p
-  sized = image-length m good (n, p) st end
+  sized = image-length m good ob (n, p) st end
