@@ -16,7 +16,7 @@ use Rattle.rtl.specs.Rtl as R
 use Rattle.rtl.specs.Rtl.{Module, Valuation, Kind, Unary, Binary, word, word1, binary}
 use Rattle.model.specs.Words.{Netlist}
 use Rattle.model.specs.Ranges.{exprAt, widthAt, classOf, Gate, AndGate, OrGate, XorGate}
-use Rattle.model.specs.Lowering.{State, Step, Always, Range, Piece, pieces, concatPieces, backwards, gateOf, gateSteps, whole, wholeNet, rangeNets, pieceNets, rangeGate, kindRangeSteps, rangeSteps, rangeKind, buildRange}
+use Rattle.model.specs.Lowering.{State, Step, Always, Range, Piece, pieces, concatPieces, backwards, gateOf, gateSteps, whole, rangeNets, pieceNets, rangeGate, kindRangeSteps, rangeSteps, rangeKind, buildRange}
 use Rattle.word_laws.specs.Shift.{tab-ext}
 use Rattle.word_laws.specs.Slices.{map-slice, map2-slice, cond-slice, tab-slice, slice-slice, append-slice}
 use Rattle.word_laws.specs.Values.{slice-wide}
@@ -189,8 +189,8 @@ module _ (G : Gates) (m : Module) (f : Formed (m .exprs)) (ob : Bool) (st : Stat
           holds-as (r h) (λ v. rw z at (cut v))
 
   module _ (e lsb w : ℕ) (here : e < length (m .exprs)) (fits : lsb + w ≤ widthAt (m .exprs) e) where
-    abbrev Made′ : List ℕ → Netlist → Type 0
-    Made′ ns l = Holds l (st .signalBits) ns (λ v. sliceW lsb w (word (m .exprs) v e))
+    abbrev MadeSlice : List ℕ → Netlist → Type 0
+    MadeSlice ns l = Holds l (st .signalBits) ns (λ v. sliceW lsb w (word (m .exprs) v e))
 
     module _ (k : Kind) (x : (exprAt (m .exprs) e) .kind ≡ k) where
       is : (v : Valuation) → sliceW lsb w (word1 v (word (m .exprs) v) (widthAt (m .exprs) e) k) ≡ sliceW lsb w (word (m .exprs) v e)
@@ -215,7 +215,7 @@ module _ (G : Gates) (m : Module) (f : Formed (m .exprs)) (ob : Bool) (st : Stat
       side-length = holds-length (i .sound) side w (λ v. slice-wide lsb w (word (m .exprs) v a) (omega (arith, word-width (m .exprs) f v a (omega arith))))
 
     un-made : (op : Unary) (a : ℕ) → (exprAt (m .exprs) e) .kind ≡ R.Un op a → AllAfter ob st (kindRangeSteps (m .exprs) e lsb w (R.Un op a))
-        → Makes (st .netlist) Made′ (rangeKind (m .exprs) ob st e lsb w (widthAt (m .exprs) e) (R.Un op a))
+        → Makes (st .netlist) MadeSlice (rangeKind (m .exprs) ob st e lsb w (widthAt (m .exprs) e) (R.Un op a))
     un-made R.BitNot a x h =
         let p = side a (low (R.Un R.BitNot a) x) (wide (R.Un R.BitNot a) x) (h .0) in
         gives-holds _ (G .nots (rangeNets st a lsb w) (st .netlist) (i .sound) (p .there))
@@ -226,7 +226,7 @@ module _ (G : Gates) (m : Module) (f : Formed (m .exprs)) (ob : Bool) (st : Stat
     un-made R.ReduceXor a x h = makes-done (later-refl (i .sound)) cells-refl (own (h .0))
 
     gate-made : (op : Binary) (a b : ℕ) → (exprAt (m .exprs) e) .kind ≡ R.Bin op a b → (o : Option Gate) → gateOf (classOf op) ≡ o → AllAfter ob st (gateSteps o e a b lsb w)
-        → Makes (st .netlist) Made′ (rangeGate o st e a b lsb w)
+        → Makes (st .netlist) MadeSlice (rangeGate o st e a b lsb w)
     gate-made op a b x none q h = makes-done (later-refl (i .sound)) cells-refl (own (h .0))
     gate-made op a b x (some k) q h =
         let n = gate-wide (widthAt (m .exprs)) (widthAt (m .exprs) e) a b op k q (wide (R.Bin op a b) x) in
@@ -239,7 +239,7 @@ module _ (G : Gates) (m : Module) (f : Formed (m .exprs)) (ob : Bool) (st : Stat
         (sym (map2-slice (gateOp k) lsb w (word (m .exprs) v a) (word (m .exprs) v b)) ∙ ap (sliceW lsb w) (sym (gate-word op k q (word (m .exprs) v a) (word (m .exprs) v b))) ∙ is (R.Bin op a b) x v))
 
     kind-made : (k : Kind) → (exprAt (m .exprs) e) .kind ≡ k → AllAfter ob st (kindRangeSteps (m .exprs) e lsb w k)
-        → Makes (st .netlist) Made′ (rangeKind (m .exprs) ob st e lsb w (widthAt (m .exprs) e) k)
+        → Makes (st .netlist) MadeSlice (rangeKind (m .exprs) ob st e lsb w (widthAt (m .exprs) e) k)
     unfolding concatPieces
     kind-made (R.Signal s b) x h =
         makes-done (later-refl (i .sound)) cells-refl (holds-as (read-bits m st i ob s (b + lsb) w h)

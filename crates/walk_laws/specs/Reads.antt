@@ -176,9 +176,6 @@ module _ (m : Module) (st : State) (i : Inv m st) where
     unfolding rangeNets
     read-range e lsb w b k h = go (whole st e) refl
       where
-        row : List (Option ℕ)
-        row = getD (st .expressionRanges) e []
-
         known : whole st e ≡ none → Known (getD (st .expressionRanges) e []) lsb w
         known q = record { known = λ j x y. rw q at (h j x y) }
 

@@ -2,7 +2,7 @@
 use mathlib.Core.Path.{_≡_, refl, sym, ap, _∙_}
 use mathlib.Core.Logic.{inl, inr}
 use mathlib.Core.Bool.{Bool, true, false, cond, _&&_}
-use mathlib.Core.List.{List, [], _∷_, map}
+use mathlib.Core.List.{List, [], _∷_}
 use mathlib.Core.Option.{Option, none, some}
 use Prim.Native.Nat.{ℕ, zero, suc, _+_, _-_, _≤_, _<_}
 use native.Mathlib.Omega.{arith}
@@ -12,7 +12,6 @@ use borrow.Author.Tests.{eqb-true, leb-true, ltb-true}
 use Rattle.rtl.specs.Ops.{sliceW}
 use Rattle.rtl.specs.Rtl as R
 use Rattle.rtl.specs.Rtl.{Valuation, Module, Kind, Unary, Binary, Assign, word, byAssign, byMemory, byRegister, byDir, ofPort, driver, dirOf}
-use Rattle.meaning.specs.Step.{Setting, Contents}
 use Rattle.model.specs.Words.{Netlist, absent}
 use Rattle.model.specs.Builder.{Out, refused, done, andThen, Made, from, isValue}
 use Rattle.model.specs.Ranges.{exprAt, widthAt, classOf, Gate}
@@ -244,7 +243,7 @@ module _ (G : Gates) (m : Module) (good : Good m) (ob : Bool) where
       net-taken true st₁ j h =
           let r = read-range m st₁ j (good .exprs) (d .0) (d .1) 1 (got .value) (omega (arith, got .bit)) h in
           let n : length (rangeNets st₁ (d .0) (d .1) 1) ≡ 1 = holds-length (j .sound) r 1
-              (λ v. slice-wide (d .1) 1 (word (m .exprs) v (d .0)) (omega (arith, got .bit, word-width (m .exprs) (good .exprs) v (d .0) (got .value)))) in
+          (λ v. slice-wide (d .1) 1 (word (m .exprs) v (d .0)) (omega (arith, got .bit, word-width (m .exprs) (good .exprs) v (d .0) (got .value)))) in
           holds-as (one-of r 0 absent (omega arith)) (λ v. ap (λ (x : Bool). x ∷ []) (first-of (d .1) (word (m .exprs) v (d .0))))
 
       driven : (o : Out State) → Walks m (mark st s b) (λ st′. After st′ (drivenBy ob (d .0) (d .1))) o
@@ -259,7 +258,7 @@ module _ (G : Gates) (m : Module) (good : Good m) (ob : Bool) where
           let on = k .grew .framed .marks s b mk in
           walks-done
           (inv-bit m st₁ s b n (k .inv) (got .here) (got .inside) fr (t .there .0)
-            (λ l a x c v g. rw (driver-by m s b (got .undriven), got .by) (sym (head-eq (t .holds l a x c v g)))))
+          (λ l a x c v g. rw (driver-by m s b (got .undriven), got .by) (sym (head-eq (t .holds l a x c v g)))))
           (grew-bit m st₁ s b n (k .inv) (got .here) (got .inside) fr on {st₀ = st} (k .grew) unmarked)
           (has-bit m st₁ s b n (k .inv) (got .here) (got .inside) fr)
 

@@ -95,10 +95,6 @@ cell-length op a b none e = rw e (length-bits (length a) _)
 cell-length op a b (some c) e = length-bits (length a) _
 
 module _ (G : Gates) (m : Module) (f : Formed (m .exprs)) (ob : Bool) (st : State) (i : Inv m st) where
-  -- nets of this netlist that stand for a word
-  abbrev pub Word : (Valuation → List Bool) → List ℕ → Netlist → Type 0
-  Word w ns l = Holds l (st .signalBits) ns w
-
   -- bit 0 of a whole expression
   module _ (c : ℕ) (here : c < length (m .exprs)) (h : Has (whole st c)) where
     some-bit : 0 < length (wholeNets st c)
@@ -182,14 +178,14 @@ module _ (G : Gates) (m : Module) (f : Formed (m .exprs)) (ob : Bool) (st : Stat
       (λ h a s d v g. rw (p .holds h a s d v g, q .holds h a s d v g, bit0 c (hc .0) (hc .1) h a s d v g))
 
   module _ (e : ℕ) (here : e < length (m .exprs)) where
-    abbrev Made′ : List ℕ → Netlist → Type 0
-    Made′ ns l = Holds l (st .signalBits) ns (λ v. word (m .exprs) v e)
+    abbrev MadeWord : List ℕ → Netlist → Type 0
+    MadeWord ns l = Holds l (st .signalBits) ns (λ v. word (m .exprs) v e)
 
     -- ---- filled up ----
 
     fill : (k : ℕ) (ns : List ℕ) (l : Netlist) (w : Valuation → List Bool) → Later (st .netlist) l → Holds l (st .signalBits) ns w → length ns ≡ k
         → ((v : Valuation) → word (m .exprs) v e ≡ w v ++ replicate (widthAt (m .exprs) e - k) false)
-        → Makes l Made′ (andThen (addConstant false l) (λ (z, l₁). done (ns ++ replicate (widthAt (m .exprs) e - length ns) z, l₁)))
+        → Makes l MadeWord (andThen (addConstant false l) (λ (z, l₁). done (ns ++ replicate (widthAt (m .exprs) e - length ns) z, l₁)))
     fill k ns l w a p n q = makes-bind (addConstant false l) _ (G .constant false l (a .sound)) (λ z l₁ b r.
         makes-done (later-refl (b .sound)) cells-refl (record {
           there = below-append (count l₁) ns _ (holds-later b more-refl p .there) (below-replicate (count l₁) (widthAt (m .exprs) e - length ns) z (r .there));
@@ -199,7 +195,7 @@ module _ (G : Gates) (m : Module) (f : Formed (m .exprs)) (ob : Bool) (st : Stat
 
     resized-made : (op : Binary) (a b : ℕ) → (exprAt (m .exprs) e) .kind ≡ R.Bin op a b → (n : Option ℕ) → cond (isAdd (classOf op)) (adderWidth (m .exprs) e) none ≡ n
         → (x y : ℕ) (c : Option ℕ) → ((v : Valuation) → Operate (m .exprs) v e (widthAt (m .exprs) e) op (record { lhs = x; rhs = y; carry = c }))
-        → (o : Made (List ℕ)) → Makes (st .netlist) (CellMade op n x y c) o → Makes (st .netlist) Made′ (resized n (widthAt (m .exprs) e) o)
+        → (o : Made (List ℕ)) → Makes (st .netlist) (CellMade op n x y c) o → Makes (st .netlist) MadeWord (resized n (widthAt (m .exprs) e) o)
     resized-made op a b k none q x y c t o r = makes-map o r (λ ns l d p. holds-as p (λ v. sym (t v .gives)))
     resized-made op a b k (some j) q x y c t o r = makes-bind o _ r (λ ns l d p.
         fill j ns l _ d p
@@ -237,7 +233,7 @@ module _ (G : Gates) (m : Module) (f : Formed (m .exprs)) (ob : Bool) (st : Stat
 
     bin-made : (op : Binary) (a b : ℕ) → (exprAt (m .exprs) e) .kind ≡ R.Bin op a b → (n : Option ℕ) → cond (isAdd (classOf op)) (adderWidth (m .exprs) e) none ≡ n
         → (o : Operands) → ((v : Valuation) → Operate (m .exprs) v e (widthAt (m .exprs) e) op o) → Taken op a b o → AllAfter ob st (operandSteps o)
-        → Makes (st .netlist) Made′ (resized n (widthAt (m .exprs) e) (buildOperands op n st o))
+        → Makes (st .netlist) MadeWord (resized n (widthAt (m .exprs) e) (buildOperands op n st o))
     bin-made op a b x n q o t plain h = resized-made op a b x n q a b none t _ (cell-made op n a b none (h .0) (h .1 .0) tt (width n q))
       where
         la : length (wholeNets st a) ≡ widthAt (m .exprs) a
@@ -288,7 +284,7 @@ module _ (G : Gates) (m : Module) (f : Formed (m .exprs)) (ob : Bool) (st : Stat
     parts-made (p ∷ ps) h = holds-append (parts-made ps (h .1)) (read-whole m st i p (h .0))
 
     kind-made : (k : Kind) → (exprAt (m .exprs) e) .kind ≡ k → AllAfter ob st (kindSteps (m .exprs) (widthAt (m .exprs) e) k)
-        → Makes (st .netlist) Made′ (buildKind (m .exprs) ob st e (widthAt (m .exprs) e) k)
+        → Makes (st .netlist) MadeWord (buildKind (m .exprs) ob st e (widthAt (m .exprs) e) k)
     unfolding buildBinary
     kind-made (R.Signal s lsb) x h =
         makes-done (later-refl (i .sound)) cells-refl (holds-as (read-bits m st i ob s lsb (widthAt (m .exprs) e) h) (is (R.Signal s lsb) x))

@@ -20,7 +20,7 @@ use Rattle.word_laws.specs.Widths.{Formed}
 use Rattle.netlist_laws.specs.Meaning.{netValue}
 use Rattle.netlist_laws.specs.Sound.{Cells, count, Sound, Later}
 use Rattle.netlist_laws.specs.Run.{cells-refl, later-refl, later-trans, later-count}
-use Rattle.walk_laws.specs.Tables.{none-some, some-eq, Has, has-eq, same-cell, put-shaped, put-same, put-other, filled, filled-put, has-sets, known-sets, fits-sets, below-sets}
+use Rattle.walk_laws.specs.Tables.{none-some, some-eq, Has, same-cell, put-shaped, put-same, put-other, filled, filled-put, has-sets, known-sets, fits-sets, below-sets}
 use Rattle.walk_laws.specs.Kept.{Table, Agrees, More, more-refl, more-trans, Holds, holds-later, HoldsRow, row-later, Wide, Held, Inv, Grew}
 
 -- ---- how many nets stand for a word ----
