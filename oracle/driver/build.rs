@@ -74,7 +74,9 @@ fn write_copy(folder: &Path, sources: &Sources, child: &Path) {
 /// The declarations that `lib.rs` includes.
 fn copies(out: &Path) -> String {
     let module = |name: &str, path: PathBuf| {
-        format!("#[path = {path:?}]\n#[allow(dead_code, unused_imports)]\nmod {name};\n")
+        format!(
+            "#[path = {path:?}]\n#[allow(dead_code, unused_imports, clippy::all)]\nmod {name};\n"
+        )
     };
     module("plain", out.join("plain").join(SYNTH))
         + &module("limited", out.join("limited").join(SYNTH))

@@ -15,9 +15,9 @@ use Rattle.meaning.specs.Step.{Setting, Contents, nodeValue}
 use Rattle.model.specs.Words.{absent, Node, node, gate, Netlist}
 use Rattle.model.specs.Builder.{Made, done, nodeForNet, constantOf, constantValue, isValue, isConstant, addCached, addConstant, notBy, addNot, addAnd, addOr, addXor, muxBy, addMux}
 use Rattle.netlist_laws.specs.Meaning.{decode, meaningOf, netValue}
-use Rattle.netlist_laws.specs.Sound.{count, Plain, Wired, Sound, Stands}
+use Rattle.netlist_laws.specs.Sound.{count, Plain, Wired, Sound, Grew, At, Stands}
 use Rattle.netlist_laws.specs.Run.{later-trans, stands-as, Run, run-here, run-map}
-use Rattle.netlist_laws.specs.Nodes.{later-net}
+use Rattle.netlist_laws.specs.Nodes.{node-grew, later-net}
 use Rattle.gate_laws.specs.Nodes.{run-if, Is, Bitless, cached-run}
 
 -- ---- what a node is ----
@@ -40,6 +40,11 @@ plain x e f = record { constant = go (eqb (x .kind) 1) refl e; inverter = eqb-fa
     go : (t : Bool) → eqb (x .kind) 1 ≡ t → _≡_ {A = Option Bool} (cond t (some (eqb (x .owner) 1)) none) none → x .kind ≡ 1 → ⊥
     go true k e = let z : _≡_ {A = ℕ} 0 1 = cc in absurd (omega arith)
     go false k e = eqb-false (x .kind) 1 k
+
+-- constants stay constants
+pub constant-grew : {l h : Netlist} → Grew l h → (k : ℕ) → k < count l → constantValue h k ≡ constantValue l k
+unfolding constantValue
+constant-grew g k h = ap constantOf (node-grew g k h)
 
 -- a net whose node is a constant, or a Not, in every later netlist
 pub constant-later : (l : Netlist) (k : ℕ) (b : Bool) → k < count l → constantValue l k ≡ some b → Stands l k (λ h s c. b)
@@ -224,3 +229,18 @@ mux-run d a b l q hd ha hb = run-if (eqb a b)
         (λ z l′ g v. stands-as v (λ h x s c.
         rw (not-later l d hd t .is h (later-trans g x) s c) (cond-not (netValue h s c (nodeForNet l d .in0)) (netValue h s c a) (netValue h s c b)))))
         (λ t. cached-run (gate 6 d a b) l q (hd, ha, hb) (λ x. refl))
+
+-- ---- from what the operands stand for ----
+
+pub not-stands : {l : Netlist} {a : ℕ} {f : At Bool} → Sound l → Stands l a f → Run l (λ z l′. Stands l′ z (λ h s c. not (f h s c))) (addNot a l)
+not-stands {l} {a} q x = run-map (not-run a l q (x .there)) (λ z l′ y v. stands-as v (λ h y′ s c. ap not (x .is h (later-trans y y′) s c)))
+
+pub op2-stands : (op : Bool → Bool → Bool) {l : Netlist} {a b : ℕ} {f g : At Bool} {o : Made ℕ} → Run l (Op2 op a b) o → Stands l a f → Stands l b g
+    → Run l (λ z l′. Stands l′ z (λ h s c. op (f h s c) (g h s c))) o
+op2-stands op r x y = run-map r (λ z l′ e v. stands-as v (λ h e′ s c. rw (x .is h (later-trans e e′) s c, y .is h (later-trans e e′) s c)))
+
+pub mux-stands : {l : Netlist} {d a b : ℕ} {e f g : At Bool} → Sound l → Stands l d e → Stands l a f → Stands l b g
+    → Run l (λ z l′. Stands l′ z (λ h s c. cond (e h s c) (f h s c) (g h s c))) (addMux d a b l)
+mux-stands {l} {d} {a} {b} q w x y =
+    run-map (mux-run d a b l q (w .there) (x .there) (y .there))
+    (λ z l′ k v. stands-as v (λ h k′ s c. rw (w .is h (later-trans k k′) s c, x .is h (later-trans k k′) s c, y .is h (later-trans k k′) s c)))

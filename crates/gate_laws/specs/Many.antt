@@ -1,17 +1,19 @@
 -- A gate for each of a list, and for each pair of two. Assumes nothing.
-use mathlib.Core.Path.{_≡_, refl}
-use mathlib.Core.Bool.{Bool, not}
+use mathlib.Core.Path.{_≡_, refl, sym, _∙_}
+use mathlib.Core.Bool.{Bool, not, cond}
 use mathlib.Core.List.{List, [], _∷_, map}
-use Prim.Native.Nat.{ℕ, _≤_, _<_}
+use Prim.Native.Nat.{ℕ, suc, _≤_, _<_}
 use native.Mathlib.Nat.{le-trans}
+use lib.ListN.{length, length-map}
 use Rattle.rtl.specs.Ops.{map2}
 use Rattle.model.specs.Words.{Netlist}
-use Rattle.model.specs.Builder.{Made, each, both, addConstant, addNot}
+use Rattle.model.specs.Builder.{Made, each, both, addConstant, addNot, addMux}
+use Rattle.word_laws.specs.Shift.{mux-word}
 use Rattle.word_laws.specs.Widths.{AllBelow}
 use Rattle.netlist_laws.specs.Meaning.{netValue}
 use Rattle.netlist_laws.specs.Sound.{count, Sound, At, Stands, StandsAll}
 use Rattle.netlist_laws.specs.Run.{later-count, below-more, stands-later, all-nil, all-cons, Run, run-here, run-bind, run-map, all-as}
-use Rattle.gate_laws.specs.Gates.{constant-run, not-run}
+use Rattle.gate_laws.specs.Gates.{constant-run, not-run, mux-run}
 
 abbrev pub All : {A : Type 0} → (A → Type 0) → List A → Type 0
 All P [] = Unit {0}
@@ -69,3 +71,11 @@ pub nots-run : (xs : List ℕ) (l : Netlist) → Sound l → AllBelow (count l) 
 nots-run xs l q b =
     run-map (each-run addNot (λ a h s c. not (netValue h s c a)) (λ n a. a < n) (λ n k a h b. le-trans b h) not-run xs l q (below-all (count l) xs b))
     (λ zs l′ g w. all-as w (λ h x s c. map-map not (netValue h s c) xs))
+
+-- a mux for each pair: the one word or the other
+pub muxes-run : (d : ℕ) (xs ys : List ℕ) (l : Netlist) → Sound l → d < count l → AllBelow (count l) xs → AllBelow (count l) ys → length xs ≡ length ys
+    → Run l (λ zs l′. StandsAll l′ zs (λ h s c. cond (netValue h s c d) (map (netValue h s c) xs) (map (netValue h s c) ys))) (both (addMux d) xs ys l)
+muxes-run d xs ys l q n b e same =
+    run-map (both-run (addMux d) (λ h s c. cond (netValue h s c d)) (suc d) (λ x y l q k hx hy. mux-run d x y l q k hx hy) xs ys l q n b e)
+    (λ zs l′ y w. all-as w (λ h z s c. mux-word (netValue h s c d) (map (netValue h s c) xs) (map (netValue h s c) ys)
+    (length-map xs (netValue h s c) ∙ same ∙ sym (length-map ys (netValue h s c)))))

@@ -78,7 +78,7 @@ all-map P f [] h = tt
 all-map P f (x ∷ xs) h = (h x, all-map P f xs h)
 
 -- what the nets ns, made from l on, are and stand for
-pub record Made (xs : List Node) (w : At (List Bool)) (l : Netlist) (ns : List ℕ) (l′ : Netlist) : Type 0 where
+pub record Sourced (xs : List Node) (w : At (List Bool)) (l : Netlist) (ns : List ℕ) (l′ : Netlist) : Type 0 where
   pub added : NodesAdded xs l ns l′
   pub stands : StandsAll l′ ns w
 
@@ -95,9 +95,9 @@ sources-stand x b w l l′ ns g e =
     (λ i h. rw (node-of x b w i h) at (nodes-stand (map x (from b w)) l l′ g i (rw (length-nodes x b w) h))))
 
 sources-run : (x : ℕ → Node) (b w : ℕ) (l : Netlist) → Sound l → ((i : ℕ) → Free 0 (x i))
-    → Run l (Made (map x (from b w)) (λ h s c. tab w (λ i. Is (x (b + i)) h s c)) l) (addNodes x b w l)
+    → Run l (Sourced (map x (from b w)) (λ h s c. tab w (λ i. Is (x (b + i)) h s c)) l) (addNodes x b w l)
 sources-run x b w l q f = record {
-  run = meets-map Limit Limit (λ (r : List ℕ × Netlist). NodesAdded xs l (r .0) (r .1)) (Built l (Made xs word l)) (addNodes x b w l)
+  run = meets-map Limit Limit (λ (r : List ℕ × Netlist). NodesAdded xs l (r .0) (r .1)) (Built l (Sourced xs word l)) (addNodes x b w l)
       (nodes-added x b w l (q .few)) (λ n y z h. h) (λ r a. go (r .0) (r .1) a);
 }
   where
@@ -107,7 +107,7 @@ sources-run x b w l q f = record {
     word : At (List Bool)
     word h s c = tab w (λ i. Is (x (b + i)) h s c)
 
-    go : (ns : List ℕ) (l′ : Netlist) → NodesAdded xs l ns l′ → Built l (Made xs word l) (ns, l′)
+    go : (ns : List ℕ) (l′ : Netlist) → NodesAdded xs l ns l′ → Built l (Sourced xs word l) (ns, l′)
     go ns l′ a = record {
       later = subst (λ (h : Netlist). Later l h) (sym (a .then))
           (record { grew = grew-nodes xs l; sound = sound-nodes 0 xs l q (omega arith) (a .room) (all-map (Free 0) x (from b w) f) });
@@ -116,11 +116,11 @@ sources-run x b w l q f = record {
     }
 
 -- a register's nets, a memory port's nets
-pub register-run : (r b w : ℕ) (l : Netlist) → Sound l → Run l (Made (map (source 7 r) (from b w)) (λ h s c. tab w (λ i. c .reg r (b + i))) l) (addNodes (source 7 r) b w l)
+pub register-run : (r b w : ℕ) (l : Netlist) → Sound l → Run l (Sourced (map (source 7 r) (from b w)) (λ h s c. tab w (λ i. c .reg r (b + i))) l) (addNodes (source 7 r) b w l)
 unfolding decode nodeOf
 register-run r b w l q = sources-run (source 7 r) b w l q (λ i h k z. tt)
 
 pub memory-run : (m b w : ℕ) (l : Netlist) → Sound l
-    → Run l (Made (map (source 9 m) (from b w)) (λ h s c. tab w (λ i. memoryBit c m (dataWidth (meaningOf h) m) (b + i))) l) (addNodes (source 9 m) b w l)
+    → Run l (Sourced (map (source 9 m) (from b w)) (λ h s c. tab w (λ i. memoryBit c m (dataWidth (meaningOf h) m) (b + i))) l) (addNodes (source 9 m) b w l)
 unfolding decode nodeOf
 memory-run m b w l q = sources-run (source 9 m) b w l q (λ i h k z. tt)

@@ -2,3 +2,4 @@ pub mod Index
 pub mod Laws
 pub mod Held
 pub mod CellLaws
+pub mod CellSearch

@@ -88,7 +88,7 @@ module _ (n p : ℕ) (l : Netlist) where
         ∙ append-assoc (flat (l .nodes)) (replicate (6 * (n - length (l .nodes))) 0) (listWords (l .records) ++ replicate (p - used (l .records)) 0)
         ∙ sym (nodesWords-append (l .nodes) (replicate (6 * (n - length (l .nodes))) 0 ++ (listWords (l .records) ++ replicate (p - used (l .records)) 0))))
 
-    words-list : drop (16 + 6 * n) (words n p l) ≡ listWords (l .records) ++ replicate (p - used (l .records)) 0
+    pub words-list : drop (16 + 6 * n) (words n p l) ≡ listWords (l .records) ++ replicate (p - used (l .records)) 0
     words-list =
         ap (drop (16 + 6 * n)) (words-parts ∙ sym (append-assoc (headerWords n l) nodesPart _))
         ∙ drop-at (headerWords n l ++ nodesPart) _ (16 + 6 * n) (omega (arith, length-nodesPart (f .few)))

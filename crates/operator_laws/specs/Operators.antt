@@ -1,30 +1,27 @@
 -- `lower_binary` and the unary arm of `lower_expression`: the nets given stand for the operator's word. Assumes nothing.
 use mathlib.Core.Path.{refl, sym, ap, _∙_}
-use mathlib.Core.Bool.{Bool, not, _&&_, _||_}
+use mathlib.Core.Bool.{Bool, not}
 use mathlib.Core.List.{List, map}
 use mathlib.Core.Option.{none}
-use Prim.Native.Nat.{ℕ, _<_}
+use Prim.Native.Nat.{ℕ}
 use native.Mathlib.Nat.{add-zero}
-use native.Mathlib.Omega.{arith}
 use lib.ListN.{length}
 use Rattle.rtl.specs.Word.{bits}
-use Rattle.rtl.specs.Ops.{xorB, map2}
 use Rattle.rtl.specs.Rtl as R
 use Rattle.rtl.specs.Rtl.{unary, binary}
 use Rattle.model.specs.Words.{Netlist}
 use Rattle.model.specs.Builder as B
-use Rattle.model.specs.Builder.{Made, addAnd, addOr, addXor, addNot, each, both}
+use Rattle.model.specs.Builder.{Made, addNot, each}
 use Rattle.model.specs.Ranges.{AndGate, OrGate, XorGate}
 use Rattle.model.specs.Lowering.{LeftS, RightS, ArithmeticS, lowerUnary, lowerBinary}
 use Rattle.word_laws.specs.Widths.{AllBelow, BinWidth}
 use Rattle.netlist_laws.specs.Meaning.{netValue}
 use Rattle.netlist_laws.specs.Sound.{count, Sound, At, StandsAll}
 use Rattle.netlist_laws.specs.Run.{later-trans, all-as, Run, run-bind, run-map}
-use Rattle.gate_laws.specs.Gates.{Op2, and-run, or-run, xor-run}
-use Rattle.gate_laws.specs.Many.{both-run, nots-run}
+use Rattle.gate_laws.specs.Many.{nots-run}
 use Rattle.cell_laws.specs.Arithmetic.{arithmetic-run}
 use Rattle.cell_laws.specs.Comparison.{comparison-run}
-use Rattle.operator_laws.specs.Trees.{reduce-run, equal-words-run}
+use Rattle.operator_laws.specs.Trees.{gates-run, reduce-run, equal-words-run}
 use Rattle.operator_laws.specs.Shifts.{shift-run}
 
 abbrev pub Unary : R.Unary → List ℕ → At (List Bool)
@@ -48,15 +45,11 @@ unary-run R.ReduceAnd xs l q b = reduce-run AndGate xs l q b
 unary-run R.ReduceXor xs l q b = reduce-run XorGate xs l q b
 
 module _ (xs ys : List ℕ) (l : Netlist) (q : Sound l) (b : AllBelow (count l) xs) (d : AllBelow (count l) ys) where
-  each-pair : (f : ℕ → ℕ → Netlist → Made ℕ) (op : Bool → Bool → Bool) → ((x y : ℕ) (l : Netlist) → Sound l → x < count l → y < count l → Run l (Op2 op x y) (f x y l))
-      → Run l (λ zs l′. StandsAll l′ zs (λ h s c. map2 op (map (netValue h s c) xs) (map (netValue h s c) ys))) (both f xs ys l)
-  each-pair f op law = both-run f (λ h s c. op) 0 (λ x y l q n hx hy. law x y l q hx hy) xs ys l q (omega arith) b d
-
   pub binary-run : (op : R.Binary) (w : ℕ) → BinWidth op w (length xs) (length ys) → Run l (λ zs l′. StandsAll l′ zs (Binary op xs ys)) (lowerBinary op xs ys l)
   unfolding lowerBinary
-  binary-run R.And w e = each-pair addAnd _&&_ and-run
-  binary-run R.Or w e = each-pair addOr _||_ or-run
-  binary-run R.Xor w e = each-pair addXor xorB xor-run
+  binary-run R.And w e = gates-run AndGate xs ys l q b d
+  binary-run R.Or w e = gates-run OrGate xs ys l q b d
+  binary-run R.Xor w e = gates-run XorGate xs ys l q b d
   binary-run R.Add w e =
       run-map (arithmetic-run xs ys l q b d (e .1 ∙ sym (e .0)) B.Add none tt tt) (λ zs l′ y v. all-as v (λ h y′ s c. ap (bits (length (map (netValue h s c) xs))) (add-zero _)))
   binary-run R.Sub w e = arithmetic-run xs ys l q b d (e .1 ∙ sym (e .0)) B.Subtract none tt refl

@@ -8,17 +8,18 @@ use native.Mathlib.Omega.{arith}
 use lib.Dec.{ltb}
 use lib.ListN.{length, getD, length-map, List·getD-map}
 use Rattle.rtl.specs.Word.{value}
-use Rattle.rtl.specs.Ops.{tab, top, shl, shr, map2}
+use Rattle.rtl.specs.Ops.{tab, top, shl, shr}
 use Rattle.model.specs.Words.{Netlist}
-use Rattle.model.specs.Builder.{from, addMux}
+use Rattle.model.specs.Builder.{from}
 use Rattle.model.specs.Lowering.{Shift, LeftS, RightS, ArithmeticS, movedDown, shifted, stages, shift}
 use Rattle.word_laws.specs.Widths.{AllBelow}
-use Rattle.word_laws.specs.Shift.{length-tab, tab-ext, mux-word, stagesL, stagesL-shl, stagesR, stagesR-shr, stagesA, stagesA-shr}
+use Rattle.word_laws.specs.Shift.{tab-ext, stagesL, stagesL-shl, stagesR, stagesR-shr, stagesA, stagesA-shr}
 use Rattle.netlist_laws.specs.Meaning.{netValue}
 use Rattle.netlist_laws.specs.Sound.{count, Sound, Stands, StandsAll}
 use Rattle.netlist_laws.specs.Run.{later-trans, later-count, below-more, stands-later, all-self, all-as, Run, run-here, run-bind, run-map}
-use Rattle.gate_laws.specs.Gates.{constant-run, mux-run}
-use Rattle.gate_laws.specs.Many.{both-run}
+use Rattle.gate_laws.specs.Gates.{constant-run}
+use Rattle.gate_laws.specs.Added.{length-from}
+use Rattle.gate_laws.specs.Many.{muxes-run}
 
 -- ---- a word moved, and the nets of it ----
 
@@ -101,17 +102,10 @@ staged-nil LeftS k a = refl
 staged-nil RightS k a = refl
 staged-nil ArithmeticS k a = refl
 
-length-moved : (h : Shift) (d : ℕ) (a : List Bool) → length (moved h d a) ≡ length a
-length-moved LeftS d a = length-tab (length a) _
-length-moved RightS d a = length-tab (length a) _
-length-moved ArithmeticS d a = length-tab (length a) _
-
--- the muxes of a stage
-stage-value : (g : ℕ → Bool) (h : Shift) (z k m : ℕ) (r : List ℕ) → g z ≡ false
-    → map2 (cond (g m)) (map g (shifted h z (min (2 ^ k) (length r)) r)) (map g r) ≡ cond (g m) (moved h (min (2 ^ k) (length (map g r))) (map g r)) (map g r)
-stage-value g h z k m r e =
-    rw (map-shifted g h z (min (2 ^ k) (length r)) r e, length-map r g)
-    (mux-word (g m) (moved h (min (2 ^ k) (length r)) (map g r)) (map g r) (length-moved h (min (2 ^ k) (length r)) (map g r)))
+length-shifted : (h : Shift) (z d : ℕ) (r : List ℕ) → length (shifted h z d r) ≡ length r
+length-shifted LeftS z d r = length-map (from 0 (length r)) (λ i. cond (ltb i d) z (getD r (i - d) z)) ∙ length-from 0 (length r)
+length-shifted RightS z d r = length-map (from 0 (length r)) (λ i. getD r (i + d) z) ∙ length-from 0 (length r)
+length-shifted ArithmeticS z d r = length-map (from 0 (length r)) (λ i. getD r (i + d) (getD r (pred (length r)) z)) ∙ length-from 0 (length r)
 
 module _ (h : Shift) (z : ℕ) where
   stages-run : (k : ℕ) (ss r : List ℕ) (l : Netlist) → Sound l → Stands l z (λ g s c. false) → AllBelow (count l) ss → AllBelow (count l) r
@@ -120,12 +114,13 @@ module _ (h : Shift) (z : ℕ) where
   stages-run k [] r l q vz b d = run-here q (all-as (all-self r d) (λ g y s c. staged-nil h k (map (netValue g s c) r)))
   stages-run k (m ∷ ss) r l q vz b d =
       run-bind (λ (r₁, l₁). stages h z (suc k) ss r₁ l₁)
-      (both-run (addMux m) (λ g s c. cond (netValue g s c m)) (suc m) (λ x y l q n hx hy. mux-run m x y l q n hx hy) (shifted h z (min (2 ^ k) (length r)) r) r l q (b .0)
-      (shifted-below (count l) h z (min (2 ^ k) (length r)) r (vz .there) d) d) (λ r₁ l′ y v.
+      (muxes-run m (shifted h z (min (2 ^ k) (length r)) r) r l q (b .0)
+      (shifted-below (count l) h z (min (2 ^ k) (length r)) r (vz .there) d) d (length-shifted h z (min (2 ^ k) (length r)) r)) (λ r₁ l′ y v.
       run-map (stages-run (suc k) ss r₁ l′ (y .sound) (stands-later y vz) (below-more _ _ ss (later-count y) (b .1)) (v .there)) (λ zs l″ y′ w.
       all-as w (λ g y″ s c.
       ap (λ (t : List Bool). staged h (suc k) t (map (netValue g s c) ss))
-      (v .are g (later-trans y′ y″) s c ∙ stage-value (netValue g s c) h z k m r (vz .is g (later-trans y (later-trans y′ y″)) s c))
+      (v .are g (later-trans y′ y″) s c
+      ∙ rw (map-shifted (netValue g s c) h z (min (2 ^ k) (length r)) r (vz .is g (later-trans y (later-trans y′ y″)) s c), ← length-map r (netValue g s c)))
       ∙ stage-cons h k (map (netValue g s c) r) (netValue g s c m) (map (netValue g s c) ss))))
 
 staged-moved : (h : Shift) (a n : List Bool) → staged h 0 a n ≡ moved h (value n) a

@@ -7,10 +7,10 @@ use native.Mathlib.Omega.{arith}
 use lib.Dec.{ltb}
 use lib.ListN.{length, length-map}
 use borrow.Author.Tests.{ltb-false}
-use Rattle.rtl.specs.Ops.{xorB, eqW, allR}
+use Rattle.rtl.specs.Ops.{xorB, eqW, allR, map2}
 use Rattle.meaning.specs.Step.{Contents}
 use Rattle.model.specs.Words.{Netlist}
-use Rattle.model.specs.Builder.{done, andThen}
+use Rattle.model.specs.Builder.{done, andThen, both}
 use Rattle.model.specs.Ranges.{Gate, AndGate, OrGate, XorGate}
 use Rattle.model.specs.Lowering.{addGate, level, levels, reduceTree, addEqual, equalWords}
 use Rattle.word_laws.specs.Widths.{AllBelow}
@@ -35,6 +35,10 @@ pub gate-run : (g : Gate) (a b : ℕ) (l : Netlist) → Sound l → a < count l 
 gate-run AndGate a b l q ha hb = and-run a b l q ha hb
 gate-run OrGate a b l q ha hb = or-run a b l q ha hb
 gate-run XorGate a b l q ha hb = xor-run a b l q ha hb
+
+pub gates-run : (g : Gate) (xs ys : List ℕ) (l : Netlist) → Sound l → AllBelow (count l) xs → AllBelow (count l) ys
+    → Run l (λ zs l′. StandsAll l′ zs (λ h s c. map2 (gateOp g) (map (netValue h s c) xs) (map (netValue h s c) ys))) (both (addGate g) xs ys l)
+gates-run g xs ys l q b d = both-run (addGate g) (λ h s c. gateOp g) 0 (λ x y l q n hx hy. gate-run g x y l q hx hy) xs ys l q (omega arith) b d
 
 xor-assoc : (x y z : Bool) → xorB (xorB x y) z ≡ xorB x (xorB y z)
 xor-assoc true true true = refl

@@ -14,14 +14,17 @@ use types.Run.{OneOf}
 use denote.Enum.Declared.{tagOf}
 use Rattle.nodes.proofs.Added.{the-type}
 use Rattle.model.specs.Words.{absent, Node, node, source, Netlist}
-use Rattle.model.specs.Builder.{Out, refused, done, andThen, Made, addNode, also, each, both, from, addNodes}
+use Rattle.model.specs.Builder.{Out, refused, done, andThen, Made, addNode, also, each, both, from, addNodes, addRecorded, addOutputPort, push}
 use Rattle.netlist_view.specs.View.{nodesOf, netlistOf, Built}
 use Rattle.netlist_view.specs.Laws.{count-is, withNode}
-use Rattle.netlist_index.specs.Index.{Held}
+use Rattle.netlist_index.specs.Index.{isCell, Held}
+use Rattle.lists.specs.Pushes.{pushedOf, Pushes}
+use Rattle.lists.specs.declared.Pushed.{Pushed}
+use Rattle.lists.specs.declared.Pushed.the-variants as P
 use Rattle.nodes.specs.Gives.{outOf, Adds}
 use Rattle.nodes.specs.declared.Added.{Added}
 use Rattle.nodes.specs.declared.Added.the-variants.{Net, TooManyNets, ListFull}
-use Rattle.ports.specs.Fills.{runOf, Runs}
+use Rattle.ports.specs.Fills.{runOf, Runs, outputNode}
 
 pub length-from : (b w : ℕ) → length (from b w) ≡ w
 unfolding from
@@ -85,6 +88,11 @@ abbrev pub Refusal : Added → Type 0
 Refusal (Net k) = ⊥
 Refusal TooManyNets = Unit {0}
 Refusal ListFull = Unit {0}
+
+never : (r : Added) (k : ℕ) → Refusal r → r ≡ Net k → ⊥
+never (Net j) k q e = q
+never TooManyNets k q e = let z : _≡_ {A = ℕ} 0 1 = cc in omega arith
+never ListFull k q e = let z : _≡_ {A = ℕ} 0 1 = cc in omega arith
 
 -- the `else` of `let Added::Net(k) = x else` knows the tag
 pub not-net : (r : Added) → OneOf (1 ∷ 2 ∷ []) (tagOf the-type r) → Refusal r
@@ -154,6 +162,7 @@ module _ (x : ℕ → Node) (n b w first : ℕ) (w₀ net : List ℕ) (i : ℕ) 
       let e : i ≡ w = omega (arith, g .within) in
       let f : w - i ≡ 0 = omega arith in
       record {
+        below = λ k q. let z : first ≡ k = cc in omega (arith, g .count, g .built .count);
         says = g .says ∙ ap (ahead (from first i)) (ap (λ (j : ℕ). addNodes x (b + i) j (netlistOf n net)) f ∙ nodes-zero x (b + i) (netlistOf n net))
             ∙ λ j. done ((append-nil (from first i) ∙ ap (from first) e) j, netlistOf n net);
         built = g .built;
@@ -165,6 +174,7 @@ module _ (x : ℕ → Node) (n b w first : ℕ) (w₀ net : List ℕ) (i : ℕ) 
   going-out r net′ h q a = record {
     says = g .says ∙ ap (ahead (from first i)) (step h ∙ ap (λ (o : Made ℕ). andThen o (λ (k, l₁). also k (addNodes x (suc (b + i)) (w - suc i) l₁))) (a .says))
         ∙ out (from first i) r q w (netlistOf n net′) (λ (k, l₁). also k (addNodes x (suc (b + i)) (w - suc i) l₁));
+    below = λ k e. absurd (never r k q e);
     built = a .built;
     held = λ idx d. a .held idx (g .held idx d);
   }
@@ -176,3 +186,61 @@ port-words s w first h =
     let a : List ℕ = set (set (replicate 1027 0) 1 s) 2 w in
     let len : length (from first w) ≡ w = length-from first w in
     ap (take (3 + w)) (sets-eq (from first w) a 3 (rw len (omega arith))) ∙ take-at (take 3 a ++ from first w) (drop (3 + length (from first w)) a) (3 + w) (omega arith)
+
+-- ---- nodes, and then a record of them ----
+
+abbrev pub answered : Pushed → ℕ → Added
+answered P.Done k = Net k
+answered P.ListFull k = ListFull
+
+refused-run : (r : List ℕ) (x : Added) → Refusal x → (b : ℕ) (l : Netlist) → addRecorded r (runOf x b l) ≡ runOf x b l
+unfolding addRecorded
+refused-run r (Net k) q b l = absurd q
+refused-run r TooManyNets q b l = refl
+refused-run r ListFull q b l = refl
+
+pushed-run : (r : List ℕ) (k b : ℕ) (a : Pushed) (l l′ : Netlist) → push (r ++ from k b) l ≡ pushedOf a l′
+    → addRecorded r (done (from k b, l)) ≡ runOf (answered a k) b l′
+unfolding addRecorded
+pushed-run r k b P.Done l l′ e = rw e
+pushed-run r k b P.ListFull l l′ e = rw e
+
+module _ (made : Made (List ℕ)) (n b : ℕ) (r : List ℕ) (w w₁ : List ℕ) where
+  pub recorded-out : (x : Added) → Refusal x → Runs made n b x w w₁ → Runs (addRecorded r made) n b x w w₁
+  recorded-out x q g = record {
+    says = ap (addRecorded r) (g .says) ∙ refused-run r x q b (netlistOf n w₁);
+    below = g .below;
+    built = g .built;
+    held = g .held;
+  }
+
+  pub recorded : (k : ℕ) (a : Pushed) (w₂ : List ℕ) → Runs made n b (Net k) w w₁ → isCell (r ++ from k b) ≡ false → Pushes (r ++ from k b) n a w₁ w₂
+      → Runs (addRecorded r made) n b (answered a k) w w₂
+  recorded k a w₂ g c p = record {
+    says = ap (addRecorded r) (g .says) ∙ pushed-run r k b a (netlistOf n w₁) (netlistOf n w₂) (p .says);
+    below = λ j e. g .below j (same-net a k j e);
+    built = p .built;
+    held = λ idx d. p .held c idx (g .held idx d);
+  }
+    where
+      same-net : (a : Pushed) (k j : ℕ) → answered a k ≡ Net j → Net k ≡ Net j
+      same-net P.Done k j e = e
+      same-net P.ListFull k j e = let z : _≡_ {A = ℕ} 0 1 = cc in absurd (omega arith)
+
+both-run : (s : ℕ) (g : ℕ → ℕ) (b : ℕ) (ys : List ℕ) (l : Netlist) → ((i : ℕ) → i < length ys → g (b + i) ≡ getD ys i 0)
+    → both (λ j y. addNode (node 8 s j y absent absent)) (from b (length ys)) ys l ≡ addNodes (λ j. node 8 s j (g j) absent absent) b (length ys) l
+unfolding both from addNodes each
+both-run s g b [] l h = refl
+both-run s g b (y ∷ ys) l h =
+    let z : b + 0 ≡ b = omega arith in
+    let e : y ≡ g b = sym (h 0 (omega arith)) ∙ ap g z in
+    let ih : (l₁ : Netlist) → both (λ j y. addNode (node 8 s j y absent absent)) (from (suc b) (length ys)) ys l₁ ≡ addNodes (λ j. node 8 s j (g j) absent absent) (suc b) (length ys) l₁
+    = λ l₁. both-run s g (suc b) ys l₁ (λ i q. let u : suc b + i ≡ b + suc i = omega arith in ap g u ∙ h (suc i) (omega arith)) in
+    λ i. andThen (addNode (node 8 s b (e i) absent absent) l) (λ p. also (p .0) (ih (p .1) i))
+
+pub output-port : (s : ℕ) (xs : List ℕ) (l : Netlist)
+    → addOutputPort s xs l ≡ addRecorded (0 ∷ s ∷ length xs ∷ []) (addNodes (outputNode s xs) 0 (length xs) l)
+unfolding addOutputPort
+output-port s xs l =
+    ap (addRecorded (0 ∷ s ∷ length xs ∷ []))
+    (both-run s (λ b. getD xs b 0) 0 xs l (λ i h. let e : 0 + i ≡ i = omega arith in ap (λ (j : ℕ). getD xs j 0) e))

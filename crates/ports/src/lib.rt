@@ -10,7 +10,7 @@ ghost use Rattle.model.specs.Builder.{from, addNodes, addInputPort, addOutputPo
 ghost use Rattle.netlist_view.specs.View.{netlistOf, Built};
 ghost use Rattle.netlist_index.specs.Index.{isGate};
 ghost use Rattle.lists.specs.Pushes.{Pushes};
-ghost use Rattle.ports.specs.Fills.{Runs};
+ghost use Rattle.ports.specs.Fills.{Runs, outputNode};
 use lists::Pushed;
 use nodes::ABSENT;
 use nodes::Added;
@@ -55,4 +55,51 @@ fn push_port(net: &mut [u32], n: u32, s: u32, first: u32, w: u32) -> Pushed
     put_run(&mut record, 3, first, w);
     let len = 3 + w as usize;
     lists::push_record(net, n, &record[..len])
+}
+
+// An input port: its nodes and its record. The answer is the first net.
+pub fn add_input_port(net: &mut [u32], n: u32, s: u32, w: u32) -> Added
+    requires { ⌜ (Built n (now net)) × (w ≤ 1024) ⌝ }
+    ensures { λ r. ⌜ Runs (addInputPort s w (netlistOf n (now (net .entry)))) n w r (now (net .entry)) (now (net .exit)) ⌝ }
+{
+    let x = add_nodes(net, n, 0, s, 0, w);
+    let Added::Net(first) = x else {
+        return x;
+    };
+    match push_port(net, n, s, first, w) {
+        Pushed::Done => Added::Net(first),
+        Pushed::ListFull => Added::ListFull,
+    }
+}
+
+// Output nodes for the bits whose nets are given.
+fn add_outputs(net: &mut [u32], n: u32, s: u32, xs: &[u32]) -> Added
+    requires { ⌜ (Built n (now net)) × (length (now xs) ≤ 1024) ⌝ }
+    ensures { λ r. ⌜ Runs (addNodes (outputNode s (now (xs .entry))) 0 (length (now (xs .entry))) (netlistOf n (now (net .entry)))) n (length (now (xs .entry))) r (now (net .entry)) (now (net .exit)) ⌝ }
+{
+    let first = net[1];
+    let mut i: u32 = 0;
+    while (i as usize) < xs.len() {
+        let x = nodes::add_node(net, n, 8, s, i, xs[i as usize]);
+        let Added::Net(_) = x else {
+            return x;
+        };
+        i += 1;
+    }
+    Added::Net(first)
+}
+
+// An output port: its nodes and its record. The answer is the first net.
+pub fn add_output_port(net: &mut [u32], n: u32, s: u32, xs: &[u32]) -> Added
+    requires { ⌜ (Built n (now net)) × (length (now xs) ≤ 1024) ⌝ }
+    ensures { λ r. ⌜ Runs (addOutputPort s (now (xs .entry)) (netlistOf n (now (net .entry)))) n (length (now (xs .entry))) r (now (net .entry)) (now (net .exit)) ⌝ }
+{
+    let x = add_outputs(net, n, s, xs);
+    let Added::Net(first) = x else {
+        return x;
+    };
+    match push_port(net, n, s, first, xs.len() as u32) {
+        Pushed::Done => Added::Net(first),
+        Pushed::ListFull => Added::ListFull,
+    }
 }

@@ -106,10 +106,8 @@ fn a_limit_met_before_another_refusal_comes_first() {
                 continue;
             }
             refused += 1;
-            let limits = (1..).map(|n| lower_limited(&image, n, NO_LIMIT, false));
-            let first = limits
-                .skip_while(|a| *a == Answer::Refused([9, 0, 0]))
-                .next();
+            let mut limits = (1..).map(|n| lower_limited(&image, n, NO_LIMIT, false));
+            let first = limits.find(|a| *a != Answer::Refused([9, 0, 0]));
             assert_eq!(first, Some(answer), "seed {seed}");
         }
     });

@@ -63,6 +63,51 @@ fn module_and_netlist_agree_on_random_images() {
     assert!(compared > 500 && changed > 300);
 }
 
+/// One output for a binary operator on two inputs of this width.
+fn operator_image(operator: u32, width: u32) -> Vec<u8> {
+    let mut b = Builder::default();
+    let (lhs, rhs) = (b.input_read("a", width), b.input_read("b", width));
+    let value = b.binary(operator, lhs, rhs);
+    b.output("y", value);
+    b.image()
+}
+
+/// Random words, some of them equal, some with few ones.
+fn operand(random: &mut Random, width: u32, other: Option<&Vec<bool>>) -> Vec<bool> {
+    match (random.below(4), other) {
+        (0, Some(other)) => other.clone(),
+        (1, _) => (0..width).map(|_| random.one_in(width.max(2))).collect(),
+        _ => random.word(width),
+    }
+}
+
+#[test]
+fn module_and_netlist_agree_on_wide_operators() {
+    let random = &mut Random::new(7);
+    for operator in 0..=18 {
+        for width in [1, 2, 31, 32, 33, 63, 64, 65, 100, 129] {
+            let image = operator_image(operator, width);
+            let module = ModuleSim::new(&image).expect("a readable image");
+            let netlist = netlist(&image, false).expect("accepted");
+            let settings: Vec<Setting> = (0..40)
+                .map(|_| {
+                    let lhs = operand(random, width, None);
+                    let rhs = operand(random, width, Some(&lhs));
+                    Setting::from([(0, lhs), (1, rhs)])
+                })
+                .collect();
+            let first = module.zero_contents();
+            let expected = module.run(&first, &settings);
+            assert!(expected.is_ok());
+            assert_eq!(
+                netlist.run(&first, &settings),
+                expected,
+                "{operator} at {width}"
+            );
+        }
+    }
+}
+
 fn number(bits: &[bool]) -> u64 {
     bits.iter()
         .rev()
@@ -185,11 +230,10 @@ fn both_ports_write_one_word() {
         .map(|moment| moment.contents.memories[0][0][0])
         .collect();
     assert_eq!(words_seen, [true, false, false, false]);
-    let read: Vec<u64> = seen
-        .iter()
-        .map(|moment| number(&moment.outputs[&d]))
-        .collect();
-    assert_eq!(read, [0, 1, 1, 0]);
+    for data in [d, e] {
+        let read = seen.iter().map(|moment| number(&moment.outputs[&data]));
+        assert_eq!(read.collect::<Vec<_>>(), [0, 1, 1, 0], "the old word");
+    }
     let netlist = netlist(&image, false).expect("accepted");
     assert_eq!(netlist.run(&first, &settings), Ok(seen));
 }

@@ -6,7 +6,10 @@ use std::collections::BTreeMap;
 
 fn main() {
     let arguments: Vec<String> = std::env::args().skip(1).collect();
-    let count: u64 = arguments.first().and_then(|text| text.parse().ok()).unwrap_or(1000);
+    let count: u64 = arguments
+        .first()
+        .and_then(|text| text.parse().ok())
+        .unwrap_or(1000);
     let only: Option<Size> = arguments.get(1).and_then(|text| text.parse().ok());
     let mut mix: BTreeMap<String, usize> = BTreeMap::new();
     for seed in 0..count {

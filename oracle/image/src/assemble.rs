@@ -36,13 +36,21 @@ pub fn assemble(text: &str) -> Result<Vec<u8>, AsmError> {
             continue;
         }
         joined.push_str(line);
-        assembler.line(first, &joined).map_err(|message| AsmError { line: first, message })?;
+        assembler.line(first, &joined).map_err(|message| AsmError {
+            line: first,
+            message,
+        })?;
         joined.clear();
     }
     if !joined.is_empty() {
-        return Err(AsmError { line: first, message: "last line is continued".to_string() });
+        return Err(AsmError {
+            line: first,
+            message: "last line is continued".to_string(),
+        });
     }
-    assembler.finish().map_err(|(line, message)| AsmError { line, message })
+    assembler
+        .finish()
+        .map_err(|(line, message)| AsmError { line, message })
 }
 
 /// A line that ends with a backslash outside a comment goes on in the next.
@@ -79,7 +87,10 @@ impl Assembler {
     pub fn line(&mut self, number: usize, line: &str) -> Result<(), String> {
         self.number = number;
         let tokens = tokens(line)?;
-        let mut words = Words { tokens: &tokens, at: 0 };
+        let mut words = Words {
+            tokens: &tokens,
+            at: 0,
+        };
         if words.ended() {
             return Ok(());
         }
@@ -150,7 +161,11 @@ impl Assembler {
 
     fn expression(&mut self, words: &mut Words) -> Result<(), String> {
         let label = words.new_name(&self.expressions)?;
-        let width = if words.take_mark(':') { Some(words.field()?) } else { None };
+        let width = if words.take_mark(':') {
+            Some(words.field()?)
+        } else {
+            None
+        };
         words.mark('=')?;
         let before = self.image.expressions.len();
         let number = self.form(words, width)?;
@@ -202,8 +217,16 @@ impl Assembler {
         (record[0], record[1]) = self.name(words, &label)?;
         words.keyword("depth")?;
         record[2] = words.field()?;
-        record[3] = if words.take("style") { words.style()? } else { 0 };
-        record[4] = if words.take("latency") { words.field()? } else { 1 };
+        record[3] = if words.take("style") {
+            words.style()?
+        } else {
+            0
+        };
+        record[4] = if words.take("latency") {
+            words.field()?
+        } else {
+            1
+        };
         words.keyword("port")?;
         record[5..15].copy_from_slice(&self.port(words)?);
         if words.take("port") {
@@ -256,7 +279,8 @@ impl Assembler {
             "signal" => {
                 let label = words.raw_label(&self.signals)?;
                 let record = self.raw_record(words)?;
-                self.signals.extend(label.map(|label| (label, self.image.signals.len() as u32)));
+                self.signals
+                    .extend(label.map(|label| (label, self.image.signals.len() as u32)));
                 self.image.signals.push(record);
             }
             "expr" => {
@@ -303,7 +327,10 @@ impl Assembler {
         if word == "absent" {
             return Ok(ABSENT);
         }
-        let known = self.expressions.get(&word).or_else(|| self.signals.get(&word));
+        let known = self
+            .expressions
+            .get(&word)
+            .or_else(|| self.signals.get(&word));
         known.copied().ok_or(format!("nothing is named '{word}'"))
     }
 
@@ -420,7 +447,12 @@ impl Assembler {
         Ok(self.push([kind::CONSTANT, width, start, 0, 0]))
     }
 
-    fn operator(&mut self, words: &mut Words, head: &str, width: Option<u32>) -> Result<u32, String> {
+    fn operator(
+        &mut self,
+        words: &mut Words,
+        head: &str,
+        width: Option<u32>,
+    ) -> Result<u32, String> {
         if let Some(op) = UNARY_OPS.iter().position(|name| *name == head) {
             let input = self.operand(words)?;
             let own = if op == 0 { self.width(input) } else { Some(1) };
@@ -481,15 +513,19 @@ impl Assembler {
 
     fn signal_width(&self, signal: u32) -> Result<u32, String> {
         let record = self.image.signals.get(signal as usize);
-        record.map(|record| record[2]).ok_or("no such signal, so no width".to_string())
+        record
+            .map(|record| record[2])
+            .ok_or("no such signal, so no width".to_string())
     }
 
     fn signal_number(&self, words: &mut Words) -> Result<u32, String> {
         match words.next("a signal")? {
             Token::Record(number) => Ok(number),
-            Token::Word(word) => {
-                self.signals.get(&word).copied().ok_or(format!("no signal is named '{word}'"))
-            }
+            Token::Word(word) => self
+                .signals
+                .get(&word)
+                .copied()
+                .ok_or(format!("no signal is named '{word}'")),
             _ => Err("here should be a signal".to_string()),
         }
     }
@@ -501,15 +537,21 @@ fn inferred(width: Option<u32>) -> Result<u32, String> {
 
 /// Words that begin an expression and therefore name nothing.
 pub fn is_reserved(word: &str) -> bool {
-    matches!(word, "signal" | "const" | "mux" | "concat" | "slice" | "at" | "absent")
-        || UNARY_OPS.contains(&word)
+    matches!(
+        word,
+        "signal" | "const" | "mux" | "concat" | "slice" | "at" | "absent"
+    ) || UNARY_OPS.contains(&word)
         || BINARY_OPS.contains(&word)
 }
 
 /// Lowest bit and width of the range from `high` down to `low`.
 fn range_of(high: u32, low: u32) -> Result<(u32, u32), String> {
-    let width = high.checked_sub(low).and_then(|distance| distance.checked_add(1));
-    width.map(|width| (low, width)).ok_or(format!("range {high}:{low} is upside down"))
+    let width = high
+        .checked_sub(low)
+        .and_then(|distance| distance.checked_add(1));
+    width
+        .map(|width| (low, width))
+        .ok_or(format!("range {high}:{low} is upside down"))
 }
 
 /// A line's tokens and how far they have been read.
@@ -524,7 +566,10 @@ impl Words<'_> {
     }
 
     fn next(&mut self, wanted: &str) -> Result<Token, String> {
-        let token = self.peek().cloned().ok_or(format!("the line ends where {wanted} is due"))?;
+        let token = self
+            .peek()
+            .cloned()
+            .ok_or(format!("the line ends where {wanted} is due"))?;
         self.at += 1;
         Ok(token)
     }
@@ -627,7 +672,9 @@ impl Words<'_> {
     fn style(&mut self) -> Result<u32, String> {
         let style = self.word("a style")?;
         let position = STYLES.iter().position(|name| *name == style);
-        position.map(|style| style as u32).ok_or(format!("no style '{style}'"))
+        position
+            .map(|style| style as u32)
+            .ok_or(format!("no style '{style}'"))
     }
 
     fn is_mark(&self, mark: char) -> bool {
@@ -654,7 +701,11 @@ impl Words<'_> {
             return Ok(None);
         }
         let high = self.field()?;
-        let low = if self.take_mark(':') { self.field()? } else { high };
+        let low = if self.take_mark(':') {
+            self.field()?
+        } else {
+            high
+        };
         self.mark(']')?;
         range_of(high, low).map(Some)
     }

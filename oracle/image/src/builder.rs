@@ -40,7 +40,14 @@ pub struct Register {
 impl Register {
     /// A register on the rising edge without enable and reset.
     pub fn new(target: Signal, next: Expr, clock: Signal) -> Self {
-        Register { target, next, clock, falling: false, enable: None, reset: None }
+        Register {
+            target,
+            next,
+            clock,
+            falling: false,
+            enable: None,
+            reset: None,
+        }
     }
 }
 

@@ -16,7 +16,9 @@ pub fn deepest(width: u32, length: u32) -> Image {
         end = builder.not(end);
     }
     let first = builder.read(input);
-    let slices: Vec<Expr> = (0..width - 1).map(|bit| builder.slice(end, bit, 1)).collect();
+    let slices: Vec<Expr> = (0..width - 1)
+        .map(|bit| builder.slice(end, bit, 1))
+        .collect();
     let last = builder.read_range(signal, width - 1, 1);
     builder.assign_range(signal, 0, first);
     for (bit, slice) in slices.into_iter().enumerate() {

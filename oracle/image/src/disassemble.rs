@@ -8,7 +8,11 @@ use std::fmt::Write;
 
 /// The text of an image; assembled again it gives the same bytes.
 pub fn disassemble(image: &Image) -> String {
-    let mut writer = Writer { image, assembler: Assembler::default(), text: String::new() };
+    let mut writer = Writer {
+        image,
+        assembler: Assembler::default(),
+        text: String::new(),
+    };
     for number in 0..image.signals.len() {
         writer.signal(number);
     }
@@ -73,8 +77,12 @@ impl Writer<'_> {
         made.registers.truncate(before[REGISTERS]);
         made.memories.truncate(before[MEMORIES]);
         made.names.truncate(before[NAMES]);
-        self.assembler.signals.retain(|_, number| (*number as usize) < before[SIGNALS]);
-        self.assembler.expressions.retain(|_, number| (*number as usize) < before[EXPRESSIONS]);
+        self.assembler
+            .signals
+            .retain(|_, number| (*number as usize) < before[SIGNALS]);
+        self.assembler
+            .expressions
+            .retain(|_, number| (*number as usize) < before[EXPRESSIONS]);
     }
 
     /// Writes the list words before `end` that no record has brought.
@@ -108,8 +116,13 @@ impl Writer<'_> {
 
     /// What can stand after a record's label to give its name.
     fn name_forms(&self, offset: u32, length: u32) -> Vec<String> {
-        let quoted = self.name(offset, length).map(|name| format!(" name {}", quote(name)));
-        quoted.into_iter().chain([format!(" name at {offset} {length}")]).collect()
+        let quoted = self
+            .name(offset, length)
+            .map(|name| format!(" name {}", quote(name)));
+        quoted
+            .into_iter()
+            .chain([format!(" name at {offset} {length}")])
+            .collect()
     }
 
     fn signal(&mut self, number: usize) {
@@ -198,11 +211,19 @@ impl Writer<'_> {
             kind::SIGNAL => {
                 let signal = self.signal_label(first);
                 let bits = range.replace(' ', ":");
-                vec![format!("signal {signal}"), format!("signal {signal}[{bits}]")]
+                vec![
+                    format!("signal {signal}"),
+                    format!("signal {signal}[{bits}]"),
+                ]
             }
             kind::CONSTANT => {
-                let value = self.stretch(record).map(|stretch| self.constant(width, stretch));
-                value.into_iter().chain([format!("const {width} at {first}")]).collect()
+                let value = self
+                    .stretch(record)
+                    .map(|stretch| self.constant(width, stretch));
+                value
+                    .into_iter()
+                    .chain([format!("const {width} at {first}")])
+                    .collect()
             }
             kind::UNARY => match UNARY_OPS.get(first as usize) {
                 Some(op) => vec![format!("{op} {}", self.label(second))],
@@ -218,7 +239,10 @@ impl Writer<'_> {
             }
             kind::CONCAT => {
                 let parts = self.stretch(record).map(|stretch| self.concat(stretch));
-                parts.into_iter().chain([format!("concat at {first} {second}")]).collect()
+                parts
+                    .into_iter()
+                    .chain([format!("concat at {first} {second}")])
+                    .collect()
             }
             kind::SLICE => vec![format!("slice {} {range}", self.label(first))],
             _ => vec![],
@@ -231,7 +255,10 @@ impl Writer<'_> {
             write!(digits, "{word:08x}").expect("text takes all");
         }
         let digits = digits.trim_start_matches('0');
-        format!("const {width} 0x{}", if digits.is_empty() { "0" } else { digits })
+        format!(
+            "const {width} 0x{}",
+            if digits.is_empty() { "0" } else { digits }
+        )
     }
 
     fn concat(&self, (start, length): (usize, usize)) -> String {
@@ -293,7 +320,11 @@ impl Writer<'_> {
         let mut text = format!(" port raddr {}", self.label(port[0]));
         text += &format!(" rdata {}", self.signal_label(port[1]));
         text += &self.control("renable", port[2], port[3]);
-        text += &format!(" waddr {} wdata {}", self.label(port[4]), self.label(port[5]));
+        text += &format!(
+            " waddr {} wdata {}",
+            self.label(port[4]),
+            self.label(port[5])
+        );
         text += &self.control("wenable", port[6], port[7]);
         let edge = ["rising", "falling"][usize::from(port[9] != 0)];
         text += &format!(" clock {} {edge}", self.signal_label(port[8]));
@@ -330,6 +361,11 @@ fn added<T: PartialEq>(made: &[T], want: &[T], from: usize) -> bool {
 
 fn fields(words: &[u32]) -> String {
     words.iter().fold(String::new(), |text, word| {
-        text + " " + &if *word == ABSENT { "absent".to_string() } else { word.to_string() }
+        text + " "
+            + &if *word == ABSENT {
+                "absent".to_string()
+            } else {
+                word.to_string()
+            }
     })
 }

@@ -142,7 +142,9 @@ impl Image {
             let count = header[2 + 2 * section] as usize;
             let size = count.checked_mul(RECORD_BYTES[section])?;
             let offset = bytes.len() - rest.len();
-            if count > MOST[section] || header[3 + 2 * section] as usize != offset || size > rest.len()
+            if count > MOST[section]
+                || header[3 + 2 * section] as usize != offset
+                || size > rest.len()
             {
                 return None;
             }
@@ -164,7 +166,10 @@ impl Image {
     }
 
     pub fn expression_bits(&self) -> usize {
-        self.expressions.iter().map(|expression| expression[1] as usize).sum()
+        self.expressions
+            .iter()
+            .map(|expression| expression[1] as usize)
+            .sum()
     }
 
     /// Scratch words that net limit `n` asks for.

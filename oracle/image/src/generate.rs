@@ -65,7 +65,11 @@ pub fn generate(seed: u64, size: Size) -> Image {
     maker.drive_outputs();
     maker.add_memories();
     maker.add_registers();
-    let Maker { mut builder, mut random, .. } = maker;
+    let Maker {
+        mut builder,
+        mut random,
+        ..
+    } = maker;
     if random.flag() {
         builder.reorder_assignments(|assignments| random.shuffle(assignments));
     }
@@ -101,6 +105,8 @@ pub struct Maker {
     /// Expressions that need nothing undriven, by width.
     pool: BTreeMap<u32, Vec<Expr>>,
     all: Vec<Expr>,
+    /// Of those, the ones that nothing uses yet.
+    loose: Vec<Expr>,
     signals: Vec<(Signal, Role)>,
     /// Bits with a driver so far, of each signal.
     driven: Vec<Vec<bool>>,
@@ -114,7 +120,11 @@ impl Maker {
     fn new(seed: u64, size: Size) -> Self {
         let mut random = Random::new(seed ^ ((size as u64) << 60));
         let palette = palette(&mut random, size);
-        let factor = if matches!(size, Size::Tiny | Size::Small) { 2 } else { 1 };
+        let factor = if matches!(size, Size::Tiny | Size::Small) {
+            2
+        } else {
+            1
+        };
         let mischief = Mischief {
             undriven: random.chance(8 * factor),
             loops: random.chance(12 * factor),
@@ -126,6 +136,7 @@ impl Maker {
             palette,
             pool: BTreeMap::new(),
             all: Vec::new(),
+            loose: Vec::new(),
             signals: Vec::new(),
             driven: Vec::new(),
             mischief,
@@ -178,10 +189,17 @@ impl Maker {
             roles.push((Role::Input, self.width()));
         }
         for _ in 0..self.random.range(0, most) {
-            let width = if self.random.chance(30) { 1 } else { self.width() };
+            let width = if self.random.chance(30) {
+                1
+            } else {
+                self.width()
+            };
             roles.push((Role::Wire, width));
         }
-        for _ in 0..self.random.range(u32::from(size != Size::Tiny), 1 + most / 2) {
+        for _ in 0..self
+            .random
+            .range(u32::from(size != Size::Tiny), 1 + most / 2)
+        {
             roles.push((Role::Output, self.width()));
         }
         for _ in 0..self.random.range(0, 1 + most / 3) {
@@ -217,7 +235,9 @@ impl Maker {
             return format!("{letter}{number}");
         }
         let length = self.random.range(0, 12);
-        let odd: String = (0..length).map(|_| self.random.range(33, 126) as u8 as char).collect();
+        let odd: String = (0..length)
+            .map(|_| self.random.range(33, 126) as u8 as char)
+            .collect();
         format!("{odd}_{number}")
     }
 
@@ -261,11 +281,31 @@ impl Maker {
         let width = self.builder.width(expression);
         self.pool.entry(width).or_default().push(expression);
         self.all.push(expression);
+        self.loose.push(expression);
         expression
+    }
+
+    /// A loose expression that is wanted, taken as used.
+    fn take_loose(&mut self, wanted: impl Fn(&Builder, Expr) -> bool) -> Option<Expr> {
+        if self.loose.is_empty() {
+            return None;
+        }
+        let start = self.random.below(self.loose.len());
+        let order = (start..self.loose.len()).chain(0..start).take(24);
+        let found = order
+            .into_iter()
+            .find(|index| wanted(&self.builder, self.loose[*index]))?;
+        Some(self.loose.swap_remove(found))
     }
 
     /// Any expression of the width: an old one, a signal, a constant.
     pub fn operand(&mut self, width: u32) -> Expr {
+        if self.random.chance(40) {
+            let loose = self.take_loose(|builder, loose| builder.width(loose) == width);
+            if let Some(expression) = loose {
+                return expression;
+            }
+        }
         let old = self.pool.get(&width).map_or(0, Vec::len);
         match self.random.below(100) {
             0..=54 if old > 0 => self.old(width, old),
@@ -351,7 +391,43 @@ impl Maker {
             let width = self.width();
             return self.operand(width);
         }
-        self.random.pick(&self.all)
+        let loose = if self.random.flag() {
+            self.take_loose(|_, _| true)
+        } else {
+            None
+        };
+        loose.unwrap_or_else(|| self.random.pick(&self.all))
+    }
+
+    /// Loose expressions joined to the width, so that they come to be used.
+    fn gathered(&mut self, width: u32) -> Expr {
+        let mut parts = Vec::new();
+        let mut left = width;
+        while left > 0 {
+            let part = match self.loose.pop() {
+                None => self.operand(left),
+                Some(loose) if self.builder.width(loose) > left => {
+                    let lsb = self.random.range(0, self.builder.width(loose) - left);
+                    self.builder.slice(loose, lsb, left)
+                }
+                Some(loose) => loose,
+            };
+            left -= self.builder.width(part);
+            parts.push(part);
+        }
+        match parts[..] {
+            [only] => only,
+            _ => self.builder.concat(&parts),
+        }
+    }
+
+    /// What is connected at the end: mostly loose expressions.
+    fn end_value(&mut self, width: u32) -> Expr {
+        if self.random.chance(75) {
+            self.gathered(width)
+        } else {
+            self.operand(width)
+        }
     }
 
     // Room.
@@ -360,9 +436,10 @@ impl Maker {
     pub fn has_room(&self) -> bool {
         let image = self.builder.image();
         let ending = 3 * self.signals.len() + 24 * self.memories + 40;
+        let list = self.loose.len() + 6 * self.signals.len() + 48 * self.memories + 1000;
         image.expressions.len() + ending < MOST[EXPRESSIONS]
             && self.bits_left() > 4 * MOST_WIDTH as usize
-            && image.list.len() + 4 * ending + 2 * (MOST_WIDTH as usize) < MOST[LIST]
+            && image.list.len() + list < MOST[LIST]
             && image.assignments.len() + self.signals.len() + 70 < MOST[ASSIGNMENTS]
     }
 
@@ -374,7 +451,11 @@ impl Maker {
     }
 
     fn undriven_bits(&self) -> usize {
-        self.driven.iter().flatten().filter(|driven| !**driven).count()
+        self.driven
+            .iter()
+            .flatten()
+            .filter(|driven| !**driven)
+            .count()
     }
 
     // Drivers.
@@ -382,7 +463,9 @@ impl Maker {
     /// Drives a stretch of a wire or output that has none yet.
     pub fn drive_some(&mut self) {
         let number = self.random.below(self.signals.len());
-        let Some((lsb, length)) = self.gap(number) else { return };
+        let Some((lsb, length)) = self.gap(number) else {
+            return;
+        };
         let width = match self.random.below(4) {
             0 => self.random.range(1, length),
             _ => length,
@@ -438,10 +521,16 @@ impl Maker {
                 Role::Output => self.mischief.undriven && self.random.chance(30),
                 _ => self.random.chance(40),
             };
-            while !leave {
-                let Some((lsb, length)) = self.gap(number) else { break };
-                self.drive(number, lsb, length);
+            if !leave {
+                self.drive_rest(number);
             }
+        }
+    }
+
+    fn drive_rest(&mut self, number: usize) {
+        while let Some((lsb, length)) = self.gap(number) {
+            let value = self.end_value(length);
+            self.assign(number, lsb, value);
         }
     }
 
@@ -452,14 +541,26 @@ impl Maker {
         let fits = |(signal, role): &(Signal, Role), inputs: bool| {
             self.driven[signal.0 as usize] == [true] && (!inputs || *role == Role::Input)
         };
-        let inputs: Vec<Signal> =
-            self.signals.iter().filter(|signal| fits(signal, true)).map(|signal| signal.0).collect();
-        let driven: Vec<Signal> =
-            self.signals.iter().filter(|signal| fits(signal, false)).map(|signal| signal.0).collect();
+        let inputs: Vec<Signal> = self
+            .signals
+            .iter()
+            .filter(|signal| fits(signal, true))
+            .map(|signal| signal.0)
+            .collect();
+        let driven: Vec<Signal> = self
+            .signals
+            .iter()
+            .filter(|signal| fits(signal, false))
+            .map(|signal| signal.0)
+            .collect();
         if driven.is_empty() {
             return None;
         }
-        let from = if inputs.is_empty() || self.random.chance(35) { driven } else { inputs };
+        let from = if inputs.is_empty() || self.random.chance(35) {
+            driven
+        } else {
+            inputs
+        };
         Some(self.random.pick(&from))
     }
 
@@ -485,7 +586,7 @@ impl Maker {
 
     fn add_register(&mut self, number: usize, target: Signal, clock: Signal) {
         let width = self.builder.signal_width(target);
-        let next = self.operand(width);
+        let next = self.end_value(width);
         let falling = self.random.chance(25);
         let enable = self.some_control();
         let reset = self.some_control().map(|control| Reset {
@@ -494,7 +595,17 @@ impl Maker {
             value: self.reset_value(width),
         });
         let name = format!("r{number}");
-        self.builder.register(&name, Register { target, next, clock, falling, enable, reset });
+        self.builder.register(
+            &name,
+            Register {
+                target,
+                next,
+                clock,
+                falling,
+                enable,
+                reset,
+            },
+        );
     }
 
     fn reset_value(&mut self, width: u32) -> Expr {
@@ -511,7 +622,9 @@ impl Maker {
         for memory in 0..self.memories {
             let first = self.read_data(memory, false);
             let second = self.read_data(memory, true);
-            let (Some(first), Some(clock)) = (first, self.control()) else { continue };
+            let (Some(first), Some(clock)) = (first, self.control()) else {
+                continue;
+            };
             if second.is_none() && self.two_ports[memory] {
                 continue;
             }
@@ -520,14 +633,22 @@ impl Maker {
                 let clock = self.control().unwrap_or(clock);
                 self.port(read_data, clock)
             });
-            let record = Memory { depth: self.depth(), style: self.random.range(0, 2), first, second };
+            let record = Memory {
+                depth: self.depth(),
+                style: self.random.range(0, 2),
+                first,
+                second,
+            };
             self.builder.memory(&format!("m{memory}"), record);
         }
     }
 
     fn read_data(&self, memory: usize, second: bool) -> Option<Signal> {
         let wanted = Role::Read(memory, second);
-        self.signals.iter().find(|(_, role)| *role == wanted).map(|(signal, _)| *signal)
+        self.signals
+            .iter()
+            .find(|(_, role)| *role == wanted)
+            .map(|(signal, _)| *signal)
     }
 
     fn depth(&mut self) -> u32 {
@@ -544,11 +665,23 @@ impl Maker {
         let read_address = self.address();
         let read_enable = self.some_control();
         let write_address = self.address();
-        let write_data = self.operand(width);
+        let write_data = self.end_value(width);
         let signal = self.control().unwrap_or(clock);
-        let write_enable = Control { signal, low: self.random.chance(30) };
+        let write_enable = Control {
+            signal,
+            low: self.random.chance(30),
+        };
         let falling = self.random.chance(25);
-        Port { read_address, read_data, read_enable, write_address, write_data, write_enable, clock, falling }
+        Port {
+            read_address,
+            read_data,
+            read_enable,
+            write_address,
+            write_data,
+            write_enable,
+            clock,
+            falling,
+        }
     }
 
     fn address(&mut self) -> Expr {
@@ -565,8 +698,8 @@ impl Maker {
 fn palette(random: &mut Random, size: Size) -> Vec<u32> {
     let wide = match size {
         Size::Tiny => 20,
-        Size::Small => 8,
-        Size::Medium | Size::Large => 2,
+        Size::Small => 12,
+        Size::Medium | Size::Large => 4,
     };
     let mut widths = vec![1];
     for _ in 0..random.range(1, 4) {

@@ -8,7 +8,11 @@ use crate::random::Random;
 pub fn mutate(seed: u64, bytes: &[u8]) -> Vec<u8> {
     let mut random = Random::new(seed);
     let mut damaged = bytes.to_vec();
-    let times = if random.chance(80) { 1 } else { random.range(2, 4) };
+    let times = if random.chance(80) {
+        1
+    } else {
+        random.range(2, 4)
+    };
     for _ in 0..times {
         damage(&mut random, &mut damaged);
     }
@@ -34,8 +38,41 @@ fn damage(random: &mut Random, bytes: &mut Vec<u8>) {
 /// A value at a border of some field.
 fn border_value(random: &mut Random) -> u32 {
     random.pick(&[
-        0, 1, 2, 3, 4, 5, 6, 7, 18, 19, 32, 33, 63, 64, 65, 255, 256, 511, 512, 513, 1023, 1024, 1025,
-        2047, 2048, 2049, 8192, 16384, 65535, 65536, 65537, 0x7fff_ffff, 0x8000_0000, 0xffff_fffe, ABSENT,
+        0,
+        1,
+        2,
+        3,
+        4,
+        5,
+        6,
+        7,
+        18,
+        19,
+        32,
+        33,
+        63,
+        64,
+        65,
+        255,
+        256,
+        511,
+        512,
+        513,
+        1023,
+        1024,
+        1025,
+        2047,
+        2048,
+        2049,
+        8192,
+        16384,
+        65535,
+        65536,
+        65537,
+        0x7fff_ffff,
+        0x8000_0000,
+        0xffff_fffe,
+        ABSENT,
     ])
 }
 
@@ -84,7 +121,11 @@ fn nudge(random: &mut Random, bytes: &mut [u8]) {
     if let Some((start, fields)) = some_record(random, bytes) {
         let field = start + random.below(fields);
         let old = word(bytes, field);
-        let new = if random.flag() { old.wrapping_add(1) } else { old.wrapping_sub(1) };
+        let new = if random.flag() {
+            old.wrapping_add(1)
+        } else {
+            old.wrapping_sub(1)
+        };
         set_word(bytes, field, new);
     }
 }
@@ -111,7 +152,9 @@ fn copy_record(random: &mut Random, bytes: &mut [u8]) {
 }
 
 fn list_word(random: &mut Random, bytes: &mut [u8]) {
-    let Some(header) = read_header(bytes) else { return };
+    let Some(header) = read_header(bytes) else {
+        return;
+    };
     let (count, offset) = (header[2 + 2 * LIST] as usize, header[3 + 2 * LIST] as usize);
     if count > 0 && offset + 4 * count <= bytes.len() {
         let value = border_value(random);
@@ -120,7 +163,9 @@ fn list_word(random: &mut Random, bytes: &mut [u8]) {
 }
 
 fn name_byte(random: &mut Random, bytes: &mut [u8]) {
-    let Some(header) = read_header(bytes) else { return };
+    let Some(header) = read_header(bytes) else {
+        return;
+    };
     let start = header[3 + 2 * NAMES] as usize;
     if start < bytes.len() {
         let at = start + random.below(bytes.len() - start);
@@ -152,7 +197,9 @@ fn flip_bit(random: &mut Random, bytes: &mut [u8]) {
 
 /// Takes a section's last record away and lays the image out anew.
 fn drop_last_record(random: &mut Random, bytes: &mut Vec<u8>) {
-    let Some(mut image) = Image::decode(bytes) else { return };
+    let Some(mut image) = Image::decode(bytes) else {
+        return;
+    };
     match random.below(6) {
         SIGNALS => drop(image.signals.pop()),
         EXPRESSIONS => drop(image.expressions.pop()),

@@ -11,6 +11,7 @@ impl Random {
         Random { state: seed }
     }
 
+    #[allow(clippy::should_implement_trait)]
     pub fn next(&mut self) -> u64 {
         self.state = self.state.wrapping_add(0x9e37_79b9_7f4a_7c15);
         let mut z = self.state;
@@ -63,8 +64,7 @@ mod tests {
     #[test]
     fn range_reaches_both_ends_and_nothing_else() {
         let mut random = Random::new(1);
-        let seen: std::collections::BTreeSet<u32> =
-            (0..200).map(|_| random.range(3, 6)).collect();
+        let seen: std::collections::BTreeSet<u32> = (0..200).map(|_| random.range(3, 6)).collect();
         assert_eq!(seen.into_iter().collect::<Vec<_>>(), [3, 4, 5, 6]);
     }
 }

@@ -45,7 +45,11 @@ impl Maker {
         }
         let width = self.width();
         let lhs = self.operand(width);
-        let rhs = if self.random.chance(4) { lhs } else { self.operand(width) };
+        let rhs = if self.random.chance(4) {
+            lhs
+        } else {
+            self.operand(width)
+        };
         let result = self.builder.binary(op, lhs, rhs);
         self.keep(result);
     }
@@ -152,7 +156,11 @@ impl Maker {
 
     /// (a + b) + c in every shape that fuses, nearly fuses or does not.
     fn carry_add(&mut self) {
-        let width = if self.random.chance(20) { 1 } else { self.width().max(2) };
+        let width = if self.random.chance(20) {
+            1
+        } else {
+            self.width().max(2)
+        };
         let lhs = self.operand(width);
         let rhs = self.operand(width);
         let inner = self.builder.add(lhs, rhs);
@@ -190,7 +198,10 @@ impl Maker {
                 self.builder.concat(&[zeros, bit])
             }
             4 => {
-                let all: Vec<Expr> = (1..width).map(|_| self.builder.constant(1, 0)).take(40).collect();
+                let all: Vec<Expr> = (1..width)
+                    .map(|_| self.builder.constant(1, 0))
+                    .take(40)
+                    .collect();
                 let rest = width - 1 - all.len() as u32;
                 let mut parts = all;
                 if rest > 0 {
@@ -282,7 +293,9 @@ impl Maker {
     /// A signal whose bit i + 1 hangs on its bit i: a cycle of the vector,
     /// not of its bits, as long as it is read through Slices.
     fn ripple(&mut self) {
-        let Some((number, width)) = self.untouched() else { return };
+        let Some((number, width)) = self.untouched() else {
+            return;
+        };
         let whole = self.builder.read(crate::Signal(number as u32));
         let other = self.operand(width);
         let mixed = match self.random.below(3) {

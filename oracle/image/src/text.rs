@@ -40,7 +40,12 @@ pub fn tokens(line: &str) -> Result<Vec<Token>, String> {
                 tokens.push(word(&line[at..end])?);
                 at = end;
             }
-            _ => return Err(format!("stray character in '{}'", line[..].trim_end())),
+            _ => {
+                return Err(format!(
+                    "stray character '{}'",
+                    line[at..].chars().next().unwrap_or(' ')
+                ))
+            }
         }
     }
     Ok(tokens)
@@ -59,7 +64,9 @@ fn is_name_byte(byte: u8) -> bool {
 
 /// Whether these bytes can stand in the text as a name.
 pub fn is_name(bytes: &[u8]) -> bool {
-    bytes.first().is_some_and(|first| first.is_ascii_alphabetic() || *first == b'_')
+    bytes
+        .first()
+        .is_some_and(|first| first.is_ascii_alphabetic() || *first == b'_')
         && bytes.iter().all(|byte| is_name_byte(*byte))
 }
 

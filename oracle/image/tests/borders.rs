@@ -33,7 +33,10 @@ fn every_check_answers_somewhere() {
 
 #[test]
 fn every_header_field_and_section_is_a_place() {
-    let places: BTreeSet<[u32; 2]> = answers().iter().map(|(_, answer)| [answer[0], answer[1]]).collect();
+    let places: BTreeSet<[u32; 2]> = answers()
+        .iter()
+        .map(|(_, answer)| [answer[0], answer[1]])
+        .collect();
     for field in 0..16 {
         assert!(places.contains(&[3, field]), "no refusal 3 {field}");
     }

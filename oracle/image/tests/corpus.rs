@@ -21,14 +21,21 @@ fn every_case_comes_out_as_expected() {
     let mut lines = 0;
     for path in texts() {
         let text = fs::read_to_string(&path).expect("a readable text");
-        let name = path.file_stem().expect("a name").to_string_lossy().into_owned();
+        let name = path
+            .file_stem()
+            .expect("a name")
+            .to_string_lossy()
+            .into_owned();
         let bytes = assemble(&text).unwrap_or_else(|error| panic!("{name}: {error}"));
         let expectations = expectations(&text);
         assert!(!expectations.is_empty(), "{name} expects nothing");
         for (call, expected) in expectations {
             lines += 1;
             if let Err(found) = judge(&bytes, call, &expected) {
-                wrong.push(format!("{name}, limits {} {}: expected {expected}, found {found}", call.n, call.p));
+                wrong.push(format!(
+                    "{name}, limits {} {}: expected {expected}, found {found}",
+                    call.n, call.p
+                ));
             }
         }
     }
@@ -39,7 +46,9 @@ fn every_case_comes_out_as_expected() {
 fn texts() -> Vec<PathBuf> {
     let corpus = Path::new(env!("CARGO_MANIFEST_DIR")).join("../../corpus");
     let entries = fs::read_dir(corpus).expect("the corpus");
-    let mut paths: Vec<PathBuf> = entries.map(|entry| entry.expect("an entry").path()).collect();
+    let mut paths: Vec<PathBuf> = entries
+        .map(|entry| entry.expect("an entry").path())
+        .collect();
     paths.retain(|path| path.extension().is_some_and(|extension| extension == "txt"));
     paths.sort();
     paths
@@ -47,12 +56,22 @@ fn texts() -> Vec<PathBuf> {
 
 /// Each `# expect` line with the limits and buffers that stand before it.
 fn expectations(text: &str) -> Vec<(Call, String)> {
-    let mut call = Call { n: 1024, p: 2048, buffers: None };
+    let mut call = Call {
+        n: 1024,
+        p: 2048,
+        buffers: None,
+    };
     let mut found = Vec::new();
     for line in text.lines() {
         let words: Vec<&str> = line.split_whitespace().collect();
         match words[..] {
-            ["#", "limits", n, p] => call = Call { n: number(n), p: number(p), buffers: None },
+            ["#", "limits", n, p] => {
+                call = Call {
+                    n: number(n),
+                    p: number(p),
+                    buffers: None,
+                }
+            }
             ["#", "buffers", netlist, scratch] => {
                 call.buffers = Some((number(netlist) as usize, number(scratch) as usize));
             }
@@ -64,13 +83,16 @@ fn expectations(text: &str) -> Vec<(Call, String)> {
 }
 
 fn number(text: &str) -> u32 {
-    text.parse().unwrap_or_else(|_| panic!("'{text}' is not a number"))
+    text.parse()
+        .unwrap_or_else(|_| panic!("'{text}' is not a number"))
 }
 
 /// What comes out instead, where it is not what was expected.
 fn judge(bytes: &[u8], call: Call, expected: &str) -> Result<(), String> {
     let found = outcome(bytes, call);
-    let fits = expected.split(' ').all(|word| found.split(' ').any(|other| other == word));
+    let fits = expected
+        .split(' ')
+        .all(|word| found.split(' ').any(|other| other == word));
     let same = expected.starts_with("accepted") == found.starts_with("accepted");
     let refusal = expected.starts_with("accepted") || expected == found;
     if fits && same && refusal {
@@ -82,7 +104,9 @@ fn judge(bytes: &[u8], call: Call, expected: &str) -> Result<(), String> {
 
 fn outcome(bytes: &[u8], call: Call) -> String {
     let scratch = reference::scratch_words(bytes, call.n).unwrap_or(0);
-    let (netlist, scratch) = call.buffers.unwrap_or((netlist_words(call.n, call.p), scratch));
+    let (netlist, scratch) = call
+        .buffers
+        .unwrap_or((netlist_words(call.n, call.p), scratch));
     let check = reference::check(bytes, call.n, call.p, netlist, scratch);
     if check != [0, 0, 0] {
         return refused(check);
@@ -105,7 +129,10 @@ fn accepted(bytes: &[u8], call: Call, nodes: &[[u32; 6]], records: &[Vec<u32>]) 
     let mut text = format!("accepted nets={} list={list}", nodes.len());
     let sorts = ["ports", "registers", "memories", "arithmetic", "comparison"];
     for (sort, name) in sorts.into_iter().enumerate() {
-        let count = records.iter().filter(|record| record[0] as usize == sort).count();
+        let count = records
+            .iter()
+            .filter(|record| record[0] as usize == sort)
+            .count();
         text += &format!(" {name}={count}");
     }
     let cells: Vec<&Vec<u32>> = records.iter().filter(|record| record[0] == 3).collect();
@@ -119,20 +146,36 @@ fn accepted(bytes: &[u8], call: Call, nodes: &[[u32; 6]], records: &[Vec<u32>]) 
 }
 
 /// The outputs' values in the netlist and in the module, which must agree.
-fn values(bytes: &[u8], call: Call, nodes: &[[u32; 6]], records: &[Vec<u32>]) -> BTreeMap<String, u128> {
+fn values(
+    bytes: &[u8],
+    call: Call,
+    nodes: &[[u32; 6]],
+    records: &[Vec<u32>],
+) -> BTreeMap<String, u128> {
     let module = driver::ModuleSim::new(bytes).expect("a module");
-    let setting = module.inputs().map(|(signal, width)| (signal, vec![false; width as usize])).collect();
+    let setting = module
+        .inputs()
+        .map(|(signal, width)| (signal, vec![false; width as usize]))
+        .collect();
     let settings: [driver::Setting; 1] = [setting];
-    let answer = Answer::Netlist { nodes: nodes.to_vec(), records: records.to_vec() };
+    let answer = Answer::Netlist {
+        nodes: nodes.to_vec(),
+        records: records.to_vec(),
+    };
     let netlist = driver::NetlistSim::new(&driver::words(&answer, call.n, call.p));
     let first = module.zero_contents();
-    let (Ok(runs), Ok(others)) = (module.run(&first, &settings), netlist.run(&first, &settings)) else {
+    let (Ok(runs), Ok(others)) = (
+        module.run(&first, &settings),
+        netlist.run(&first, &settings),
+    ) else {
         return BTreeMap::new();
     };
     assert_eq!(runs, others, "module and netlist differ");
     let image = Image::decode(bytes).expect("an image");
     let outputs = runs[0].outputs.iter();
-    outputs.map(|(signal, bits)| (name(&image, *signal), value(bits))).collect()
+    outputs
+        .map(|(signal, bits)| (name(&image, *signal), value(bits)))
+        .collect()
 }
 
 fn name(image: &Image, signal: u32) -> String {
@@ -141,5 +184,8 @@ fn name(image: &Image, signal: u32) -> String {
 }
 
 fn value(bits: &[bool]) -> u128 {
-    bits.iter().take(128).rev().fold(0, |value, bit| 2 * value + u128::from(*bit))
+    bits.iter()
+        .take(128)
+        .rev()
+        .fold(0, |value, bit| 2 * value + u128::from(*bit))
 }

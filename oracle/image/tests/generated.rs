@@ -8,7 +8,11 @@ const N: u32 = 65_535;
 const P: u32 = 65_535;
 
 fn size(seed: u64) -> Size {
-    Size::ALL[if seed % 40 == 0 { 3 } else { (seed % 3) as usize }]
+    Size::ALL[if seed % 40 == 0 {
+        3
+    } else {
+        (seed % 3) as usize
+    }]
 }
 
 fn check(bytes: &[u8], scratch: usize) -> [u32; 3] {
@@ -21,7 +25,11 @@ fn generated_images_keep_every_rule() {
         let image = generate(seed, size(seed));
         let scratch = image.scratch_words(N);
         assert_eq!(check(&image.encode(), scratch), [0, 0, 0], "seed {seed}");
-        assert_eq!(check(&image.encode(), scratch - 1), [5, 0, 0], "seed {seed}");
+        assert_eq!(
+            check(&image.encode(), scratch - 1),
+            [5, 0, 0],
+            "seed {seed}"
+        );
     }
 }
 
@@ -48,7 +56,10 @@ fn every_kind_operator_control_and_port_comes_up() {
     for seed in 0..600 {
         note(&generate(seed, size(seed)), &mut seen);
     }
-    let missing: Vec<String> = wanted().into_iter().filter(|want| !seen.contains_key(want)).collect();
+    let missing: Vec<String> = wanted()
+        .into_iter()
+        .filter(|want| !seen.contains_key(want))
+        .collect();
     assert!(missing.is_empty(), "never seen: {missing:?}");
 }
 
@@ -78,9 +89,20 @@ fn note(image: &Image, seen: &mut BTreeMap<String, usize>) {
             _ => {}
         }
     }
-    let internal = |signal: u32| image.signals.get(signal as usize).is_some_and(|signal| signal[3] == 0);
+    let internal = |signal: u32| {
+        image
+            .signals
+            .get(signal as usize)
+            .is_some_and(|signal| signal[3] == 0)
+    };
     for register in &image.registers {
-        let absent = |field: usize, text: String| if register[field] == u32::MAX { "absent".into() } else { text };
+        let absent = |field: usize, text: String| {
+            if register[field] == u32::MAX {
+                "absent".into()
+            } else {
+                text
+            }
+        };
         let enable = absent(6, register[7].to_string());
         let reset = absent(8, format!("{}{}", register[9], register[10]));
         note(format!("register {enable} {reset}"));
@@ -124,7 +146,11 @@ fn deepest_chains_are_valid_and_accepted() {
     for (width, length) in [(1, 0), (2, 1), (32, 1000), (128, 250)] {
         let image = deepest(width, length);
         let bytes = image.encode();
-        assert_eq!(check(&bytes, image.scratch_words(N)), [0, 0, 0], "{width} {length}");
+        assert_eq!(
+            check(&bytes, image.scratch_words(N)),
+            [0, 0, 0],
+            "{width} {length}"
+        );
         assert_eq!(outcome(&bytes), 0, "{width} {length}");
     }
     assert_eq!(deepest(32, 1000).expressions.len(), 1034);
@@ -139,5 +165,8 @@ fn damage_is_mostly_refused_but_not_always() {
         *counts.entry(check(&bytes, usize::MAX)[0]).or_default() += 1;
     }
     let count = |number: u32| counts.get(&number).copied().unwrap_or(0);
-    assert!(count(3) > 400 && count(4) > 1200 && count(0) > 300, "{counts:?}");
+    assert!(
+        count(3) > 400 && count(4) > 1200 && count(0) > 300,
+        "{counts:?}"
+    );
 }

@@ -3,10 +3,17 @@
 use image::{assemble, disassemble, generate, mutate, Image, Size};
 
 fn samples(count: u64) -> impl Iterator<Item = (u64, Image)> {
-    Size::ALL.into_iter().enumerate().flat_map(move |(index, size)| {
-        let seeds = if size == Size::Large { count / 10 } else { count };
-        (0..seeds).map(move |seed| (1000 * index as u64 + seed, generate(seed, size)))
-    })
+    Size::ALL
+        .into_iter()
+        .enumerate()
+        .flat_map(move |(index, size)| {
+            let seeds = if size == Size::Large {
+                count / 10
+            } else {
+                count
+            };
+            (0..seeds).map(move |seed| (1000 * index as u64 + seed, generate(seed, size)))
+        })
 }
 
 #[test]
@@ -33,8 +40,15 @@ fn decoding_refuses_bytes_that_do_not_lay_out() {
 fn text_of_valid_images_gives_the_same_bytes() {
     for (label, image) in samples(300) {
         let text = disassemble(&image);
-        assert!(!text.contains("raw "), "image {label} needs raw records:\n{text}");
-        assert_eq!(assemble(&text).as_ref(), Ok(&image.encode()), "image {label}");
+        assert!(
+            !text.contains("raw "),
+            "image {label} needs raw records:\n{text}"
+        );
+        assert_eq!(
+            assemble(&text).as_ref(),
+            Ok(&image.encode()),
+            "image {label}"
+        );
     }
 }
 
@@ -44,9 +58,15 @@ fn text_of_damaged_images_gives_the_same_bytes() {
     for (label, image) in samples(300) {
         for seed in 0..10 {
             let bytes = mutate(seed, &image.encode());
-            let Some(damaged) = Image::decode(&bytes) else { continue };
+            let Some(damaged) = Image::decode(&bytes) else {
+                continue;
+            };
             let text = disassemble(&damaged);
-            assert_eq!(assemble(&text), Ok(bytes), "image {label}, damage {seed}\n{text}");
+            assert_eq!(
+                assemble(&text),
+                Ok(bytes),
+                "image {label}, damage {seed}\n{text}"
+            );
             tried += 1;
         }
     }

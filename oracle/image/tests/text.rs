@@ -17,7 +17,11 @@ fn statements_give_the_records_of_document_01() {
     assert_eq!(image.signals, [[0, 1, 4, 1], [1, 1, 8, 2], [2, 4, 8, 0]]);
     assert_eq!(
         image.expressions,
-        [[kind::CONSTANT, 8, 0, 0, 0], [kind::SIGNAL, 2, 0, 1, 0], [kind::CONCAT, 4, 2, 2, 0]]
+        [
+            [kind::CONSTANT, 8, 0, 0, 0],
+            [kind::SIGNAL, 2, 0, 1, 0],
+            [kind::CONCAT, 4, 2, 2, 0]
+        ]
     );
     assert_eq!(image.list, [0xfe, 0, 1, 1]);
     assert_eq!(image.assignments, [[1, 4, 4, 2], [2, 0, 8, 0]]);
@@ -40,7 +44,10 @@ fn registers_and_memories_have_their_fields_in_order() {
 #[test]
 fn absent_controls_and_defaults() {
     let image = image("input c 1\nwire q 1\nregister r target q next c clock c\n");
-    assert_eq!(image.registers, [[2, 1, 1, 0, 0, 0, ABSENT, 0, ABSENT, 0, 0, 0]]);
+    assert_eq!(
+        image.registers,
+        [[2, 1, 1, 0, 0, 0, ABSENT, 0, ABSENT, 0, 0, 0]]
+    );
 }
 
 #[test]
@@ -50,13 +57,18 @@ fn widths_follow_from_operands() {
          expr e3 = sub x x\nexpr e4 = les x x\nexpr e5 = sar x n\nexpr e6 = mux e2 x x\n\
          expr e7 = concat x n x\nexpr e8 = slice x 3 1\nexpr e9 = x[4]\nexpr e10 : 7 = add x x\n",
     );
-    let widths: Vec<u32> = image.expressions[2..].iter().map(|record| record[1]).collect();
+    let widths: Vec<u32> = image.expressions[2..]
+        .iter()
+        .map(|record| record[1])
+        .collect();
     assert_eq!(widths, [5, 1, 5, 1, 5, 5, 12, 3, 1, 7]);
 }
 
 #[test]
 fn wide_constants_and_decimal_values() {
-    let image = image("expr k = const 65 0x1_0000_0002_0000_0003\nexpr d = const 70 36893488147419103233\n");
+    let image = image(
+        "expr k = const 65 0x1_0000_0002_0000_0003\nexpr d = const 70 36893488147419103233\n",
+    );
     assert_eq!(image.list, [3, 2, 1, 0, 1, 0, 2, 0]);
 }
 
@@ -88,9 +100,15 @@ fn mistakes_are_answered_with_their_line() {
         ("input a 1 name \"unclosed\n", 1),
         ("input a 1 name \"\\q\"\n", 1),
         ("input a 1\nwire q 1\nregister r target q\n", 3),
-        ("input a 1\nwire q 1\nregister r target q next a clock a reset a high\n", 3),
+        (
+            "input a 1\nwire q 1\nregister r target q next a clock a reset a high\n",
+            3,
+        ),
         ("input a 1\nwire q 1\nmemory m depth 1 style odd port\n", 3),
-        ("input a 1\nwire q 1\nmemory m depth 2 \\\nport raddr a\\\n rdata b\n", 3),
+        (
+            "input a 1\nwire q 1\nmemory m depth 2 \\\nport raddr a\\\n rdata b\n",
+            3,
+        ),
         ("raw expr 1 2 3\n", 1),
         ("raw signal 0 0 0 0 0\n", 1),
         ("expr x = not @7\n", 1),

@@ -52,7 +52,8 @@ fn run(words: &[&str]) -> Result<(), String> {
 }
 
 fn number(text: &str) -> Result<u64, String> {
-    text.parse().map_err(|_| format!("'{text}' is not a number"))
+    text.parse()
+        .map_err(|_| format!("'{text}' is not a number"))
 }
 
 fn deepest(width: u64, length: u64) -> Result<Image, String> {
@@ -70,7 +71,8 @@ fn write(target: &str, bytes: &[u8]) -> Result<(), String> {
 fn write_borders(directory: &Path) -> Result<(), String> {
     fs::create_dir_all(directory).map_err(|error| error.to_string())?;
     let mut table = String::new();
-    for (number, (name, bytes, n, p, netlist, scratch)) in image::borders().into_iter().enumerate() {
+    for (number, (name, bytes, n, p, netlist, scratch)) in image::borders().into_iter().enumerate()
+    {
         let file = format!("{number:05}.img");
         fs::write(directory.join(&file), bytes).map_err(|error| error.to_string())?;
         table += &format!("{file} {n} {p} {netlist} {scratch} {name}\n");

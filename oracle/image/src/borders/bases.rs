@@ -26,8 +26,12 @@ pub fn full() -> Image {
     let y = builder.output("y", 8);
     let z = builder.output("z", 1);
     let w = builder.wire("w", 8);
-    let targets: Vec<Signal> = (0..4).map(|number| builder.wire(&format!("q{number}"), 8)).collect();
-    let data: Vec<Signal> = (0..3).map(|number| builder.output(&format!("d{number}"), 8)).collect();
+    let targets: Vec<Signal> = (0..4)
+        .map(|number| builder.wire(&format!("q{number}"), 8))
+        .collect();
+    let data: Vec<Signal> = (0..3)
+        .map(|number| builder.output(&format!("d{number}"), 8))
+        .collect();
     let [value, bit] = operators(&mut builder, a, b, en);
     let address = builder.read(address);
     let low = builder.slice(value, 0, 4);
@@ -37,8 +41,18 @@ pub fn full() -> Image {
     builder.assign(z, bit);
     builder.assign_range(w, 0, low);
     builder.assign_range(w, 4, high);
-    let enable = Control { signal: en, low: true };
-    let reset = Reset { control: Control { signal: rst, low: false }, asynchronous: true, value: reset };
+    let enable = Control {
+        signal: en,
+        low: true,
+    };
+    let reset = Reset {
+        control: Control {
+            signal: rst,
+            low: false,
+        },
+        asynchronous: true,
+        value: reset,
+    };
     for (number, target) in targets.into_iter().enumerate() {
         let mut register = Register::new(target, value, clk);
         register.falling = number == 3;
@@ -52,14 +66,30 @@ pub fn full() -> Image {
         read_enable,
         write_address: address,
         write_data: value,
-        write_enable: Control { signal: en, low: false },
+        write_enable: Control {
+            signal: en,
+            low: false,
+        },
         clock: clk,
         falling: false,
     };
-    let one = Memory { depth: 16, style: 1, first: port(data[0], None), second: None };
+    let one = Memory {
+        depth: 16,
+        style: 1,
+        first: port(data[0], None),
+        second: None,
+    };
     builder.memory("m0", one);
     let second = Some(port(data[2], Some(enable)));
-    builder.memory("m1", Memory { depth: 9, style: 2, first: port(data[1], Some(enable)), second });
+    builder.memory(
+        "m1",
+        Memory {
+            depth: 9,
+            style: 2,
+            first: port(data[1], Some(enable)),
+            second,
+        },
+    );
     builder.finish()
 }
 
@@ -113,8 +143,15 @@ fn one_register() -> Image {
     let next = builder.read(a);
     let value = builder.constant(2, 1);
     let mut register = Register::new(q, next, clk);
-    let control = Control { signal: clk, low: true };
-    register.reset = Some(Reset { control, asynchronous: false, value });
+    let control = Control {
+        signal: clk,
+        low: true,
+    };
+    register.reset = Some(Reset {
+        control,
+        asynchronous: false,
+        value,
+    });
     builder.register("q", register);
     builder.finish()
 }
@@ -124,7 +161,10 @@ fn one_memory() -> Image {
     let clk = builder.input("clk", 1);
     let d = builder.output("d", 1);
     let read = builder.read(clk);
-    let write_enable = Control { signal: clk, low: false };
+    let write_enable = Control {
+        signal: clk,
+        low: false,
+    };
     let port = Port {
         read_address: read,
         read_data: d,
@@ -135,7 +175,15 @@ fn one_memory() -> Image {
         clock: clk,
         falling: false,
     };
-    builder.memory("m", Memory { depth: 2, style: 0, first: port, second: None });
+    builder.memory(
+        "m",
+        Memory {
+            depth: 2,
+            style: 0,
+            first: port,
+            second: None,
+        },
+    );
     builder.finish()
 }
 
@@ -160,8 +208,15 @@ fn half_constant_reset() -> Image {
     let one = builder.constant(1, 1);
     let value = builder.concat(&[bit, one]);
     let mut register = Register::new(q, value, clk);
-    let control = Control { signal: clk, low: false };
-    register.reset = Some(Reset { control, asynchronous: true, value });
+    let control = Control {
+        signal: clk,
+        low: false,
+    };
+    register.reset = Some(Reset {
+        control,
+        asynchronous: true,
+        value,
+    });
     builder.register("q", register);
     builder.finish()
 }

@@ -13,25 +13,51 @@ pub fn add(cases: &mut Cases) {
 
 fn limits(cases: &mut Cases) {
     let image = inverter();
-    let values = [0, 1, 2, 3, 8, MOST_LIMIT - 1, MOST_LIMIT, MOST_LIMIT + 1, 0x8000_0000, ABSENT];
+    let values = [
+        0,
+        1,
+        2,
+        3,
+        8,
+        MOST_LIMIT - 1,
+        MOST_LIMIT,
+        MOST_LIMIT + 1,
+        0x8000_0000,
+        ABSENT,
+    ];
     for n in values {
         for p in values {
             let scratch = image.scratch_words(n).min(MOST_SCRATCH);
             let netlist = netlist_words(n.min(MOST_LIMIT + 1), p.min(MOST_LIMIT + 1));
             let name = format!("limits {n} {p}");
-            cases.cases.push((name, image.encode(), n, p, netlist, scratch));
+            cases
+                .cases
+                .push((name, image.encode(), n, p, netlist, scratch));
         }
     }
 }
 
 fn buffers(cases: &mut Cases) {
-    for (label, image) in [("empty", Image::default()), ("inverter", inverter()), ("full", full())] {
-        for (n, p) in [(1, 0), (16, 16), (NETS, LIST_WORDS), (MOST_LIMIT, MOST_LIMIT)] {
+    for (label, image) in [
+        ("empty", Image::default()),
+        ("inverter", inverter()),
+        ("full", full()),
+    ] {
+        for (n, p) in [
+            (1, 0),
+            (16, 16),
+            (NETS, LIST_WORDS),
+            (MOST_LIMIT, MOST_LIMIT),
+        ] {
             let (netlist, scratch) = (netlist_words(n, p), image.scratch_words(n));
             for netlist in [0, 15, netlist - 1, netlist, netlist + 1] {
                 for scratch in [0, 63, scratch - 1, scratch, scratch + 1] {
-                    let name = format!("{label}, limits {n} {p}, {netlist} netlist and {scratch} scratch words");
-                    cases.cases.push((name, image.encode(), n, p, netlist, scratch));
+                    let name = format!(
+                        "{label}, limits {n} {p}, {netlist} netlist and {scratch} scratch words"
+                    );
+                    cases
+                        .cases
+                        .push((name, image.encode(), n, p, netlist, scratch));
                 }
             }
         }
@@ -53,7 +79,14 @@ fn order(cases: &mut Cases) {
         if wrong(3) {
             set_word(&mut bytes, 0, 2);
         }
-        cases.cases.push((format!("checks wrong {set:05b}"), bytes, n, LIST_WORDS, netlist, scratch));
+        cases.cases.push((
+            format!("checks wrong {set:05b}"),
+            bytes,
+            n,
+            LIST_WORDS,
+            netlist,
+            scratch,
+        ));
     }
 }
 
@@ -67,7 +100,12 @@ fn sweeps(cases: &mut Cases) {
             cases.limits(format!("{label}, {p} list words"), &image, NETS, p);
         }
         for both in 1..=12 {
-            cases.limits(format!("{label}, {both} nets and list words"), &image, both, both);
+            cases.limits(
+                format!("{label}, {both} nets and list words"),
+                &image,
+                both,
+                both,
+            );
         }
     }
 }

@@ -17,8 +17,16 @@ pub fn add(cases: &mut Cases) {
 /// Two assignments to one signal of eight bits.
 fn overlaps(cases: &mut Cases) {
     for (first, second) in [
-        ((0, 4), (4, 4)), ((0, 5), (4, 4)), ((0, 4), (3, 5)), ((4, 4), (0, 4)), ((4, 4), (0, 5)),
-        ((0, 8), (7, 1)), ((7, 1), (0, 7)), ((2, 2), (2, 2)), ((0, 1), (7, 1)), ((2, 4), (3, 1)),
+        ((0, 4), (4, 4)),
+        ((0, 5), (4, 4)),
+        ((0, 4), (3, 5)),
+        ((4, 4), (0, 4)),
+        ((4, 4), (0, 5)),
+        ((0, 8), (7, 1)),
+        ((7, 1), (0, 7)),
+        ((2, 2), (2, 2)),
+        ((0, 1), (7, 1)),
+        ((2, 4), (3, 1)),
     ] {
         for direction in 0..3 {
             let mut builder = Builder::new();
@@ -30,14 +38,19 @@ fn overlaps(cases: &mut Cases) {
             }
             let value = builder.constant(8, 1);
             builder.assign(z, value);
-            cases.image(format!("direction {direction}, assignments {first:?} and {second:?}"), &builder.finish());
+            cases.image(
+                format!("direction {direction}, assignments {first:?} and {second:?}"),
+                &builder.finish(),
+            );
         }
     }
 }
 
 /// Drivers of one signal, by the letters of their sorts.
 fn meetings(cases: &mut Cases) {
-    for sorts in ["a", "r", "m", "s", "aa", "ar", "am", "as", "rr", "rm", "rs", "mm", "ms", "b", "arm"] {
+    for sorts in [
+        "a", "r", "m", "s", "aa", "ar", "am", "as", "rr", "rm", "rs", "mm", "ms", "b", "arm",
+    ] {
         for direction in 0..3 {
             let image = driven(sorts, direction);
             cases.image(format!("direction {direction}, drivers {sorts}"), &image);
@@ -51,7 +64,9 @@ fn driven(sorts: &str, direction: u32) -> Image {
     let mut builder = Builder::new();
     let clock = builder.input("clk", 1);
     let target = builder.signal("t", 1, direction);
-    let spares: Vec<Signal> = (0..4).map(|number| builder.wire(&format!("s{number}"), 1)).collect();
+    let spares: Vec<Signal> = (0..4)
+        .map(|number| builder.wire(&format!("s{number}"), 1))
+        .collect();
     let read = builder.read(clock);
     for (number, sort) in sorts.chars().enumerate() {
         let spare = spares[number];
@@ -69,7 +84,15 @@ fn driven(sorts: &str, direction: u32) -> Image {
 
 fn add_memory(builder: &mut Builder, name: &str, data: [Signal; 2], read: Expr, clock: Signal) {
     let [first, second] = data.map(|data| port(read, data, read, clock));
-    builder.memory(name, Memory { depth: 2, style: 0, first, second: Some(second) });
+    builder.memory(
+        name,
+        Memory {
+            depth: 2,
+            style: 0,
+            first,
+            second: Some(second),
+        },
+    );
 }
 
 /// Each control of a register there or absent, with each of its fields 0,
@@ -83,7 +106,17 @@ fn registers(cases: &mut Cases) {
         }
     }
     for reset in [ABSENT, 0, 2, 9] {
-        for fields in [[0, 0, 0], [1, 0, 0], [0, 1, 0], [1, 1, 1], [2, 0, 0], [0, 2, 0], [0, 0, 1], [0, 0, 2], [0, 0, ABSENT]] {
+        for fields in [
+            [0, 0, 0],
+            [1, 0, 0],
+            [0, 1, 0],
+            [1, 1, 1],
+            [2, 0, 0],
+            [0, 2, 0],
+            [0, 0, 1],
+            [0, 0, 2],
+            [0, 0, ABSENT],
+        ] {
             changed(cases, format!("reset {reset} {fields:?}"), |register| {
                 register[8] = reset;
                 register[9..].copy_from_slice(&fields);
@@ -112,17 +145,37 @@ fn changed(cases: &mut Cases, name: String, change: impl Fn(&mut [u32; 12])) {
 
 /// Target, next and reset value of equal and unequal widths.
 fn register_widths(cases: &mut Cases) {
-    for (target, next, value) in [(8, 8, 8), (7, 8, 8), (9, 8, 8), (8, 7, 8), (8, 9, 8), (8, 8, 7), (8, 8, 9), (1024, 1024, 1024), (7, 7, 8)] {
+    for (target, next, value) in [
+        (8, 8, 8),
+        (7, 8, 8),
+        (9, 8, 8),
+        (8, 7, 8),
+        (8, 9, 8),
+        (8, 8, 7),
+        (8, 8, 9),
+        (1024, 1024, 1024),
+        (7, 7, 8),
+    ] {
         let mut builder = Builder::new();
         let clock = builder.input("clk", 1);
         let signal = builder.output("q", target);
         let next_value = builder.constant(next, 1);
         let reset_value = builder.constant(value, 1);
         let mut register = Register::new(signal, next_value, clock);
-        let control = Control { signal: clock, low: true };
-        register.reset = Some(Reset { control, asynchronous: false, value: reset_value });
+        let control = Control {
+            signal: clock,
+            low: true,
+        };
+        register.reset = Some(Reset {
+            control,
+            asynchronous: false,
+            value: reset_value,
+        });
         builder.register("q", register);
-        cases.image(format!("register widths {target} {next} {value}"), &builder.finish());
+        cases.image(
+            format!("register widths {target} {next} {value}"),
+            &builder.finish(),
+        );
     }
 }
 
@@ -143,7 +196,10 @@ fn control_widths(cases: &mut Cases) {
                 builder.register("q", Register::new(target, bit, clock));
                 let mut image = builder.finish();
                 image.registers[0][field] = control.0;
-                cases.image(format!("register field {field} names {width} bits of direction {direction}"), &image);
+                cases.image(
+                    format!("register field {field} names {width} bits of direction {direction}"),
+                    &image,
+                );
             }
         }
     }

@@ -28,30 +28,83 @@ use Field::*;
 const SIGNAL: [Field; 4] = [NameOffset, NameLength, Width, Enum(2)];
 const ASSIGNMENT: [Field; 4] = [Signal, Lsb, Width, Expression];
 const REGISTER: [Field; 12] = [
-    NameOffset, NameLength, Signal, Expression, Signal, Enum(1), Signal, Enum(1), Signal, Enum(1), Enum(1),
+    NameOffset,
+    NameLength,
+    Signal,
+    Expression,
+    Signal,
+    Enum(1),
+    Signal,
+    Enum(1),
+    Signal,
+    Enum(1),
+    Enum(1),
     Expression,
 ];
 const PORT: [Field; 10] = [
-    Expression, Signal, Signal, Enum(1), Expression, Expression, Signal, Enum(1), Signal, Enum(1),
+    Expression,
+    Signal,
+    Signal,
+    Enum(1),
+    Expression,
+    Expression,
+    Signal,
+    Enum(1),
+    Signal,
+    Enum(1),
 ];
 
 pub fn add(cases: &mut Cases) {
     let image = full();
     for (number, record) in image.signals.iter().enumerate() {
-        each(cases, &image, "signal", number, record, &SIGNAL, |image| &mut image.signals[number]);
+        each(cases, &image, "signal", number, record, &SIGNAL, |image| {
+            &mut image.signals[number]
+        });
     }
     for (number, record) in image.expressions.iter().enumerate() {
         let fields = expression(record[0]);
-        each(cases, &image, "expression", number, record, &fields, |image| &mut image.expressions[number]);
+        each(
+            cases,
+            &image,
+            "expression",
+            number,
+            record,
+            &fields,
+            |image| &mut image.expressions[number],
+        );
     }
     for (number, record) in image.assignments.iter().enumerate() {
-        each(cases, &image, "assignment", number, record, &ASSIGNMENT, |image| &mut image.assignments[number]);
+        each(
+            cases,
+            &image,
+            "assignment",
+            number,
+            record,
+            &ASSIGNMENT,
+            |image| &mut image.assignments[number],
+        );
     }
     for (number, record) in image.registers.iter().enumerate() {
-        each(cases, &image, "register", number, record, &REGISTER, |image| &mut image.registers[number]);
+        each(
+            cases,
+            &image,
+            "register",
+            number,
+            record,
+            &REGISTER,
+            |image| &mut image.registers[number],
+        );
     }
     for (number, record) in image.memories.iter().enumerate() {
-        each(cases, &image, "memory", number, record, &memory(), |image| &mut image.memories[number]);
+        each(
+            cases,
+            &image,
+            "memory",
+            number,
+            record,
+            &memory(),
+            |image| &mut image.memories[number],
+        );
     }
 }
 
@@ -90,7 +143,10 @@ fn each<const FIELDS: usize>(
         for value in values(*holds, record[field], number as u32, image) {
             let mut changed = image.clone();
             place(&mut changed)[field] = value;
-            cases.image(format!("{sort} {number}, field {field} is {value}"), &changed);
+            cases.image(
+                format!("{sort} {number}, field {field} is {value}"),
+                &changed,
+            );
         }
     }
 }
@@ -100,7 +156,11 @@ fn values(field: Field, old: u32, number: u32, image: &Image) -> Vec<u32> {
     let mut values = match field {
         Enum(most) => vec![0, most, most + 1],
         Signal => ends(image.signals.len()),
-        Expression => [vec![number, number.wrapping_sub(1)], ends(image.expressions.len())].concat(),
+        Expression => [
+            vec![number, number.wrapping_sub(1)],
+            ends(image.expressions.len()),
+        ]
+        .concat(),
         Width => vec![1, 1024, 1025],
         Lsb => vec![1, 8, ABSENT - 7],
         ListStart => [ends(image.list.len()), vec![image.list.len() as u32 - 2]].concat(),
@@ -111,7 +171,13 @@ fn values(field: Field, old: u32, number: u32, image: &Image) -> Vec<u32> {
         Latency => vec![1, 2, 255, 256],
         Unused => vec![1],
     };
-    values.extend([0, old.wrapping_sub(1), old.wrapping_add(1), 0x8000_0000, ABSENT]);
+    values.extend([
+        0,
+        old.wrapping_sub(1),
+        old.wrapping_add(1),
+        0x8000_0000,
+        ABSENT,
+    ]);
     values.sort_unstable();
     values.dedup();
     values.retain(|value| *value != old);

@@ -13,7 +13,10 @@ pub fn port(address: Expr, read_data: Signal, write_data: Expr, clock: Signal) -
         read_enable: None,
         write_address: address,
         write_data,
-        write_enable: Control { signal: clock, low: false },
+        write_enable: Control {
+            signal: clock,
+            low: false,
+        },
         clock,
         falling: false,
     }
@@ -24,7 +27,9 @@ pub fn add(cases: &mut Cases) {
         changed(cases, format!("depth {depth}"), |memory| memory[2] = depth);
     }
     for latency in [0, 1, 2, 256, 257, ABSENT] {
-        changed(cases, format!("latency {latency}"), |memory| memory[4] = latency);
+        changed(cases, format!("latency {latency}"), |memory| {
+            memory[4] = latency
+        });
     }
     for style in [0, 1, 2, 3, ABSENT] {
         changed(cases, format!("style {style}"), |memory| memory[3] = style);
@@ -40,17 +45,29 @@ pub fn add(cases: &mut Cases) {
 fn two_ports(addresses: [u32; 4], read: [u32; 2], write: [u32; 2]) -> Image {
     let mut builder = Builder::new();
     let clock = builder.input("clk", 1);
-    let data: Vec<Signal> =
-        (0..2).map(|port| builder.output(&format!("d{port}"), read[port])).collect();
+    let data: Vec<Signal> = (0..2)
+        .map(|port| builder.output(&format!("d{port}"), read[port]))
+        .collect();
     let mut port_of = |number: usize| {
         let read_address = builder.constant_limbs(addresses[2 * number], &[1]);
         let write_address = builder.constant_limbs(addresses[2 * number + 1], &[1]);
         let write_data = builder.constant_limbs(write[number], &[3]);
-        Port { write_address, ..port(read_address, data[number], write_data, clock) }
+        Port {
+            write_address,
+            ..port(read_address, data[number], write_data, clock)
+        }
     };
     let first = port_of(0);
     let second = Some(port_of(1));
-    builder.memory("m", Memory { depth: 4, style: 0, first, second });
+    builder.memory(
+        "m",
+        Memory {
+            depth: 4,
+            style: 0,
+            first,
+            second,
+        },
+    );
     builder.finish()
 }
 
@@ -93,18 +110,28 @@ fn data(cases: &mut Cases) {
 /// Absent in every field, and what must be 0 beside an absent control.
 fn absent(cases: &mut Cases) {
     for field in 0..26 {
-        changed(cases, format!("field {field} absent"), |memory| memory[field] = ABSENT);
+        changed(cases, format!("field {field} absent"), |memory| {
+            memory[field] = ABSENT
+        });
     }
     for (enable, level) in [(7, 8), (18, 19)] {
         for value in [0, 1, 2, ABSENT] {
-            changed(cases, format!("field {enable} absent and field {level} is {value}"), |memory| {
-                memory[enable] = ABSENT;
-                memory[level] = value;
-            });
-            changed(cases, format!("field {enable} present and field {level} is {value}"), |memory| {
-                memory[enable] = 0;
-                memory[level] = value;
-            });
+            changed(
+                cases,
+                format!("field {enable} absent and field {level} is {value}"),
+                |memory| {
+                    memory[enable] = ABSENT;
+                    memory[level] = value;
+                },
+            );
+            changed(
+                cases,
+                format!("field {enable} present and field {level} is {value}"),
+                |memory| {
+                    memory[enable] = 0;
+                    memory[level] = value;
+                },
+            );
         }
     }
 }
@@ -112,15 +139,23 @@ fn absent(cases: &mut Cases) {
 /// The second port's flag, and its fields where there is none.
 fn second_port(cases: &mut Cases) {
     for present in [0, 1, 2, ABSENT] {
-        changed(cases, format!("second port is {present}"), |memory| memory[15] = present);
+        changed(cases, format!("second port is {present}"), |memory| {
+            memory[15] = present
+        });
     }
-    changed(cases, "no second port".to_string(), |memory| memory[15..].fill(0));
+    changed(cases, "no second port".to_string(), |memory| {
+        memory[15..].fill(0)
+    });
     for field in 16..26 {
         for value in [1, 2, ABSENT] {
-            changed(cases, format!("no second port but field {field} is {value}"), |memory| {
-                memory[15..].fill(0);
-                memory[field] = value;
-            });
+            changed(
+                cases,
+                format!("no second port but field {field} is {value}"),
+                |memory| {
+                    memory[15..].fill(0);
+                    memory[field] = value;
+                },
+            );
         }
     }
 }

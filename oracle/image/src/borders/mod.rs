@@ -49,12 +49,20 @@ impl Cases {
     /// An image with these limits and buffers that just serve.
     fn limits(&mut self, name: impl Into<String>, image: &Image, n: u32, p: u32) {
         let scratch = image.scratch_words(n).min(MOST_SCRATCH);
-        self.cases.push((name.into(), image.encode(), n, p, netlist_words(n, p), scratch));
+        self.cases.push((
+            name.into(),
+            image.encode(),
+            n,
+            p,
+            netlist_words(n, p),
+            scratch,
+        ));
     }
 
     /// Bytes that may lay out nothing, with more than enough scratch.
     fn bytes(&mut self, name: impl Into<String>, bytes: Vec<u8>) {
         let netlist = netlist_words(NETS, LIST_WORDS);
-        self.cases.push((name.into(), bytes, NETS, LIST_WORDS, netlist, MOST_SCRATCH));
+        self.cases
+            .push((name.into(), bytes, NETS, LIST_WORDS, netlist, MOST_SCRATCH));
     }
 }

@@ -22,7 +22,10 @@ fn with_name(name: &str) -> Image {
 
 fn lengths(cases: &mut Cases) {
     for length in [0, 1, 2, 63, 64, 65, 66, 128] {
-        cases.image(format!("name of {length} bytes"), &with_name(&"n".repeat(length)));
+        cases.image(
+            format!("name of {length} bytes"),
+            &with_name(&"n".repeat(length)),
+        );
     }
 }
 
@@ -36,7 +39,10 @@ fn bytes(cases: &mut Cases) {
                 set_name(&mut image, section, &name);
                 let at = image.names.len() - name.len() + place;
                 image.names[at] = byte;
-                cases.image(format!("section {section}, name byte {byte} at {place}"), &image);
+                cases.image(
+                    format!("section {section}, name byte {byte} at {place}"),
+                    &image,
+                );
             }
         }
     }
@@ -87,7 +93,10 @@ fn places(cases: &mut Cases) {
                 _ => &mut image.memories[1],
             };
             (record[0], record[1]) = (offset, length);
-            cases.image(format!("section {section}, name at {offset} of {length} bytes"), &image);
+            cases.image(
+                format!("section {section}, name at {offset} of {length} bytes"),
+                &image,
+            );
         }
     }
 }
@@ -105,10 +114,16 @@ fn equal(cases: &mut Cases) {
         for other in [SIGNALS, REGISTERS, MEMORIES] {
             let mut image = full();
             set_name(&mut image, other, &name);
-            cases.image(format!("name of section {section} again in section {other}"), &image);
+            cases.image(
+                format!("name of section {section} again in section {other}"),
+                &image,
+            );
             let mut longer = full();
             set_name(&mut longer, other, &[&name[..], b"x"].concat());
-            cases.image(format!("name of section {section} and a letter in section {other}"), &longer);
+            cases.image(
+                format!("name of section {section} and a letter in section {other}"),
+                &longer,
+            );
         }
     }
     let count = full().signals.len();
@@ -116,14 +131,20 @@ fn equal(cases: &mut Cases) {
         let mut image = full();
         image.signals[two][0] = image.signals[one][0];
         image.signals[two][1] = image.signals[one][1];
-        cases.image(format!("signals {one} and {two} share a name's stretch"), &image);
+        cases.image(
+            format!("signals {one} and {two} share a name's stretch"),
+            &image,
+        );
     }
     let long = "e".repeat(63);
     for (one, two) in [("a", "a"), ("b", "c"), ("a", "b")] {
         let mut builder = Builder::new();
         builder.input(&format!("{long}{one}"), 1);
         builder.input(&format!("{long}{two}"), 1);
-        cases.image(format!("long names that end in {one} and {two}"), &builder.finish());
+        cases.image(
+            format!("long names that end in {one} and {two}"),
+            &builder.finish(),
+        );
     }
 }
 
@@ -134,8 +155,16 @@ fn first_fields(record: &[u32]) -> [u32; 4] {
 /// Names whose stretches overlap.
 fn shared(cases: &mut Cases) {
     for text in ["abcd", "aaaa", "abab"] {
-        for (one, two) in [((0, 2), (2, 2)), ((0, 2), (1, 2)), ((0, 3), (1, 3)), ((0, 4), (0, 3))] {
-            let mut image = Image { names: text.as_bytes().to_vec(), ..Image::default() };
+        for (one, two) in [
+            ((0, 2), (2, 2)),
+            ((0, 2), (1, 2)),
+            ((0, 3), (1, 3)),
+            ((0, 4), (0, 3)),
+        ] {
+            let mut image = Image {
+                names: text.as_bytes().to_vec(),
+                ..Image::default()
+            };
             image.signals.push([one.0, one.1, 1, 1]);
             image.signals.push([two.0, two.1, 1, 1]);
             cases.image(format!("names {one:?} and {two:?} of {text}"), &image);

@@ -16,11 +16,19 @@ pub fn add(cases: &mut Cases) {
 
 fn single(cases: &mut Cases) {
     for width in [0, 1, 2, 1023, 1024, 1025, 2048, ABSENT] {
-        let mut signal = Image { names: b"ab".to_vec(), ..Image::default() };
+        let mut signal = Image {
+            names: b"ab".to_vec(),
+            ..Image::default()
+        };
         signal.signals.push([0, 1, width, 1]);
         cases.image(format!("signal of width {width}"), &signal);
-        let mut expression = Image { list: vec![1; 64], ..Image::default() };
-        expression.expressions.push([kind::CONSTANT, width, 0, 0, 0]);
+        let mut expression = Image {
+            list: vec![1; 64],
+            ..Image::default()
+        };
+        expression
+            .expressions
+            .push([kind::CONSTANT, width, 0, 0, 0]);
         cases.image(format!("constant of width {width}"), &expression);
     }
 }
@@ -40,7 +48,10 @@ fn signal_sums(cases: &mut Cases) {
         for (number, width) in widths.iter().enumerate() {
             builder.input(&format!("a{number}"), *width);
         }
-        cases.image(format!("signals of {}", sum_name(&widths)), &builder.finish());
+        cases.image(
+            format!("signals of {}", sum_name(&widths)),
+            &builder.finish(),
+        );
     }
 }
 
@@ -54,46 +65,81 @@ fn expression_sums(cases: &mut Cases) {
         vec![16; 2048],
         [vec![16; 2047], vec![17]].concat(),
     ] {
-        let mut image = Image { list: vec![7; 32], ..Image::default() };
-        image.expressions = widths.iter().map(|width| [kind::CONSTANT, *width, 0, 0, 0]).collect();
+        let mut image = Image {
+            list: vec![7; 32],
+            ..Image::default()
+        };
+        image.expressions = widths
+            .iter()
+            .map(|width| [kind::CONSTANT, *width, 0, 0, 0])
+            .collect();
         cases.image(format!("expressions of {}", sum_name(&widths)), &image);
     }
 }
 
 fn sum_name(widths: &[u32]) -> String {
     let sum: u32 = widths.iter().sum();
-    let [first, .., last] = widths else { return sum.to_string() };
+    let [first, .., last] = widths else {
+        return sum.to_string();
+    };
     format!("{first} to {last} bits, {} of {sum}", widths.len())
 }
 
 /// Each operator with right widths and with one of three widths off by one.
 fn operators(cases: &mut Cases, width: u32) {
     for (op, name) in UNARY_OPS.iter().enumerate() {
-        variants(cases, &format!("{name} of {width} bits"), width, |builder, x, _| {
-            builder.unary(op as u32, x)
-        });
+        variants(
+            cases,
+            &format!("{name} of {width} bits"),
+            width,
+            |builder, x, _| builder.unary(op as u32, x),
+        );
     }
     for (op, name) in BINARY_OPS.iter().enumerate() {
-        variants(cases, &format!("{name} of {width} bits"), width, |builder, x, y| {
-            builder.binary(op as u32, x, y)
-        });
+        variants(
+            cases,
+            &format!("{name} of {width} bits"),
+            width,
+            |builder, x, y| builder.binary(op as u32, x, y),
+        );
     }
-    variants(cases, &format!("mux of {width} bits"), width, |builder, x, y| {
-        let condition = builder.constant(1, 1);
-        builder.mux(condition, x, y)
-    });
-    variants(cases, &format!("mux with a condition of {width} bits"), width, |builder, x, y| {
-        builder.mux(x, y, y)
-    });
-    variants(cases, &format!("concat of {width} bits"), width, |builder, x, y| builder.concat(&[x, y]));
-    variants(cases, &format!("slice of {width} bits"), width, |builder, x, _| {
-        builder.slice(x, 0, width)
-    });
+    variants(
+        cases,
+        &format!("mux of {width} bits"),
+        width,
+        |builder, x, y| {
+            let condition = builder.constant(1, 1);
+            builder.mux(condition, x, y)
+        },
+    );
+    variants(
+        cases,
+        &format!("mux with a condition of {width} bits"),
+        width,
+        |builder, x, y| builder.mux(x, y, y),
+    );
+    variants(
+        cases,
+        &format!("concat of {width} bits"),
+        width,
+        |builder, x, y| builder.concat(&[x, y]),
+    );
+    variants(
+        cases,
+        &format!("slice of {width} bits"),
+        width,
+        |builder, x, _| builder.slice(x, 0, width),
+    );
 }
 
 /// The form over operands of widths around `width` and with its own width
 /// around what it should be.
-fn variants(cases: &mut Cases, name: &str, width: u32, form: impl Fn(&mut Builder, Expr, Expr) -> Expr) {
+fn variants(
+    cases: &mut Cases,
+    name: &str,
+    width: u32,
+    form: impl Fn(&mut Builder, Expr, Expr) -> Expr,
+) {
     for (left, right) in [(0i64, 0), (1, 0), (-1, 0), (0, 1), (0, -1), (1, 1)] {
         for own in [0i64, 1, -1] {
             let moved = |by: i64| (i64::from(width) + by) as u32;
@@ -108,7 +154,10 @@ fn variants(cases: &mut Cases, name: &str, width: u32, form: impl Fn(&mut Builde
             let last = image.expressions.len() - 1;
             let width = &mut image.expressions[last][1];
             *width = (i64::from(*width) + own).max(0) as u32;
-            cases.image(format!("{name}, operands {left:+} {right:+}, result {own:+}"), &image);
+            cases.image(
+                format!("{name}, operands {left:+} {right:+}, result {own:+}"),
+                &image,
+            );
         }
     }
 }
@@ -117,8 +166,20 @@ fn variants(cases: &mut Cases, name: &str, width: u32, form: impl Fn(&mut Builde
 /// that would wrap.
 fn ranges(cases: &mut Cases) {
     let stretches = [
-        (0, 8), (0, 9), (1, 7), (1, 8), (7, 1), (8, 1), (8, 0), (0, 0), (ABSENT, 1), (ABSENT, 2),
-        (ABSENT - 6, 8), (0x8000_0000, 8), (ABSENT - 7, 8), (1, ABSENT),
+        (0, 8),
+        (0, 9),
+        (1, 7),
+        (1, 8),
+        (7, 1),
+        (8, 1),
+        (8, 0),
+        (0, 0),
+        (ABSENT, 1),
+        (ABSENT, 2),
+        (ABSENT - 6, 8),
+        (0x8000_0000, 8),
+        (ABSENT - 7, 8),
+        (1, ABSENT),
     ];
     for (lsb, width) in stretches {
         let mut builder = Builder::new();

@@ -1,0 +1,3 @@
+-- What the records of the image are as values of the code.
+pub mod Expr
+pub mod Others
