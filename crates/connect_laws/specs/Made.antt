@@ -1,6 +1,6 @@
 -- What the records of memories, registers and output ports are to the module's, and that it stays so as the lowering goes on. Assumes nothing.
 use mathlib.Core.Path.{_≡_, sym, ap, _∙_}
-use mathlib.Core.Bool.{Bool, false, cond, _&&_}
+use mathlib.Core.Bool.{false, cond, _&&_}
 use mathlib.Core.List.{List, [], _∷_, _++_}
 use mathlib.Core.Option.{Option, none, some}
 use Prim.Native.Nat.{ℕ, suc, _≤_, _<_}
@@ -236,9 +236,6 @@ module _ (m : Module) (l l′ : Netlist) (t : Table) (a : Later l l′) where
       → meaningOf l′ .registers ≡ meaningOf l .registers ++ (y ∷ []) → Registers m l t b → Registers m l′ t (λ j. cond (eqb j k) (suc (b k)) (b j))
   one-bit k r y b q n o s e c = record { made = λ j i z h p. made j i z (ℕ-discrete j k) (ℕ-discrete i (b k)) h p; rest = λ j i h. rest j i (ℕ-discrete j k) h }
     where
-      test : ℕ → ℕ → N.RegisterBit → Bool
-      test j i z = eqb (z .index) j && eqb (z .bit) i
-
       new : (j i : ℕ) → bitIn (meaningOf l .registers) j i ≡ none → bitIn (meaningOf l′ .registers) j i ≡ cond (eqb (y .index) j && eqb (y .bit) i) (some y) none
       new j i h = ap (λ (ys : List N.RegisterBit). bitIn ys j i) e ∙ find-last (λ z. eqb (z .index) j && eqb (z .bit) i) y (meaningOf l .registers) h
 

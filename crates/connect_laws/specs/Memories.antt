@@ -1,6 +1,6 @@
 -- `connect_memories`: each memory's record has the nets of its addresses, data and controls. Assumes nothing.
 use mathlib.Core.Path.{_≡_, refl, ap, ap₂}
-use mathlib.Core.Bool.{false}
+use mathlib.Core.Bool.{Bool}
 use mathlib.Core.List.{List, [], _∷_, _++_, append-assoc}
 use mathlib.Core.Option.{Option, none, some}
 use Prim.Native.Nat.{ℕ, suc, _+_}
@@ -55,42 +55,42 @@ steps-asked m x g h =
     (second-asked m (x .second) h)
 
 -- what is there of a port after its steps
-pub record Ready (m : Module) (st : State) (p : Port) : Type 0 where
-  pub words : AllAfter st (wordSteps p)
-  pub clock : AllAfter st (bitStep (p .clock))
-  pub write : AllAfter st (bitStep (p .writeEnable .signal))
-  pub read : AllAfter st (controlSteps (p .readEnable))
+pub record Ready (m : Module) (ob : Bool) (st : State) (p : Port) : Type 0 where
+  pub words : AllAfter ob st (wordSteps p)
+  pub clock : AllAfter ob st (bitStep (p .clock))
+  pub write : AllAfter ob st (bitStep (p .writeEnable .signal))
+  pub read : AllAfter ob st (controlSteps (p .readEnable))
 
-abbrev ReadySecond : Module → State → Option Port → Type 0
-ReadySecond m st none = Unit {0}
-ReadySecond m st (some p) = Ready m st p
+abbrev ReadySecond : Module → Bool → State → Option Port → Type 0
+ReadySecond m ob st none = Unit {0}
+ReadySecond m ob st (some p) = Ready m ob st p
 
-second-ready : (m : Module) (st : State) (o : Option Port) → AllAfter st (secondSteps o) → ReadySecond m st o
-second-ready m st none h = tt
-second-ready m st (some p) h =
-    let a = after-append st (wordSteps p ++ enableSteps p) (bitStep (p .clock)) h in
-    let b = after-append st (wordSteps p) (enableSteps p) (a .0) in
-    let c = after-append st (bitStep (p .writeEnable .signal)) (controlSteps (p .readEnable)) (b .1) in
+second-ready : (m : Module) (ob : Bool) (st : State) (o : Option Port) → AllAfter ob st (secondSteps o) → ReadySecond m ob st o
+second-ready m ob st none h = tt
+second-ready m ob st (some p) h =
+    let a = after-append ob st (wordSteps p ++ enableSteps p) (bitStep (p .clock)) h in
+    let b = after-append ob st (wordSteps p) (enableSteps p) (a .0) in
+    let c = after-append ob st (bitStep (p .writeEnable .signal)) (controlSteps (p .readEnable)) (b .1) in
     record { words = b .0; clock = a .1; write = c .0; read = c .1 }
 
-first-ready : (m : Module) (st : State) (x : Memory) → AllAfter st (memorySteps x) → Ready m st (x .first) × ReadySecond m st (x .second)
-first-ready m st x h =
+first-ready : (m : Module) (ob : Bool) (st : State) (x : Memory) → AllAfter ob st (memorySteps x) → Ready m ob st (x .first) × ReadySecond m ob st (x .second)
+first-ready m ob st x h =
     let p = x .first in
-    let a = after-append st (wordSteps p ++ bitStep (p .clock) ++ enableSteps p) (secondSteps (x .second)) h in
-    let b = after-append st (wordSteps p ++ bitStep (p .clock)) (enableSteps p) (a .0) in
-    let c = after-append st (wordSteps p) (bitStep (p .clock)) (b .0) in
-    let d = after-append st (bitStep (p .writeEnable .signal)) (controlSteps (p .readEnable)) (b .1) in
-    (record { words = c .0; clock = c .1; write = d .0; read = d .1 }, second-ready m st (x .second) (a .1))
+    let a = after-append ob st (wordSteps p ++ bitStep (p .clock) ++ enableSteps p) (secondSteps (x .second)) h in
+    let b = after-append ob st (wordSteps p ++ bitStep (p .clock)) (enableSteps p) (a .0) in
+    let c = after-append ob st (wordSteps p) (bitStep (p .clock)) (b .0) in
+    let d = after-append ob st (bitStep (p .writeEnable .signal)) (controlSteps (p .readEnable)) (b .1) in
+    (record { words = c .0; clock = c .1; write = d .0; read = d .1 }, second-ready m ob st (x .second) (a .1))
 
-module _ (m : Module) (st : State) (i : Inv m st) where
-  port-same : (p : Port) → Ready m st p → SamePort m (st .netlist) (st .signalBits) p (cellOf m st p)
+module _ (m : Module) (ob : Bool) (st : State) (i : Inv m st) where
+  port-same : (p : Port) → Ready m ob st p → SamePort m (st .netlist) (st .signalBits) p (cellOf m st p)
   port-same p h = record {
     readAddress = read-whole m st i (p .readAddress) (h .words .0);
     writeAddress = read-whole m st i (p .writeAddress) (h .words .1 .0);
     writeData = read-whole m st i (p .writeData) (h .words .1 .1 .0);
-    readEnable = control-same m st i (p .readEnable) (h .read);
-    writeEnable = (bit-is m st i (p .writeEnable .signal) (h .write .0), refl);
-    clock = bit-is m st i (p .clock) (h .clock .0);
+    readEnable = control-same m ob st i (p .readEnable) (h .read);
+    writeEnable = (bit-is m ob st i (p .writeEnable .signal) (h .write .0), refl);
+    clock = bit-is m ob st i (p .clock) (h .clock .0);
     rising = refl;
   }
 
@@ -99,10 +99,10 @@ module _ (m : Module) (st : State) (i : Inv m st) where
       ported (wholeNets st (p .readAddress)) (signalNets st (p .readData) 0 (signalWidth m (p .readData))) (wholeNets st (p .writeAddress)) (wholeNets st (p .writeData))
       (optionControl st (p .readEnable)) (netControl st (p .writeEnable)) (signalNet st (p .clock) 0) (p .rising)
 
-  back : (p : Port) → Ready m st p → (rest : List ℕ) → N.memoryPortOf (wordsIn m st p ++ rest) ≡ cellOf m st p
+  back : (p : Port) → Ready m ob st p → (rest : List ℕ) → N.memoryPortOf (wordsIn m st p ++ rest) ≡ cellOf m st p
   back p h rest =
       port-back (wholeNets st (p .readAddress)) (signalNets st (p .readData) 0 (signalWidth m (p .readData))) (wholeNets st (p .writeAddress)) (wholeNets st (p .writeData))
-      (optionControl st (p .readEnable)) (netControl st (p .writeEnable)) (signalNet st (p .clock) 0) (p .rising) rest (control-there m st i (p .readEnable) (h .read))
+      (optionControl st (p .readEnable)) (netControl st (p .writeEnable)) (signalNet st (p .clock) 0) (p .rising) rest (control-there m ob st i (p .readEnable) (h .read))
 
   -- a memory's record
   abbrev wordsFor : ℕ → Memory → List ℕ
@@ -113,7 +113,7 @@ module _ (m : Module) (st : State) (i : Inv m st) where
     pub index : memoryOf (wordsFor k x) .index ≡ k
     pub same : SameMemory m (st .netlist) (st .signalBits) x (memoryOf (wordsFor k x))
 
-  recorded : (k : ℕ) (x : Memory) → Ready m st (x .first) → ReadySecond m st (x .second) → Recorded k x
+  recorded : (k : ℕ) (x : Memory) → Ready m ob st (x .first) → ReadySecond m ob st (x .second) → Recorded k x
   recorded k x h g = go (x .second) refl g
     where
       at : (r : List ℕ) (o : Option Port) (s : Option N.MemoryPort) → x .second ≡ o → wordsFor k x ≡ r → Formed r
@@ -125,7 +125,7 @@ module _ (m : Module) (st : State) (i : Inv m st) where
         same = rw (w, b) (record { depth = refl; wide = nets-length st (x .first .readData) 0 (signalWidth m (x .first .readData)); first = port-same (x .first) h; second = rw e n });
       }
 
-      go : (o : Option Port) → x .second ≡ o → ReadySecond m st o → Recorded k x
+      go : (o : Option Port) → x .second ≡ o → ReadySecond m ob st o → Recorded k x
       go none e g = at (2 ∷ k ∷ x .depth ∷ x .style ∷ 1 ∷ 1 ∷ wordsIn m st (x .first)) none none e (rw e (ap (λ (a : List ℕ). 2 ∷ k ∷ x .depth ∷ x .style ∷ 1 ∷ 1 ∷ a) (words-in m st (x .first))))
           (formed-memory k (x .depth) (x .style) 1 (wordsIn m st (x .first)) (port-ported (x .first)))
           (memory-back k (x .depth) (x .style) 1 (wordsIn m st (x .first)) (cellOf m st (x .first)) (back (x .first) h [])) tt
@@ -135,12 +135,12 @@ module _ (m : Module) (st : State) (i : Inv m st) where
           (memory-back₂ k (x .depth) (x .style) 1 (wordsIn m st (x .first)) (wordsIn m st q) (cellOf m st (x .first)) (cellOf m st q) (port-ported (x .first))
           (back (x .first) h (wordsIn m st q)) (back q g [])) (port-same q g)
 
-module _ (G : Gates) (m : Module) (good : Good m) (lim : ℕ × ℕ) where
-  memory-pushed : (k : ℕ) (b : ℕ → ℕ) (n : ℕ) (x : Memory) (st : State) → getElem? (m .memories) k ≡ some x → Connected m lim st k b n → AllAfter st (memorySteps x)
+module _ (G : Gates) (m : Module) (good : Good m) (ob : Bool) (lim : ℕ × ℕ) where
+  memory-pushed : (k : ℕ) (b : ℕ → ℕ) (n : ℕ) (x : Memory) (st : State) → getElem? (m .memories) k ≡ some x → Connected m lim st k b n → AllAfter ob st (memorySteps x)
       → Meets Any (λ st′. Connected m lim st′ (suc k) b n) (pushRecord (2 ∷ k ∷ x .depth ∷ x .style ∷ 1 ∷ portsWords m st (x .first) (x .second)) st)
   memory-pushed k b n x st e c h =
-      let y = first-ready m st x h in
-      let r = recorded m st (c .inv) k x (y .0) (y .1) in
+      let y = first-ready m ob st x h in
+      let r = recorded m ob st (c .inv) k x (y .0) (y .1) in
       let w : List ℕ = 2 ∷ k ∷ x .depth ∷ x .style ∷ 1 ∷ portsWords m st (x .first) (x .second) in
       pushed (λ st′. Connected m lim st′ (suc k) b n) w st (c .inv .sound) (r .formed) (omega arith) (omega arith) (λ a. record {
         limited = limited-later lim a (c .limited);
@@ -152,14 +152,14 @@ module _ (G : Gates) (m : Module) (good : Good m) (lim : ℕ × ℕ) where
       })
 
   pub memories-walk : (k : ℕ) (b : ℕ → ℕ) (n : ℕ) (xs : List Memory) → ((j : ℕ) (x : Memory) → getElem? xs j ≡ some x → getElem? (m .memories) (k + j) ≡ some x)
-      → (st : State) → Connected m lim st k b n → Meets Any (λ st′. Connected m lim st′ (k + length xs) b n) (connectMemories m false k xs st)
+      → (st : State) → Connected m lim st k b n → Meets Any (λ st′. Connected m lim st′ (k + length xs) b n) (connectMemories m ob k xs st)
   unfolding connectMemories
   memories-walk k b n [] f st c = let z : k + 0 ≡ k = omega arith in rw z c
   memories-walk k b n (x ∷ xs) f st c =
       let e : getElem? (m .memories) k ≡ some x = let z : k + 0 ≡ k = omega arith in rw z at (f 0 x refl) in
       let g = good .memories k x e in
-      let w = all-walk G m good (memorySteps x) st (c .inv) (steps-asked m x (g .first) (g .second)) in
-      meets-bind Any (Kept m st (λ st′. AllAfter st′ (memorySteps x))) (λ st′. Connected m lim st′ (k + suc (length xs)) b n) (lowerAll m false (memorySteps x) st) _ (w .walks) (λ st₁ q.
+      let w = all-walk G m good ob (memorySteps x) st (c .inv) (steps-asked m x (g .first) (g .second)) in
+      meets-bind Any (Kept m st (λ st′. AllAfter ob st′ (memorySteps x))) (λ st′. Connected m lim st′ (k + suc (length xs)) b n) (lowerAll m ob (memorySteps x) st) _ (w .walks) (λ st₁ q.
       meets-bind Any (λ st′. Connected m lim st′ (suc k) b n) (λ st′. Connected m lim st′ (k + suc (length xs)) b n)
       (pushRecord (2 ∷ k ∷ x .depth ∷ x .style ∷ 1 ∷ portsWords m st₁ (x .first) (x .second)) st₁) _
       (memory-pushed k b n x st₁ e (connected-grew c (q .inv) (q .grew)) (q .post))

@@ -1,5 +1,6 @@
 -- A record pushed after the walk, and what is read of the tables for it. Assumes nothing.
 use mathlib.Core.Path.{_≡_, refl, sym, ap, subst, _∙_}
+use mathlib.Core.Bool.{Bool}
 use mathlib.Core.List.{List, [], _∷_, _++_, map}
 use mathlib.Core.Option.{Option, none, some}
 use Prim.Native.Nat.{ℕ, _<_}
@@ -21,7 +22,7 @@ use Rattle.gate_laws.specs.Added.{length-from}
 use Rattle.gate_laws.specs.Sources.{push-run}
 use Rattle.walk_laws.specs.Tables.{Has}
 use Rattle.walk_laws.specs.Kept.{Any, Inv}
-use Rattle.walk_laws.specs.Reads.{After, needOf, AllAsked, AllAfter, map-append, read-bit}
+use Rattle.walk_laws.specs.Reads.{After, step-stays, AllAsked, AllAfter, map-append, read-bit}
 use Rattle.record_laws.specs.Back.{There}
 use Rattle.connect_laws.specs.Made.{IsBit, SameControl}
 
@@ -31,9 +32,9 @@ pub asked-append : (m : Module) (ss rs : List Step) → AllAsked m ss → AllAsk
 asked-append m [] rs h k = k
 asked-append m (s ∷ ss) rs h k = (h .0, asked-append m ss rs (h .1) k)
 
-pub after-append : (st : State) (ss rs : List Step) → AllAfter st (ss ++ rs) → AllAfter st ss × AllAfter st rs
-after-append st [] rs h = (tt, h)
-after-append st (s ∷ ss) rs h = let r = after-append st ss rs (h .1) in ((h .0, r .0), r .1)
+pub after-append : (ob : Bool) (st : State) (ss rs : List Step) → AllAfter ob st (ss ++ rs) → AllAfter ob st ss × AllAfter ob st rs
+after-append ob st [] rs h = (tt, h)
+after-append ob st (s ∷ ss) rs h = let r = after-append ob st ss rs (h .1) in ((h .0, r .0), r .1)
 
 pub control-asked : (m : Module) (o : Option Control) → AllAsked m (controlSteps o)
 control-asked m none = tt
@@ -46,13 +47,17 @@ after-netlist st l (Bit s b) h = h
 after-netlist st l (Whole e) h = h
 after-netlist st l (Range e lsb w) h = h
 
-pub all-after-netlist : (st : State) (l : Netlist) (ss : List Step) → AllAfter st ss → AllAfter (withNetlist st l) ss
-all-after-netlist st l [] h = tt
-all-after-netlist st l (s ∷ ss) h = (after-netlist st l (needOf s) (h .0), all-after-netlist st l ss (h .1))
+whole-netlist : (st : State) (l : Netlist) (e : ℕ) (ns : List ℕ) → whole st e ≡ some ns → whole (withNetlist st l) e ≡ some ns
+unfolding whole
+whole-netlist st l e ns h = h
+
+pub all-after-netlist : (ob : Bool) (st : State) (l : Netlist) → Sound (st .netlist) → Later (st .netlist) l → (ss : List Step) → AllAfter ob st ss → AllAfter ob (withNetlist st l) ss
+all-after-netlist ob st l q a [] h = tt
+all-after-netlist ob st l q a (s ∷ ss) h = (step-stays st q (withNetlist st l) a (whole-netlist st l) (after-netlist st l) ob s (h .0), all-after-netlist ob st l q a ss (h .1))
 
 -- ---- controls ----
 
-module _ (m : Module) (st : State) (i : Inv m st) where
+module _ (m : Module) (ob : Bool) (st : State) (i : Inv m st) where
   pub bit-is : (p : ℕ) → Has (cell none (st .signalBits) p 0) → IsBit (st .netlist) (st .signalBits) (signalNet st p 0) p
   bit-is p h = read-bit m st i p 0 h
 
@@ -60,11 +65,11 @@ module _ (m : Module) (st : State) (i : Inv m st) where
   pub net-there : (p : ℕ) → Has (cell none (st .signalBits) p 0) → signalNet st p 0 < absent
   net-there p h = omega (arith, bit-is p h .there .0, i .sound .few, i .sound .small)
 
-  pub control-same : (o : Option Control) → AllAfter st (controlSteps o) → SameControl (st .netlist) (st .signalBits) o (optionControl st o)
+  pub control-same : (o : Option Control) → AllAfter ob st (controlSteps o) → SameControl (st .netlist) (st .signalBits) o (optionControl st o)
   control-same none h = tt
   control-same (some c) h = (bit-is (c .signal) (h .0), refl)
 
-  pub control-there : (o : Option Control) → AllAfter st (controlSteps o) → There (optionControl st o)
+  pub control-there : (o : Option Control) → AllAfter ob st (controlSteps o) → There (optionControl st o)
   control-there none h = tt
   control-there (some c) h = net-there (c .signal) (h .0)
 

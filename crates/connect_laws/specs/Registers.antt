@@ -44,16 +44,16 @@ steps-asked m k r g =
     (reset-asked m (r .reset) (λ x e. g .reset x e .0))
 
 -- what is there of a register after its steps
-record Ready (st : State) (r : Register) : Type 0 where
+record Ready (ob : Bool) (st : State) (r : Register) : Type 0 where
   pub next : Has (whole st (r .next))
-  pub clock : AllAfter st (bitStep (r .clock))
-  pub enable : AllAfter st (controlSteps (r .enable))
-  pub reset : AllAfter st (resetSteps (r .reset))
+  pub clock : AllAfter ob st (bitStep (r .clock))
+  pub enable : AllAfter ob st (controlSteps (r .enable))
+  pub reset : AllAfter ob st (resetSteps (r .reset))
 
-ready : (st : State) (r : Register) → AllAfter st (registerSteps r) → Ready st r
-ready st r h =
-    let a = after-append st (wholes (r .next ∷ []) ++ bitStep (r .clock) ++ controlSteps (r .enable)) (resetSteps (r .reset)) h in
-    let b = after-append st (wholes (r .next ∷ []) ++ bitStep (r .clock)) (controlSteps (r .enable)) (a .0) in
+ready : (ob : Bool) (st : State) (r : Register) → AllAfter ob st (registerSteps r) → Ready ob st r
+ready ob st r h =
+    let a = after-append ob st (wholes (r .next ∷ []) ++ bitStep (r .clock) ++ controlSteps (r .enable)) (resetSteps (r .reset)) h in
+    let b = after-append ob st (wholes (r .next ∷ []) ++ bitStep (r .clock)) (controlSteps (r .enable)) (a .0) in
     record { next = b .0 .0; clock = b .0 .1; enable = b .1; reset = a .1 }
 
 words-long : (k b out next clock edge : ℕ) (o : Option Control) (q : Option Reset) → length (k ∷ b ∷ out ∷ next ∷ clock ∷ edge ∷ (controlWords o ++ resetWords q)) ≡ 12
@@ -70,7 +70,7 @@ bit-back false = refl
 abbrev pub bitsOf : Module → ℕ → ℕ
 bitsOf m k = perhaps 0 (λ (r : Register). signalWidth m (r .target)) (getElem? (m .registers) k)
 
-module _ (m : Module) (good : Good m) (lim : ℕ × ℕ) where
+module _ (m : Module) (good : Good m) (ob : Bool) (lim : ℕ × ℕ) where
   module _ (st : State) (i : Inv m st) (e : ℕ) (here : e < length (m .exprs)) (h : Has (whole st e)) (b : ℕ) (fits : b < widthAt (m .exprs) e) where
     into : b < length (wholeNets st e)
     into = omega (arith, whole-length m st i (good .exprs) e here h)
@@ -95,26 +95,26 @@ module _ (m : Module) (good : Good m) (lim : ℕ × ℕ) where
 
   module _ (k : ℕ) (r : Register) (at : getElem? (m .registers) k ≡ some r) where
     abbrev One : ℕ → ℕ → (ℕ → ℕ) → ℕ → State → Type 0
-    One j n f b st′ = Connected m lim st′ j (λ x. cond (eqb x k) (suc b) (f x)) n × AllAfter st′ (registerSteps r)
+    One j n f b st′ = Connected m lim st′ j (λ x. cond (eqb x k) (suc b) (f x)) n × AllAfter ob st′ (registerSteps r)
 
-    module _ (j n : ℕ) (f : ℕ → ℕ) (st : State) (c : Connected m lim st j f n) (h : AllAfter st (registerSteps r)) (w : f k < signalWidth m (r .target)) where
+    module _ (j n : ℕ) (f : ℕ → ℕ) (st : State) (c : Connected m lim st j f n) (h : AllAfter ob st (registerSteps r)) (w : f k < signalWidth m (r .target)) where
       g : GoodRegister m k r
       g = good .registers k r at
 
       -- its next bit, pushed
       bit-pushed : (q : Option Reset) → ThereReset q → SameReset m (st .netlist) (st .signalBits) (f k) (r .reset) q → Meets Any (One j n f (f k)) (pushRegister k r (f k) st q)
       bit-pushed q t s =
-          let y = ready st r h in
+          let y = ready ob st r h in
           let i = c .inv in
           let o = optionControl st (r .enable) in
           let v : List ℕ = 1 ∷ k ∷ f k ∷ signalNet st (r .target) (f k) ∷ wholeNet st (r .next) (f k) ∷ signalNet st (r .clock) 0 ∷ lowWord (r .rising) ∷ (controlWords o ++ resetWords q) in
           let back = register-back k (f k) (signalNet st (r .target) (f k)) (wholeNet st (r .next) (f k)) (signalNet st (r .clock) 0) (r .rising) o q
-          (control-there m st i (r .enable) (y .enable)) t in
+          (control-there m ob st i (r .enable) (y .enable)) t in
           let same : SameBit m (st .netlist) (st .signalBits) (f k) r (registerBitOf v) = rw back (record {
             next = net-holds st i (r .next) (g .next) (y .next) (f k) (omega (arith, g .wide));
-            clock = bit-is m st i (r .clock) (y .clock .0);
+            clock = bit-is m ob st i (r .clock) (y .clock .0);
             rising = refl;
-            enable = control-same m st i (r .enable) (y .enable);
+            enable = control-same m ob st i (r .enable) (y .enable);
             reset = s;
           }) in
           pushed (One j n f (f k)) v st (i .sound) (formed-register _ (words-long k (f k) (signalNet st (r .target) (f k)) (wholeNet st (r .next) (f k)) (signalNet st (r .clock) 0) (lowWord (r .rising)) o q)) (omega arith) (omega arith) (λ a. (
@@ -126,17 +126,17 @@ module _ (m : Module) (good : Good m) (lim : ℕ × ℕ) where
                   (bit-later m a more-refl (f k) r (registerBitOf v) same) (registers-one v (st .netlist) refl) (c .registers);
               outputs = outputs-later a more-refl (outputs-left v (st .netlist) a (i .sound) (λ z. omega arith)) (c .outputs);
             },
-            all-after-netlist st (withRecord v (st .netlist)) (registerSteps r) h,
+            all-after-netlist ob st (withRecord v (st .netlist)) (i .sound) a (registerSteps r) h,
           ))
 
       reset-run : (x : Reset) → r .reset ≡ some x → (o : Option Bool) → constantValue (st .netlist) (wholeNet st (x .value) (f k)) ≡ o → Meets Any (One j n f (f k)) (resetBy o k r (f k) st x)
       reset-run x e none q = tt
       reset-run x e (some v) q =
-          let y : AllAfter st (resetSteps (some x)) = rw e at (ready st r h .reset) in
+          let y : AllAfter ob st (resetSteps (some x)) = rw e at (ready ob st r h .reset) in
           let z = g .reset x e in
           bit-pushed (some (record { control = netControl st (x .control); asynchronous = x .asynchronous; value = bitWord v }))
-          (net-there m st (c .inv) (x .control .signal) (y .1 .0))
-          (rw e (bit-is m st (c .inv) (x .control .signal) (y .1 .0), refl, refl, net-constant st (c .inv) (x .value) (z .0) (y .0) (f k) (omega (arith, z .1)) v q))
+          (net-there m ob st (c .inv) (x .control .signal) (y .1 .0))
+          (rw e (bit-is m ob st (c .inv) (x .control .signal) (y .1 .0), refl, refl, net-constant st (c .inv) (x .value) (z .0) (y .0) (f k) (omega (arith, z .1)) v q))
 
       bit-run : Meets Any (One j n f (f k)) (registerBit (r .reset) k r (f k) st)
       bit-run = go (r .reset) refl
@@ -152,7 +152,7 @@ module _ (m : Module) (good : Good m) (lim : ℕ × ℕ) where
       pub here : bits k ≡ e
       pub others : (x : ℕ) → (x ≡ k → ⊥) → bits x ≡ f x
 
-    bits-run : (w b j n : ℕ) (f : ℕ → ℕ) (st : State) → f k ≡ b → b + w ≤ signalWidth m (r .target) → Connected m lim st j f n → AllAfter st (registerSteps r)
+    bits-run : (w b j n : ℕ) (f : ℕ → ℕ) (st : State) → f k ≡ b → b + w ≤ signalWidth m (r .target) → Connected m lim st j f n → AllAfter ob st (registerSteps r)
         → Meets Any (Done j n f (b + w)) (registerBits k r b w st)
     unfolding registerBits
     bits-run zero b j n f st e h c a = record { bits = f; connected = c; here = e ∙ omega arith; others = λ x d. refl }
@@ -182,7 +182,7 @@ module _ (m : Module) (good : Good m) (lim : ℕ × ℕ) where
   module _ (G : Gates) where
     pub registers-walk : (k : ℕ) (rs : List Register) → ((j : ℕ) (r : Register) → getElem? rs j ≡ some r → getElem? (m .registers) (k + j) ≡ some r)
         → k + length rs ≡ length (m .registers) → (j n : ℕ) (f : ℕ → ℕ) → ((x : ℕ) → x < k → f x ≡ bitsOf m x) → ((x : ℕ) → k ≤ x → f x ≡ 0)
-        → (st : State) → Connected m lim st j f n → Meets Any (AllBits j n) (connectRegisters m false k rs st)
+        → (st : State) → Connected m lim st j f n → Meets Any (AllBits j n) (connectRegisters m ob k rs st)
     unfolding connectRegisters
     registers-walk k [] g e j n f lo hi st c = record { bits = f; connected = c; all = λ x. all x (decLt x k) }
       where
@@ -191,8 +191,8 @@ module _ (m : Module) (good : Good m) (lim : ℕ × ℕ) where
         all x (no h) = hi x (omega arith) ∙ rw (past (m .registers) x (omega arith))
     registers-walk k (r ∷ rs) g e j n f lo hi st c =
         let at : getElem? (m .registers) k ≡ some r = let z : k + 0 ≡ k = omega arith in rw z at (g 0 r refl) in
-        let w = all-walk G m good (registerSteps r) st (c .inv) (steps-asked m k r (good .registers k r at)) in
-        meets-bind Any (Kept m st (λ st′. AllAfter st′ (registerSteps r))) (AllBits j n) (lowerAll m false (registerSteps r) st) _ (w .walks) (λ st₁ q.
+        let w = all-walk G m good ob (registerSteps r) st (c .inv) (steps-asked m k r (good .registers k r at)) in
+        meets-bind Any (Kept m st (λ st′. AllAfter ob st′ (registerSteps r))) (AllBits j n) (lowerAll m ob (registerSteps r) st) _ (w .walks) (λ st₁ q.
         meets-bind Any (Done k r at j n f (0 + signalWidth m (r .target))) (AllBits j n) (registerBits k r 0 (signalWidth m (r .target)) st₁) _
         (bits-run k r at (signalWidth m (r .target)) 0 j n f st₁ (hi k (omega arith)) (omega arith) (connected-grew c (q .inv) (q .grew)) (q .post))
         (λ st₂ d. registers-walk (suc k) rs (λ x y p. let v : k + suc x ≡ suc k + x = omega arith in rw v at (g (suc x) y p)) (omega arith) j n (d .bits)

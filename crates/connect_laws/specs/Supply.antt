@@ -15,7 +15,7 @@ use Rattle.model.specs.Lowering.{addGate}
 use Rattle.netlist_laws.specs.Meaning.{netValue}
 use Rattle.netlist_laws.specs.Sound.{count, Sound}
 use Rattle.netlist_laws.specs.Run.{all-as, Run, run-map}
-use Rattle.gate_laws.specs.Gates.{Op2, constant-run, and-run, or-run, xor-run, mux-run}
+use Rattle.gate_laws.specs.Gates.{constant-later, Op2, constant-run, and-run, or-run, xor-run, mux-run}
 use Rattle.gate_laws.specs.Many.{both-run, constants-run, nots-run}
 use Rattle.cell_laws.specs.Arithmetic.{arithmetic-run}
 use Rattle.operator_laws.specs.Operators.{unary-run, binary-run}
@@ -39,6 +39,7 @@ all-cond false (x ∷ xs) (y ∷ ys) e = rw (all-cond false xs ys (omega arith))
 pub supply : Gates
 supply = record {
   constant = λ b l q. run-makes _ (constant-run b l q);
+  known = λ l k b h e. constant-later l k b h e;
   constants = λ bs l q. run-makes _ (constants-run bs l q);
   nots = λ xs l q b. run-makes _ (nots-run xs l q b);
   gates = λ k xs ys l q a b e. run-makes _

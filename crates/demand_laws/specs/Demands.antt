@@ -1,4 +1,5 @@
--- Demands 2 and 3 of every lowering of a good module, that the module has one run, and the size of the image. Assumes nothing.
+-- Demands 2 and 3 of every lowering of a good module that succeeds, with either flag; that the module has one run; the size of the image.
+-- Assumes nothing.
 use mathlib.Core.Path.{_≡_, refl, sym, ap, subst, _∙_, fun-ext}
 use mathlib.Core.Bool.{Bool, true, false, cond, _&&_}
 use mathlib.Core.List.{List, [], _∷_, map}
@@ -15,10 +16,10 @@ use Rattle.rtl.specs.Rtl as R
 use Rattle.rtl.specs.Rtl.{Module, Valuation, word, dirOf}
 use Rattle.meaning.specs.NetlistImage as N
 use Rattle.meaning.specs.NetlistImage.{netlist}
-use Rattle.meaning.specs.Step.{Setting, Contents, perhaps, Load, Machine, act, onward, run, settled, bitCount, widthOf, isOutput, moduleLoad, moduleAccess, moduleAccesses, netLoad, netAccess, netAccesses, findMemory, findBit, findPort, ofModule, ofNetlist, IsInput, Ported, Demand2, Demand3}
+use Rattle.meaning.specs.Step.{Setting, Contents, perhaps, Load, Machine, act, onward, net, run, settled, bitCount, widthOf, isOutput, moduleLoad, moduleAccess, moduleAccesses, netLoad, netAccess, netAccesses, findMemory, findBit, findPort, ofModule, ofNetlist, IsInput, Ported, Demand2, Demand3}
 use Rattle.model.specs.Words.{Netlist, absent, words}
 use Rattle.model.specs.Builder.{Out, done}
-use Rattle.model.specs.Lowering.{State, cell, whole, expressionNet, signalWidth, lowerState}
+use Rattle.model.specs.Lowering.{signalBit, State, cell, whole, expressionNet, signalWidth, lowerState}
 use Rattle.netlist_view.specs.View.{Fit}
 use Rattle.netlist_view.specs.Laws.{length-words}
 use Rattle.netlist_laws.specs.Meaning.{meaningOf, netValue}
@@ -77,7 +78,7 @@ output-there m p e = elim (decLt p (length (m .signals))) [
       let y : _≡_ {A = ℕ} 0 1 = cc in absurd (omega arith))
 ]
 
-module _ (m : Module) (good : Good m) (lim : ℕ × ℕ) (st : State) (w : Lowered m good lim st) where
+module _ (m : Module) (good : Good m) (ob : Bool) (lim : ℕ × ℕ) (st : State) (w : Lowered m good ob lim st) where
   abbrev L : Netlist
   L = st .netlist
 
@@ -290,20 +291,26 @@ module _ (m : Module) (good : Good m) (lim : ℕ × ℕ) (st : State) (w : Lower
 
 -- ---- of a lowering that succeeds ----
 
-module _ (m : Module) (good : Good m) (n p : ℕ) (small : n ≤ absent) (st : State) (ok : lowerState false m n p ≡ done st) where
-  end : Lowered m good (n, p) st
-  end = subst (λ (o : Out State). Meets Any (Lowered m good (n, p)) o) ok (lowered m good (n, p) small)
+module _ (m : Module) (good : Good m) (ob : Bool) (n p : ℕ) (small : n ≤ absent) (st : State) (ok : lowerState ob m n p ≡ done st) where
+  end : Lowered m good ob (n, p) st
+  end = subst (λ (o : Out State). Meets Any (Lowered m good ob (n, p)) o) ok (lowered m good ob (n, p) small)
 
   pub demand2 : Demand2 m (netlist (words n p (st .netlist))) (expressionNet st)
   unfolding netValue
-  demand2 = rw (image m good (n, p) st end) (expressions m good (n, p) st end)
+  demand2 = rw (image m good ob (n, p) st end) (expressions m good ob (n, p) st end)
 
   pub demand3 : Demand3 m (netlist (words n p (st .netlist)))
-  demand3 = rw (image m good (n, p) st end) (runs m good (n, p) st end)
+  demand3 = rw (image m good ob (n, p) st end) (runs m good ob (n, p) st end)
 
-  -- the settled values, and so the module's run, do not hang on the values before the first round
+  -- a resolved bit has its net's value in the settled values, so that does not hang on the values before the first round
+  pub resolved : (u : Valuation) (s : Setting) (c : Contents) (q i k : ℕ) → signalBit st q i ≡ some k
+      → settled m u s c q i ≡ net (netlist (words n p (st .netlist))) s c k
+  unfolding netValue signalBit
+  resolved u s c q i k e = rw (image m good ob (n, p) st end) (agrees m good ob (n, p) st end u s c .at q i k e)
+
+  -- and the module has one run
   pub determined : (u u′ : Valuation) (c : Contents) (settings : List Setting) → run (ofModule m u) c settings ≡ run (ofModule m u′) c settings
-  determined u u′ c settings = one-run m good (n, p) st end u u′ c settings
+  determined u u′ c settings = one-run m good ob (n, p) st end u u′ c settings
 
   pub sized : length (words n p (st .netlist)) ≡ 16 + 6 * n + p
-  sized = image-length m good (n, p) st end
+  sized = image-length m good ob (n, p) st end

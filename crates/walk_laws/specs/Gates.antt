@@ -11,13 +11,14 @@ use Rattle.rtl.specs.Rtl.{Valuation, unary, binary}
 use Rattle.meaning.specs.Step.{Setting, Contents}
 use Rattle.model.specs.Words.{Netlist}
 use Rattle.model.specs.Builder as B
-use Rattle.model.specs.Builder.{Made, addConstant, addNot, addMux, each, both}
+use Rattle.model.specs.Builder.{constantValue, Made, addConstant, addNot, addMux, each, both}
 use Rattle.model.specs.WordCells.{arithmetic}
 use Rattle.model.specs.Ranges.{Gate, AndGate, OrGate, XorGate}
 use Rattle.model.specs.Lowering.{addGate, lowerUnary, lowerBinary}
 use Rattle.word_laws.specs.Widths.{AllBelow, BinWidth}
 use Rattle.netlist_laws.specs.Meaning.{netValue}
 use Rattle.netlist_laws.specs.Sound.{count, Sound, Later, At, Stands, StandsAll}
+use Rattle.netlist_laws.specs.Run.{later-trans}
 use Rattle.walk_laws.specs.Kept.{Table, Agrees, Holds, Makes, makes-map}
 
 abbrev pub gateOp : Gate → Bool → Bool → Bool
@@ -31,6 +32,7 @@ Gives l w o = Makes l (λ zs l′. StandsAll l′ zs w) o
 
 pub record Gates : Type 0 where
   pub constant : (b : Bool) (l : Netlist) → Sound l → Makes l (λ z l′. Stands l′ z (λ h s c. b)) (addConstant b l)
+  pub known : (l : Netlist) (k : ℕ) (b : Bool) → k < count l → constantValue l k ≡ some b → Stands l k (λ h s c. b)
   pub constants : (bs : List Bool) (l : Netlist) → Sound l → Gives l (λ h s c. bs) (each addConstant bs l)
   pub nots : (xs : List ℕ) (l : Netlist) → Sound l → AllBelow (count l) xs → Gives l (λ h s c. notW (map (netValue h s c) xs)) (each addNot xs l)
   pub gates : (k : Gate) (xs ys : List ℕ) (l : Netlist) → Sound l → AllBelow (count l) xs → AllBelow (count l) ys → length xs ≡ length ys
@@ -51,4 +53,4 @@ stands-holds a b e = record { there = a .there; holds = λ h k s c v g. a .are h
 pub gives-holds : {l : Netlist} {t : Table} {w : At (List Bool)} {u : Valuation → List Bool} (o : Made (List ℕ)) → Gives l w o
     → ((h : Netlist) → Later l h → (s : Setting) (c : Contents) (v : Valuation) → Agrees (netValue h s c) v t → w h s c ≡ u v)
     → Makes l (λ zs l′. Holds l′ t zs u) o
-gives-holds o r e = makes-map o r (λ zs l′ a p. stands-holds p a (λ h k s c v g. e h (Rattle.netlist_laws.specs.Run.later-trans a k) s c v g))
+gives-holds o r e = makes-map o r (λ zs l′ a p. stands-holds p a (λ h k s c v g. e h (later-trans a k) s c v g))

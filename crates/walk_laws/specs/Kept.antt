@@ -100,7 +100,7 @@ pub record Grew (st st′ : State) : Type 0 where
   pub cells : Cells (st .netlist) (st′ .netlist)
   pub more : More (st .signalBits) (st′ .signalBits)
   pub framed : Framed st st′
-  pub wholes : (e : ℕ) → Has (whole st e) → Has (whole st′ e)
+  pub wholes : (e : ℕ) (ns : List ℕ) → whole st e ≡ some ns → whole st′ e ≡ some ns
   pub held : (e b : ℕ) → Held st e b → Held st′ e b
 
 pub grew-refl : {m : Module} {st : State} → Inv m st → Grew st st
@@ -109,7 +109,7 @@ grew-refl i = record {
   cells = cells-refl;
   more = more-refl;
   framed = record { marks = λ p i e. e; bits = λ p i e. refl };
-  wholes = λ e h. h;
+  wholes = λ e ns h. h;
   held = λ e b h. h;
 }
 
@@ -122,7 +122,7 @@ grew-trans a b = record {
     marks = λ p i e. b .framed .marks p i (a .framed .marks p i e);
     bits = λ p i e. b .framed .bits p i (a .framed .marks p i e) ∙ a .framed .bits p i e;
   };
-  wholes = λ e h. b .wholes e (a .wholes e h);
+  wholes = λ e ns h. b .wholes e ns (a .wholes e ns h);
   held = λ e i h. b .held e i (a .held e i h);
 }
 

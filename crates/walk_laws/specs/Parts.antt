@@ -9,23 +9,25 @@ use native.Mathlib.Omega.{arith}
 use borrow.Author.Tests.{ltb-true, ltb-false}
 use lib.Dec.{ltb}
 use lib.ListN.{length, getD, take, drop}
+use lib.Seq.{take-nil, drop-nil}
 use Rattle.rtl.specs.Word.{bits}
 use Rattle.rtl.specs.Ops.{joinW, sliceW, map2}
 use Rattle.rtl.specs.Rtl as R
 use Rattle.rtl.specs.Rtl.{Module, Valuation, Kind, Unary, Binary, word, word1, binary}
 use Rattle.model.specs.Words.{Netlist}
 use Rattle.model.specs.Ranges.{exprAt, widthAt, classOf, Gate, AndGate, OrGate, XorGate}
-use Rattle.model.specs.Lowering.{State, Step, Always, Range, Piece, pieces, concatPieces, backwards, gateOf, gateSteps, whole, wholeNet, rangeNets, pieceNets, rangeGate, kindRangeSteps, rangeSteps, rangeKind, buildRange}
+use Rattle.model.specs.Lowering.{State, Step, Always, Range, Piece, pieces, concatPieces, backwards, gateOf, gateSteps, whole, rangeNets, pieceNets, rangeGate, kindRangeSteps, rangeSteps, rangeKind, buildRange}
+use Rattle.word_laws.specs.Shift.{tab-ext}
 use Rattle.word_laws.specs.Slices.{map-slice, map2-slice, cond-slice, tab-slice, slice-slice, append-slice}
 use Rattle.word_laws.specs.Values.{slice-wide}
 use Rattle.word_laws.specs.Widths.{AllBelow, BelowE, Formed, WidthOk, word-is, word-width}
 use Rattle.netlist_laws.specs.Run.{cells-refl, later-refl}
 use Rattle.walk_laws.specs.Tables.{none-some, some-eq, Has}
-use Rattle.walk_laws.specs.Kept.{Holds, Inv, Makes, makes-done}
+use Rattle.walk_laws.specs.Kept.{Holds, Inv, Makes, makes-done, makes-map}
 use Rattle.walk_laws.specs.Writes.{holds-length}
-use Rattle.walk_laws.specs.Reads.{AllAsked, AllAfter, holds-as, holds-nil, holds-append, read-range, whole-after, read-bits}
+use Rattle.walk_laws.specs.Reads.{After, AllAsked, AllAfter, holds-as, holds-nil, holds-append, read-range, whole-after, read-bits}
 use Rattle.walk_laws.specs.Gates.{Gates, gateOp, gives-holds}
-use Rattle.walk_laws.specs.Wholes.{bit0, bit0-there}
+use Rattle.walk_laws.specs.Wholes.{mux-made}
 
 -- ---- the numbers of a piece: a part of n bits that begins at bit at ----
 
@@ -148,12 +150,12 @@ gate-wide g w a b R.ShiftL k e h = absurd (none-some e)
 gate-wide g w a b R.ShiftR k e h = absurd (none-some e)
 gate-wide g w a b R.ShiftA k e h = absurd (none-some e)
 
-module _ (G : Gates) (m : Module) (f : Formed (m .exprs)) (st : State) (i : Inv m st) where
-  pieces-made : (lsb end at : ℕ) (ps : List ℕ) → AllBelow (length (m .exprs)) ps → AllAfter st (pieceSteps (pieces (m .exprs) lsb end at ps))
+module _ (G : Gates) (m : Module) (f : Formed (m .exprs)) (ob : Bool) (st : State) (i : Inv m st) where
+  pieces-made : (lsb end at : ℕ) (ps : List ℕ) → AllBelow (length (m .exprs)) ps → AllAfter ob st (pieceSteps (pieces (m .exprs) lsb end at ps))
       → Holds (st .netlist) (st .signalBits) (pieceNets st (pieces (m .exprs) lsb end at ps))
       (λ v. sliceW (lsb - at) (end - max lsb at) (flat (word (m .exprs) v) ps))
   unfolding pieces
-  pieces-made lsb end at [] b h = holds-as holds-nil (λ v. sym (rw (lib.Seq.drop-nil {A = Bool} (lsb - at)) (lib.Seq.take-nil {A = Bool} (end - max lsb at))))
+  pieces-made lsb end at [] b h = holds-as holds-nil (λ v. sym (rw (drop-nil {A = Bool} (lsb - at)) (take-nil {A = Bool} (end - max lsb at))))
   pieces-made lsb end at (p ∷ ps) b h =
       go (ltb (max lsb at) (min end (at + widthAt (m .exprs) p))) refl (pieces-made lsb end (at + widthAt (m .exprs) p) ps (b .1)) h
     where
@@ -172,10 +174,10 @@ module _ (G : Gates) (m : Module) (f : Formed (m .exprs)) (st : State) (i : Inv 
       nothing lo hi h = omega arith
 
       go : (t : Bool) → ltb (max lsb at) (min end (at + widthAt (m .exprs) p)) ≡ t
-          → (AllAfter st (pieceSteps (pieces (m .exprs) lsb end (at + widthAt (m .exprs) p) ps))
+          → (AllAfter ob st (pieceSteps (pieces (m .exprs) lsb end (at + widthAt (m .exprs) p) ps))
           → Holds (st .netlist) (st .signalBits) (pieceNets st (pieces (m .exprs) lsb end (at + widthAt (m .exprs) p) ps))
           (λ v. sliceW (lsb - (at + widthAt (m .exprs) p)) (end - max lsb (at + widthAt (m .exprs) p)) (flat (word (m .exprs) v) ps)))
-          → AllAfter st (pieceSteps (cond t (record { part = p; lsb = max lsb at - at; width = min end (at + widthAt (m .exprs) p) - max lsb at } ∷ pieces (m .exprs) lsb end (at + widthAt (m .exprs) p) ps) (pieces (m .exprs) lsb end (at + widthAt (m .exprs) p) ps)))
+          → AllAfter ob st (pieceSteps (cond t (record { part = p; lsb = max lsb at - at; width = min end (at + widthAt (m .exprs) p) - max lsb at } ∷ pieces (m .exprs) lsb end (at + widthAt (m .exprs) p) ps) (pieces (m .exprs) lsb end (at + widthAt (m .exprs) p) ps)))
           → Holds (st .netlist) (st .signalBits)
           (pieceNets st (cond t (record { part = p; lsb = max lsb at - at; width = min end (at + widthAt (m .exprs) p) - max lsb at } ∷ pieces (m .exprs) lsb end (at + widthAt (m .exprs) p) ps) (pieces (m .exprs) lsb end (at + widthAt (m .exprs) p) ps)))
           (λ v. sliceW (lsb - at) (end - max lsb at) (word (m .exprs) v p ++ flat (word (m .exprs) v) ps))
@@ -187,8 +189,8 @@ module _ (G : Gates) (m : Module) (f : Formed (m .exprs)) (st : State) (i : Inv 
           holds-as (r h) (λ v. rw z at (cut v))
 
   module _ (e lsb w : ℕ) (here : e < length (m .exprs)) (fits : lsb + w ≤ widthAt (m .exprs) e) where
-    abbrev Made′ : List ℕ → Netlist → Type 0
-    Made′ ns l = Holds l (st .signalBits) ns (λ v. sliceW lsb w (word (m .exprs) v e))
+    abbrev MadeSlice : List ℕ → Netlist → Type 0
+    MadeSlice ns l = Holds l (st .signalBits) ns (λ v. sliceW lsb w (word (m .exprs) v e))
 
     module _ (k : Kind) (x : (exprAt (m .exprs) e) .kind ≡ k) where
       is : (v : Valuation) → sliceW lsb w (word1 v (word (m .exprs) v) (widthAt (m .exprs) e) k) ≡ sliceW lsb w (word (m .exprs) v e)
@@ -205,15 +207,15 @@ module _ (G : Gates) (m : Module) (f : Formed (m .exprs)) (st : State) (i : Inv 
     own h = read-range m st i f e lsb w here fits (whole-after m st i f e lsb w h)
 
     -- a range of an operand of the same width
-    module _ (a : ℕ) (b : a < e) (same : widthAt (m .exprs) a ≡ widthAt (m .exprs) e) (h : Rattle.walk_laws.specs.Reads.After st (Range a lsb w)) where
+    module _ (a : ℕ) (b : a < e) (same : widthAt (m .exprs) a ≡ widthAt (m .exprs) e) (h : After st (Range a lsb w)) where
       side : Holds (st .netlist) (st .signalBits) (rangeNets st a lsb w) (λ v. sliceW lsb w (word (m .exprs) v a))
       side = read-range m st i f a lsb w (omega arith) (omega arith) h
 
       side-length : length (rangeNets st a lsb w) ≡ w
       side-length = holds-length (i .sound) side w (λ v. slice-wide lsb w (word (m .exprs) v a) (omega (arith, word-width (m .exprs) f v a (omega arith))))
 
-    un-made : (op : Unary) (a : ℕ) → (exprAt (m .exprs) e) .kind ≡ R.Un op a → AllAfter st (kindRangeSteps (m .exprs) e lsb w (R.Un op a))
-        → Makes (st .netlist) Made′ (rangeKind (m .exprs) false st e lsb w (widthAt (m .exprs) e) (R.Un op a))
+    un-made : (op : Unary) (a : ℕ) → (exprAt (m .exprs) e) .kind ≡ R.Un op a → AllAfter ob st (kindRangeSteps (m .exprs) e lsb w (R.Un op a))
+        → Makes (st .netlist) MadeSlice (rangeKind (m .exprs) ob st e lsb w (widthAt (m .exprs) e) (R.Un op a))
     un-made R.BitNot a x h =
         let p = side a (low (R.Un R.BitNot a) x) (wide (R.Un R.BitNot a) x) (h .0) in
         gives-holds _ (G .nots (rangeNets st a lsb w) (st .netlist) (i .sound) (p .there))
@@ -223,8 +225,8 @@ module _ (G : Gates) (m : Module) (f : Formed (m .exprs)) (st : State) (i : Inv 
     un-made R.ReduceAnd a x h = makes-done (later-refl (i .sound)) cells-refl (own (h .0))
     un-made R.ReduceXor a x h = makes-done (later-refl (i .sound)) cells-refl (own (h .0))
 
-    gate-made : (op : Binary) (a b : ℕ) → (exprAt (m .exprs) e) .kind ≡ R.Bin op a b → (o : Option Gate) → gateOf (classOf op) ≡ o → AllAfter st (gateSteps o e a b lsb w)
-        → Makes (st .netlist) Made′ (rangeGate o st e a b lsb w)
+    gate-made : (op : Binary) (a b : ℕ) → (exprAt (m .exprs) e) .kind ≡ R.Bin op a b → (o : Option Gate) → gateOf (classOf op) ≡ o → AllAfter ob st (gateSteps o e a b lsb w)
+        → Makes (st .netlist) MadeSlice (rangeGate o st e a b lsb w)
     gate-made op a b x none q h = makes-done (later-refl (i .sound)) cells-refl (own (h .0))
     gate-made op a b x (some k) q h =
         let n = gate-wide (widthAt (m .exprs)) (widthAt (m .exprs) e) a b op k q (wide (R.Bin op a b) x) in
@@ -236,13 +238,13 @@ module _ (G : Gates) (m : Module) (f : Formed (m .exprs)) (st : State) (i : Inv 
         (λ l d s c v g. rw (p .holds l d s c v g, r .holds l d s c v g)
         (sym (map2-slice (gateOp k) lsb w (word (m .exprs) v a) (word (m .exprs) v b)) ∙ ap (sliceW lsb w) (sym (gate-word op k q (word (m .exprs) v a) (word (m .exprs) v b))) ∙ is (R.Bin op a b) x v))
 
-    kind-made : (k : Kind) → (exprAt (m .exprs) e) .kind ≡ k → AllAfter st (kindRangeSteps (m .exprs) e lsb w k)
-        → Makes (st .netlist) Made′ (rangeKind (m .exprs) false st e lsb w (widthAt (m .exprs) e) k)
+    kind-made : (k : Kind) → (exprAt (m .exprs) e) .kind ≡ k → AllAfter ob st (kindRangeSteps (m .exprs) e lsb w k)
+        → Makes (st .netlist) MadeSlice (rangeKind (m .exprs) ob st e lsb w (widthAt (m .exprs) e) k)
     unfolding concatPieces
     kind-made (R.Signal s b) x h =
-        makes-done (later-refl (i .sound)) cells-refl (holds-as (read-bits m st i s (b + lsb) w h)
+        makes-done (later-refl (i .sound)) cells-refl (holds-as (read-bits m st i ob s (b + lsb) w h)
         (λ v. sym (tab-slice lsb w (widthAt (m .exprs) e) (λ j. v s (b + j)) fits
-        ∙ Rattle.word_laws.specs.Shift.tab-ext w _ _ (λ j _. ap (v s) {x = b + (lsb + j)} {y = b + lsb + j} (omega arith))) ∙ is (R.Signal s b) x v))
+        ∙ tab-ext w _ _ (λ j _. ap (v s) {x = b + (lsb + j)} {y = b + lsb + j} (omega arith))) ∙ is (R.Signal s b) x v))
     kind-made (R.Constant n) x h =
         gives-holds _ (G .constants (take w (drop lsb (bits (widthAt (m .exprs) e) n))) (st .netlist) (i .sound)) (λ l a s c v g. is (R.Constant n) x v)
     kind-made (R.Un op a) x h = un-made op a x h
@@ -250,13 +252,10 @@ module _ (G : Gates) (m : Module) (f : Formed (m .exprs)) (st : State) (i : Inv 
     kind-made (R.Mux c t d) x h =
         let b = low (R.Mux c t d) x in
         let n = wide (R.Mux c t d) x in
-        let p = side t (b .1) (n .1) (h .1 .0) in
-        let q = side d (b .2) (n .2) (h .1 .1 .0) in
-        gives-holds _ (G .mux (wholeNet st c 0) (rangeNets st t lsb w) (rangeNets st d lsb w) (st .netlist) (i .sound)
-        (bit0-there G m f st i c (omega (arith, b .0)) (h .0)) (p .there) (q .there)
-        (side-length t (b .1) (n .1) (h .1 .0) ∙ sym (side-length d (b .2) (n .2) (h .1 .1 .0))))
-        (λ l j s z v g. rw (p .holds l j s z v g, q .holds l j s z v g, bit0 G m f st i c (omega (arith, b .0)) (h .0) l j s z v g)
-        (sym (cond-slice (getD (word (m .exprs) v c) 0 false) lsb w (word (m .exprs) v t) (word (m .exprs) v d)) ∙ is (R.Mux c t d) x v))
+        makes-map _ (mux-made G m f ob st i c (omega (arith, b .0)) (h .0) (rangeNets st t lsb w) (rangeNets st d lsb w)
+        (λ v. sliceW lsb w (word (m .exprs) v t)) (λ v. sliceW lsb w (word (m .exprs) v d)) (After st (Range t lsb w)) (After st (Range d lsb w))
+        (side t (b .1) (n .1)) (side d (b .2) (n .2)) (λ p q. side-length t (b .1) (n .1) p ∙ sym (side-length d (b .2) (n .2) q)) (h .1 .0) (h .1 .1 .0))
+        (λ ns l a p. holds-as p (λ v. sym (cond-slice (getD (word (m .exprs) v c) 0 false) lsb w (word (m .exprs) v t) (word (m .exprs) v d)) ∙ is (R.Mux c t d) x v))
     kind-made (R.Concat ps) x h =
         makes-done (later-refl (i .sound)) cells-refl (holds-as (pieces-made lsb (lsb + w) 0 (backwards ps [])
         (below-turned (length (m .exprs)) ps [] (more ps (low (R.Concat ps) x)) tt) h)
@@ -278,7 +277,7 @@ module _ (G : Gates) (m : Module) (f : Formed (m .exprs)) (st : State) (i : Inv 
         (λ v. sym (slice-slice b lsb w (widthAt (m .exprs) e) (word (m .exprs) v a) fits) ∙ is (R.Slice a b) x v))
 
     -- what `lower_expression_range` makes stands for the slice
-    pub range-made : AllAfter st (rangeSteps (m .exprs) e lsb w)
-        → Makes (st .netlist) (λ ns l. Holds l (st .signalBits) ns (λ v. sliceW lsb w (word (m .exprs) v e))) (buildRange (m .exprs) false st e lsb w)
+    pub range-made : AllAfter ob st (rangeSteps (m .exprs) e lsb w)
+        → Makes (st .netlist) (λ ns l. Holds l (st .signalBits) ns (λ v. sliceW lsb w (word (m .exprs) v e))) (buildRange (m .exprs) ob st e lsb w)
     unfolding rangeSteps buildRange
     range-made h = kind-made ((exprAt (m .exprs) e) .kind) refl h

@@ -1,23 +1,27 @@
 -- What is asked before something is lowered, what is there after it, and that the nets read back have the bits meant. Assumes nothing.
 use mathlib.Core.Path.{_≡_, refl, sym, ap, _∙_}
-use mathlib.Core.Bool.{Bool, true}
+use mathlib.Core.Logic.{_⊎_, inl, inr}
+use mathlib.Core.Bool.{Bool, true, false, cond}
 use mathlib.Core.List.{List, [], _∷_, _++_, map}
 use mathlib.Core.Option.{Option, none, some}
-use Prim.Native.Nat.{ℕ, zero, suc, _+_, _≤_, _<_}
+use Prim.Native.Nat.{ℕ, zero, suc, _+_, _-_, _≤_, _<_}
 use native.Mathlib.Nat.{not-suc-le-zero, le-of-suc-le-suc, add-zero}
 use native.Mathlib.Omega.{arith}
+use borrow.Author.Tests.{ltb-true}
+use lib.Dec.{ltb}
 use lib.ListN.{length, getD, take, drop}
 use Rattle.rtl.specs.Ops.{sliceW, tab}
 use Rattle.rtl.specs.Rtl.{Module, Valuation, word}
-use Rattle.model.specs.Words.{Netlist}
-use Rattle.model.specs.Builder.{from}
+use Rattle.model.specs.Words.{Netlist, absent, gate}
+use Rattle.model.specs.Builder.{nodeForNet, constantOf, constantValue, isValue, from}
 use Rattle.model.specs.Ranges.{widthAt}
-use Rattle.model.specs.Lowering.{State, Need, Bit, Whole, Range, Step, Always, Unless, cell, whole, wholeNets, rangeNets, rangeBy, rangeKnown, allSome, signalBit, signalNet, signalNets, signalSteps, wholes}
+use Rattle.model.specs.Lowering.{selected, wholeNet, netsOf, State, Need, Bit, Whole, Range, Step, Always, Unless, cell, whole, wholeNets, rangeNets, rangeBy, rangeKnown, allSome, signalBit, signalNet, signalNets, signalSteps, wholes}
 use Rattle.word_laws.specs.Shift.{tab-ext}
 use Rattle.word_laws.specs.Widths.{AllBelow, Formed, word-width}
 use Rattle.netlist_laws.specs.Meaning.{netValue}
-use Rattle.netlist_laws.specs.Sound.{count}
-use Rattle.walk_laws.specs.Tables.{Has, Known, row-slice, row-below, all-known}
+use Rattle.netlist_laws.specs.Sound.{count, Sound, Later}
+use Rattle.netlist_laws.specs.Nodes.{node-grew}
+use Rattle.walk_laws.specs.Tables.{none-some, Has, Known, row-slice, row-below, all-known}
 use Rattle.walk_laws.specs.Kept.{Table, Holds, Held, Inv, Grew}
 use Rattle.walk_laws.specs.Writes.{holds-length}
 
@@ -34,7 +38,7 @@ After st (Range e lsb w) = (b : ℕ) → lsb ≤ b → b < lsb + w → Held st e
 
 pub after-grew : {st st′ : State} → Grew st st′ → (n : Need) → After st n → After st′ n
 after-grew g (Bit s b) h = record { value = h .value; is = g .more .more s b (h .value) (h .is) }
-after-grew g (Whole e) h = g .wholes e h
+after-grew g (Whole e) h = record { value = h .value; is = g .wholes e (h .value) (h .is) }
 after-grew g (Range e lsb w) h = λ b x y. g .held e b (h b x y)
 
 abbrev pub needOf : Step → Need
@@ -45,13 +49,61 @@ abbrev pub AllAsked : Module → List Step → Type 0
 AllAsked m [] = Unit {0}
 AllAsked m (s ∷ ss) = Asked m (needOf s) × AllAsked m ss
 
-abbrev pub AllAfter : State → List Step → Type 0
-AllAfter st [] = Unit {0}
-AllAfter st (s ∷ ss) = After st (needOf s) × AllAfter st ss
+-- a step is done, or a Mux whose condition is a constant has no use for it
+abbrev pub StepAfter : Bool → State → Step → Type 0
+StepAfter ob st (Always n) = After st n
+StepAfter ob st (Unless c v n) = (isValue v (selected ob st c) ≡ true) ⊎ After st n
 
-pub all-after-grew : {st st′ : State} → Grew st st′ → (ss : List Step) → AllAfter st ss → AllAfter st′ ss
-all-after-grew g [] h = tt
-all-after-grew g (s ∷ ss) h = (after-grew g (needOf s) (h .0), all-after-grew g ss (h .1))
+abbrev pub AllAfter : Bool → State → List Step → Type 0
+AllAfter ob st [] = Unit {0}
+AllAfter ob st (s ∷ ss) = StepAfter ob st s × AllAfter ob st ss
+
+-- ---- a condition that is a constant stays one ----
+
+-- its net is there
+constant-there : (l : Netlist) (n : ℕ) (b : Bool) → constantValue l n ≡ some b → n < count l
+unfolding constantValue nodeForNet
+constant-there l n b e = go (ltb n (count l)) refl e
+  where
+    go : (t : Bool) → ltb n (count l) ≡ t
+        → constantOf (cond t (getD (l .nodes) (count l - suc n) (gate absent absent absent absent)) (gate absent absent absent absent)) ≡ some b → n < count l
+    go true h e = ltb-true n (count l) h
+    go false h e = absurd (none-some e)
+
+constant-grew : {l l′ : Netlist} → Later l l′ → (n : ℕ) → n < count l → constantValue l′ n ≡ constantValue l n
+unfolding constantValue
+constant-grew a n h = ap constantOf (node-grew (a .grew) n h)
+
+net-same : (st st′ : State) (c : ℕ) (ns : List ℕ) → whole st c ≡ some ns → whole st′ c ≡ some ns → wholeNet st c 0 ≡ wholeNet st′ c 0
+unfolding wholeNet wholeNets
+net-same st st′ c ns e f = rw (e, f)
+
+module _ (st : State) (q : Sound (st .netlist)) where
+  net-whole : (c : ℕ) → wholeNet st c 0 < count (st .netlist) → Has (whole st c)
+  unfolding wholeNet wholeNets
+  net-whole c h = go (whole st c) refl h
+    where
+      go : (o : Option (List ℕ)) → whole st c ≡ o → getD (netsOf o) 0 absent < count (st .netlist) → Has (whole st c)
+      go none e h = absurd (omega (arith, q .few, q .small))
+      go (some ns) e h = record { value = ns; is = e }
+
+  pub selected-stays : (st′ : State) → Later (st .netlist) (st′ .netlist) → ((e : ℕ) (ns : List ℕ) → whole st e ≡ some ns → whole st′ e ≡ some ns)
+      → (ob : Bool) (c : ℕ) (b : Bool) → selected ob st c ≡ some b → selected ob st′ c ≡ some b
+  selected-stays st′ a k false c b e = absurd (none-some e)
+  selected-stays st′ a k true c b e =
+      let t = constant-there (st .netlist) (wholeNet st c 0) b e in
+      let w = net-whole c t in
+      ap (constantValue (st′ .netlist)) (sym (net-same st st′ c (w .value) (w .is) (k c (w .value) (w .is)))) ∙ constant-grew a (wholeNet st c 0) t ∙ e
+
+  pub step-stays : (st′ : State) → Later (st .netlist) (st′ .netlist) → ((e : ℕ) (ns : List ℕ) → whole st e ≡ some ns → whole st′ e ≡ some ns)
+      → ((n : Need) → After st n → After st′ n) → (ob : Bool) (s : Step) → StepAfter ob st s → StepAfter ob st′ s
+  step-stays st′ a k f ob (Always n) h = f n h
+  step-stays st′ a k f ob (Unless c v n) (inr h) = inr (f n h)
+  step-stays st′ a k f ob (Unless c v n) (inl h) = inl (go (selected ob st c) refl h)
+    where
+      go : (o : Option Bool) → selected ob st c ≡ o → isValue v o ≡ true → isValue v (selected ob st′ c) ≡ true
+      go none e h = let z : _≡_ {A = ℕ} 0 1 = cc in absurd (omega arith)
+      go (some b) e h = rw (selected-stays st′ a k ob c b e) h
 
 -- ---- lists of nets ----
 
@@ -124,9 +176,6 @@ module _ (m : Module) (st : State) (i : Inv m st) where
     unfolding rangeNets
     read-range e lsb w b k h = go (whole st e) refl
       where
-        row : List (Option ℕ)
-        row = getD (st .expressionRanges) e []
-
         known : whole st e ≡ none → Known (getD (st .expressionRanges) e []) lsb w
         known q = record { known = λ j x y. rw q at (h j x y) }
 
@@ -163,10 +212,10 @@ module _ (m : Module) (st : State) (i : Inv m st) where
     holds = λ x a y c v g. rw (g .at s b (h .value) (h .is));
   })
 
-  pub read-bits : (s b w : ℕ) → AllAfter st (signalSteps s b w) → Holds (st .netlist) (st .signalBits) (signalNets st s b w) (λ v. tab w (λ j. v s (b + j)))
+  pub read-bits : (ob : Bool) (s b w : ℕ) → AllAfter ob st (signalSteps s b w) → Holds (st .netlist) (st .signalBits) (signalNets st s b w) (λ v. tab w (λ j. v s (b + j)))
   unfolding signalSteps signalNets from
-  read-bits s b zero h = holds-nil
-  read-bits s b (suc w) h =
-      let r = read-bits s (suc b) w (h .1) in
+  read-bits ob s b zero h = holds-nil
+  read-bits ob s b (suc w) h =
+      let r = read-bits ob s (suc b) w (h .1) in
       holds-as (holds-append (read-bit s b (h .0)) r)
       (λ v. rw (add-zero b) (ap (λ (x : List Bool). v s b ∷ x) (tab-ext w _ _ (λ j _. ap (v s) {x = suc b + j} {y = b + suc j} (omega arith)))))

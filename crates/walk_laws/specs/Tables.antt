@@ -32,9 +32,6 @@ has-some a = record { value = a; is = refl }
 pub has-none : {A : Type 0} → Has {A = A} none → ⊥
 has-none h = none-some (h .is)
 
-pub has-eq : {A : Type 0} {o p : Option A} → p ≡ o → Has o → Has p
-has-eq e h = record { value = h .value; is = e ∙ h .is }
-
 -- ---- a table's shape ----
 
 pub record Shaped {A : Type 0} (n : ℕ) (wide : ℕ → ℕ) (t : List (List A)) : Type 0 where

@@ -1,7 +1,8 @@
 -- The walk: one step of it from what is lowered below, then all of it by induction on the bound. Assumes nothing.
 use mathlib.Core.Path.{_≡_, refl, sym, ap, _∙_}
+use mathlib.Core.Logic.{inl, inr}
 use mathlib.Core.Bool.{Bool, true, false, cond, _&&_}
-use mathlib.Core.List.{List, [], _∷_, map}
+use mathlib.Core.List.{List, [], _∷_}
 use mathlib.Core.Option.{Option, none, some}
 use Prim.Native.Nat.{ℕ, zero, suc, _+_, _-_, _≤_, _<_}
 use native.Mathlib.Omega.{arith}
@@ -10,12 +11,11 @@ use lib.ListN.{length, getD, getElem?}
 use borrow.Author.Tests.{eqb-true, leb-true, ltb-true}
 use Rattle.rtl.specs.Ops.{sliceW}
 use Rattle.rtl.specs.Rtl as R
-use Rattle.rtl.specs.Rtl.{Module, Kind, Unary, Binary, Assign, word, byAssign, byMemory, byRegister, byDir, ofPort, driver, dirOf}
-use Rattle.meaning.specs.Step.{Setting, Contents}
+use Rattle.rtl.specs.Rtl.{Valuation, Module, Kind, Unary, Binary, Assign, word, byAssign, byMemory, byRegister, byDir, ofPort, driver, dirOf}
 use Rattle.model.specs.Words.{Netlist, absent}
-use Rattle.model.specs.Builder.{Out, refused, done, andThen, Made, from}
+use Rattle.model.specs.Builder.{Out, refused, done, andThen, Made, from, isValue}
 use Rattle.model.specs.Ranges.{exprAt, widthAt, classOf, Gate}
-use Rattle.model.specs.Lowering.{State, Need, Bit, Whole, Range, Step, Always, Unless, cell, whole, wholeNets, wholeNet, withNetlist, setSignalBit, mark, signalBit, signalWidth, rangeKnown, Operands, operandsOf, operandSteps, wholes, signalSteps, backwards, gateOf, gateSteps, concatPieces, kindSteps, wholeSteps, kindRangeSteps, rangeSteps, buildWhole, buildRange, lowerSteps, exprDriver, driverOf, drive, resolveSignalBit, keepWhole, lowerExpression, keepRange, lowerExpressionRange, lowerBy, lowerNeed, plenty, lowerAll}
+use Rattle.model.specs.Lowering.{selected, unless, drivenBy, drivenNet, rangeNets, State, Need, Bit, Whole, Range, Step, Always, Unless, cell, whole, wholeNets, wholeNet, withNetlist, setSignalBit, mark, signalBit, signalWidth, rangeKnown, Operands, operandsOf, operandSteps, wholes, signalSteps, backwards, gateOf, gateSteps, concatPieces, kindSteps, wholeSteps, kindRangeSteps, rangeSteps, buildWhole, buildRange, lowerSteps, exprDriver, driverOf, drive, resolveSignalBit, keepWhole, lowerExpression, keepRange, lowerExpressionRange, lowerBy, lowerNeed, plenty, lowerAll}
 use Rattle.word_laws.specs.Values.{slice-wide}
 use Rattle.word_laws.specs.Widths.{AllBelow, BelowE, Formed, WidthOk, word-width}
 use Rattle.range_laws.specs.Fusion.{CarryBelow, operands}
@@ -23,9 +23,9 @@ use Rattle.netlist_laws.specs.Meaning.{netValue}
 use Rattle.netlist_laws.specs.Sound.{count}
 use Rattle.walk_laws.specs.Tables.{none-some, some-eq}
 use Rattle.walk_laws.specs.Good.{Good, GoodAssign, Undriven}
-use Rattle.walk_laws.specs.Kept.{Holds, Inv, grew-refl, grew-trans, Walks, walks-refused, walks-done, walks-map, walks-bind, Makes}
+use Rattle.walk_laws.specs.Kept.{Table, Grew, Holds, Inv, grew-refl, grew-trans, Walks, walks-refused, walks-done, walks-map, walks-bind, Makes}
 use Rattle.walk_laws.specs.Writes.{holds-length, inv-netlist, grew-netlist, inv-whole, grew-whole, has-whole, inv-range, grew-range, has-range, inv-mark, marked, inv-bit, grew-bit, has-bit}
-use Rattle.walk_laws.specs.Reads.{Asked, After, after-grew, AllAsked, AllAfter, map-at, below-at, read-whole, whole-length, known-after}
+use Rattle.walk_laws.specs.Reads.{StepAfter, step-stays, holds-as, read-range, Asked, After, after-grew, AllAsked, AllAfter, map-at, below-at, read-whole, whole-length, known-after}
 use Rattle.walk_laws.specs.Gates.{Gates}
 use Rattle.walk_laws.specs.Wholes.{whole-made}
 use Rattle.walk_laws.specs.Parts.{gate-wide, below-turned, pieces-asked, range-made}
@@ -178,21 +178,46 @@ module _ (m : Module) (s b : ℕ) where
   driver-by u = no-input (dirOf m s) _ (u .input) ∙ no-register 0 (m .registers) _ (u .registers)
       ∙ no-memory 0 (m .memories) (byAssign (m .assigns) s b) (u .memories) (u .seconds)
 
+-- ---- one bit of a word ----
+
+head-eq : {a b : Bool} → _≡_ {A = List Bool} (a ∷ []) (b ∷ []) → a ≡ b
+head-eq p = cc
+
+one-of : {l : Netlist} {t : Table} {ns : List ℕ} {w : Valuation → List Bool} → Holds l t ns w → (i d : ℕ) → i < length ns
+    → Holds l t (getD ns i d ∷ []) (λ v. getD (w v) i false ∷ [])
+one-of {l} {ns} h i d n = record {
+  there = (below-at (count l) ns i d n (h .there), tt);
+  holds = λ k a s c v g. ap (λ (x : Bool). x ∷ []) (sym (map-at (netValue k s c) ns i d false n) ∙ ap (λ (x : List Bool). getD x i false) (h .holds k a s c v g));
+}
+
+first-of : (i : ℕ) (a : List Bool) → getD (sliceW i 1 a) 0 false ≡ getD a i false
+first-of zero [] = refl
+first-of zero (x ∷ a) = refl
+first-of (suc i) [] = refl
+first-of (suc i) (x ∷ a) = first-of i a
+
 -- ---- one step ----
 
-module _ (G : Gates) (m : Module) (good : Good m) where
+module _ (G : Gates) (m : Module) (good : Good m) (ob : Bool) where
   -- whatever is lowered, what was kept is kept, and it is there
   abbrev pub Lowers : (Need → State → Out State) → Type 0
   Lowers rec = (n : Need) (st : State) → Inv m st → Asked m n → Walks m st (λ st′. After st′ n) (rec n st)
 
+  step-grew : {st st′ : State} → Inv m st → Grew st st′ → (s : Step) → StepAfter ob st s → StepAfter ob st′ s
+  step-grew {st} {st′} i g s h = step-stays st (i .sound) st′ (g .later) (g .wholes) (after-grew g) ob s h
+
   pub steps-walk : (rec : Need → State → Out State) → Lowers rec → (ss : List Step) (st : State) → Inv m st → AllAsked m ss
-      → Walks m st (λ st′. AllAfter st′ ss) (lowerSteps rec false ss st)
+      → Walks m st (λ st′. AllAfter ob st′ ss) (lowerSteps rec ob ss st)
   unfolding lowerSteps
   steps-walk rec spec [] st i h = walks-done i (grew-refl i) tt
   steps-walk rec spec (Always n ∷ ss) st i h = walks-bind (rec n st) _ (spec n st i (h .0)) (λ st₁ i₁ g₁ p₁.
       walks-map _ (steps-walk rec spec ss st₁ i₁ (h .1)) (λ st₂ i₂ g₂ p₂. (after-grew g₂ n p₁, p₂)))
-  steps-walk rec spec (Unless c v n ∷ ss) st i h = walks-bind (rec n st) _ (spec n st i (h .0)) (λ st₁ i₁ g₁ p₁.
-      walks-map _ (steps-walk rec spec ss st₁ i₁ (h .1)) (λ st₂ i₂ g₂ p₂. (after-grew g₂ n p₁, p₂)))
+  steps-walk rec spec (Unless c v n ∷ ss) st i h = walks-bind (unless (isValue v (selected ob st c)) rec n st) _ (skip (isValue v (selected ob st c)) refl) (λ st₁ i₁ g₁ p₁.
+      walks-map _ (steps-walk rec spec ss st₁ i₁ (h .1)) (λ st₂ i₂ g₂ p₂. (step-grew i₁ g₂ (Unless c v n) p₁, p₂)))
+    where
+      skip : (t : Bool) → isValue v (selected ob st c) ≡ t → Walks m st (λ st′. StepAfter ob st′ (Unless c v n)) (unless t rec n st)
+      skip true e = walks-done i (grew-refl i) (inl e)
+      skip false e = walks-map _ (spec n st i (h .0)) (λ st₁ i₁ g₁ p₁. inr p₁)
 
   module _ (rec : Need → State → Out State) (spec : Lowers rec) (st : State) (i : Inv m st) where
     -- ---- a signal's bit ----
@@ -202,36 +227,42 @@ module _ (G : Gates) (m : Module) (good : Good m) where
       unfolding mark
       same = free
 
-      module _ (st₁ : State) (ins : d .1 < length (wholeNets st₁ (d .0))) where
-        there : AllBelow (count (st₁ .netlist)) (wholeNets st₁ (d .0)) → wholeNet st₁ (d .0) (d .1) < count (st₁ .netlist)
-        unfolding wholeNet
-        there h = below-at (count (st₁ .netlist)) (wholeNets st₁ (d .0)) (d .1) absent ins h
+      -- what the flag has lowered of the driver
+      need-asked : (o : Bool) → Asked m (drivenBy o (d .0) (d .1))
+      need-asked false = got .value
+      need-asked true = (got .value, omega (arith, got .bit))
 
-        at : (l : Netlist) (x : Setting) (c : Contents)
-            → getD (map (netValue l x c) (wholeNets st₁ (d .0))) (d .1) false ≡ netValue l x c (wholeNet st₁ (d .0) (d .1))
-        unfolding wholeNet
-        at l x c = map-at (netValue l x c) (wholeNets st₁ (d .0)) (d .1) absent false ins
+      -- the net taken has the driver's bit
+      net-taken : (o : Bool) (st₁ : State) → Inv m st₁ → After st₁ (drivenBy o (d .0) (d .1))
+          → Holds (st₁ .netlist) (st₁ .signalBits) (drivenNet o st₁ (d .0) (d .1) ∷ []) (λ v. getD (word (m .exprs) v (d .0)) (d .1) false ∷ [])
+      unfolding wholeNet
+      net-taken false st₁ j h =
+          let r = read-whole m st₁ j (d .0) h in
+          let n : d .1 < length (wholeNets st₁ (d .0)) = omega (arith, got .bit, whole-length m st₁ j (good .exprs) (d .0) (got .value) h) in
+          one-of r (d .1) absent n
+      net-taken true st₁ j h =
+          let r = read-range m st₁ j (good .exprs) (d .0) (d .1) 1 (got .value) (omega (arith, got .bit)) h in
+          let n : length (rangeNets st₁ (d .0) (d .1) 1) ≡ 1 = holds-length (j .sound) r 1
+          (λ v. slice-wide (d .1) 1 (word (m .exprs) v (d .0)) (omega (arith, got .bit, word-width (m .exprs) (good .exprs) v (d .0) (got .value)))) in
+          holds-as (one-of r 0 absent (omega arith)) (λ v. ap (λ (x : Bool). x ∷ []) (first-of (d .1) (word (m .exprs) v (d .0))))
 
-      driven : (o : Out State) → Walks m (mark st s b) (λ st′. After st′ (Whole (d .0))) o
-          → Walks m st (λ st′. After st′ (Bit s b)) (andThen o (λ st₁. done (setSignalBit st₁ s b (wholeNet st₁ (d .0) (d .1)))))
+      driven : (o : Out State) → Walks m (mark st s b) (λ st′. After st′ (drivenBy ob (d .0) (d .1))) o
+          → Walks m st (λ st′. After st′ (Bit s b)) (andThen o (λ st₁. done (setSignalBit st₁ s b (drivenNet ob st₁ (d .0) (d .1)))))
       driven (refused n x y) w = walks-refused
       driven (done st₁) w =
           let k = w .walks in
-          let h = k .post in
+          let n = drivenNet ob st₁ (d .0) (d .1) in
+          let t = net-taken ob st₁ (k .inv) (k .post) in
           let mk = marked m st s b i (got .here) (got .inside) in
           let fr : cell none (st₁ .signalBits) s b ≡ none = k .grew .framed .bits s b mk ∙ same in
           let on = k .grew .framed .marks s b mk in
-          let lw = whole-length m st₁ (k .inv) (good .exprs) (d .0) (got .value) h in
-          let rd = read-whole m st₁ (k .inv) (d .0) h in
-          let ins : d .1 < length (wholeNets st₁ (d .0)) = omega (arith, got .bit) in
           walks-done
-          (inv-bit m st₁ s b (wholeNet st₁ (d .0) (d .1)) (k .inv) (got .here) (got .inside) fr (there st₁ ins (rd .there))
-          (λ l a x c v g. rw (driver-by m s b (got .undriven), got .by)
-          (ap (λ (z : List Bool). getD z (d .1) false) (sym (rd .holds l a x c v g)) ∙ at st₁ ins l x c)))
-          (grew-bit m st₁ s b (wholeNet st₁ (d .0) (d .1)) (k .inv) (got .here) (got .inside) fr on {st₀ = st} (k .grew) unmarked)
-          (has-bit m st₁ s b (wholeNet st₁ (d .0) (d .1)) (k .inv) (got .here) (got .inside) fr)
+          (inv-bit m st₁ s b n (k .inv) (got .here) (got .inside) fr (t .there .0)
+          (λ l a x c v g. rw (driver-by m s b (got .undriven), got .by) (sym (head-eq (t .holds l a x c v g)))))
+          (grew-bit m st₁ s b n (k .inv) (got .here) (got .inside) fr on {st₀ = st} (k .grew) unmarked)
+          (has-bit m st₁ s b n (k .inv) (got .here) (got .inside) fr)
 
-    resolve-walk : (s b : ℕ) → Walks m st (λ st′. After st′ (Bit s b)) (resolveSignalBit rec m false s b st)
+    resolve-walk : (s b : ℕ) → Walks m st (λ st′. After st′ (Bit s b)) (resolveSignalBit rec m ob s b st)
     unfolding resolveSignalBit signalBit drive
     resolve-walk s b = go (cell none (st .signalBits) s b) refl (driverOf m s b) refl (cell false (st .resolving) s b) refl
       where
@@ -240,7 +271,7 @@ module _ (G : Gates) (m : Module) (good : Good m) where
               | some n ↦ done st
               | none ↦ elim q [
                 | none ↦ refused 6 s b
-                | some d ↦ elim t [ true ↦ refused 7 s b | false ↦ drive rec false s b (d .0) (d .1) st ]
+                | some d ↦ elim t [ true ↦ refused 7 s b | false ↦ drive rec ob s b (d .0) (d .1) st ]
               ]
             ])
         go (some n) e q f t g = walks-done i (grew-refl i) (record { value = n; is = e })
@@ -248,33 +279,40 @@ module _ (G : Gates) (m : Module) (good : Good m) where
         go none e (some d) f true g = walks-refused
         go none e (some d) f false g =
             let got = assigned m s b good d f in
-            driven s b d e g got (rec (Whole (d .0)) (mark st s b)) (spec (Whole (d .0)) (mark st s b) (inv-mark m st s b i) (got .value))
+            driven s b d e g got (rec (drivenBy ob (d .0) (d .1)) (mark st s b))
+            (spec (drivenBy ob (d .0) (d .1)) (mark st s b) (inv-mark m st s b i) (need-asked s b d e g got ob))
 
     -- ---- an expression ----
 
-    keep-whole : (st₁ : State) → Inv m st₁ → (e : ℕ) → e < length (m .exprs) → (o : Made (List ℕ))
-        → Makes (st₁ .netlist) (λ ns l. Holds l (st₁ .signalBits) ns (λ v. word (m .exprs) v e)) o → Walks m st₁ (λ st′. After st′ (Whole e)) (keepWhole st₁ e o)
+    keep-whole : (e : ℕ) → e < length (m .exprs) → whole st e ≡ none → (st₁ : State) → Inv m st₁ → Grew st st₁ → (o : Made (List ℕ))
+        → Makes (st₁ .netlist) (λ ns l. Holds l (st₁ .signalBits) ns (λ v. word (m .exprs) v e)) o → Walks m st (λ st′. After st′ (Whole e)) (keepWhole st₁ e o)
     unfolding keepWhole
-    keep-whole st₁ j e h (refused n x y) w = walks-refused
-    keep-whole st₁ j e h (done r) w =
+    keep-whole e h z st₁ j g (refused n x y) w = walks-refused
+    keep-whole e h z st₁ j g (done r) w =
         let k = w .makes in
         let j′ = inv-netlist m st₁ (r .1) j (k .later) in
         walks-done (inv-whole m (withNetlist st₁ (r .1)) e (r .0) j′ h (k .post))
-        (grew-trans (grew-netlist m st₁ (r .1) (k .later) (k .cells)) (grew-whole m (withNetlist st₁ (r .1)) e (r .0) j′ h))
+        (grew-whole m (withNetlist st₁ (r .1)) e (r .0) j′ h {st₀ = st} (grew-trans g (grew-netlist m st₁ (r .1) (k .later) (k .cells))) z)
         (has-whole m (withNetlist st₁ (r .1)) e (r .0) j′ h)
 
-    expression-walk : (e : ℕ) → e < length (m .exprs) → Walks m st (λ st′. After st′ (Whole e)) (lowerExpression rec m false e st)
+    after-steps : (e : ℕ) → e < length (m .exprs) → whole st e ≡ none → (o : Out State) → Walks m st (λ st′. AllAfter ob st′ (wholeSteps (m .exprs) e)) o
+        → Walks m st (λ st′. After st′ (Whole e)) (andThen o (λ st₁. keepWhole st₁ e (buildWhole (m .exprs) ob st₁ e)))
+    after-steps e h z (refused n x y) w = walks-refused
+    after-steps e h z (done st₁) w =
+        let k = w .walks in
+        keep-whole e h z st₁ (k .inv) (k .grew) (buildWhole (m .exprs) ob st₁ e) (whole-made G m (good .exprs) ob st₁ (k .inv) e h (k .post))
+
+    expression-walk : (e : ℕ) → e < length (m .exprs) → Walks m st (λ st′. After st′ (Whole e)) (lowerExpression rec m ob e st)
     unfolding lowerExpression
     expression-walk e h = go (whole st e) refl
       where
         go : (o : Option (List ℕ)) → whole st e ≡ o → Walks m st (λ st′. After st′ (Whole e)) (elim o [
           | some ns ↦ done st
-          | none ↦ andThen (lowerSteps rec false (wholeSteps (m .exprs) e) st) (λ st₁. keepWhole st₁ e (buildWhole (m .exprs) false st₁ e))
+          | none ↦ andThen (lowerSteps rec ob (wholeSteps (m .exprs) e) st) (λ st₁. keepWhole st₁ e (buildWhole (m .exprs) ob st₁ e))
         ])
         go (some ns) q = walks-done i (grew-refl i) (record { value = ns; is = q })
-        go none q = walks-bind (lowerSteps rec false (wholeSteps (m .exprs) e) st) (λ st₁. keepWhole st₁ e (buildWhole (m .exprs) false st₁ e))
+        go none q = after-steps e h q (lowerSteps rec ob (wholeSteps (m .exprs) e) st)
             (steps-walk rec spec (wholeSteps (m .exprs) e) st i (whole-asked m (good .exprs) e h))
-            (λ st₁ i₁ g₁ p₁. keep-whole st₁ i₁ e h (buildWhole (m .exprs) false st₁ e) (whole-made G m (good .exprs) st₁ i₁ e h p₁))
 
     -- ---- a range ----
 
@@ -294,32 +332,32 @@ module _ (G : Gates) (m : Module) (good : Good m) where
         (λ b x y. has-range m (withNetlist st₁ (r .1)) e lsb (r .0) j′ (good .exprs) h ok b x (omega arith))
 
     range-walk : (e lsb w : ℕ) → e < length (m .exprs) → lsb + w ≤ widthAt (m .exprs) e
-        → Walks m st (λ st′. After st′ (Range e lsb w)) (lowerExpressionRange rec m false e lsb w st)
+        → Walks m st (λ st′. After st′ (Range e lsb w)) (lowerExpressionRange rec m ob e lsb w st)
     unfolding lowerExpressionRange
     range-walk e lsb w h fits = go (rangeKnown st e lsb w) refl
       where
         go : (t : Bool) → rangeKnown st e lsb w ≡ t → Walks m st (λ st′. After st′ (Range e lsb w)) (elim t [
           | true ↦ done st
-          | false ↦ andThen (lowerSteps rec false (rangeSteps (m .exprs) e lsb w) st) (λ st₁. keepRange st₁ e lsb (buildRange (m .exprs) false st₁ e lsb w))
+          | false ↦ andThen (lowerSteps rec ob (rangeSteps (m .exprs) e lsb w) st) (λ st₁. keepRange st₁ e lsb (buildRange (m .exprs) ob st₁ e lsb w))
         ])
         go true q = walks-done i (grew-refl i) (known-after m st i (good .exprs) e lsb w h fits q)
-        go false q = walks-bind (lowerSteps rec false (rangeSteps (m .exprs) e lsb w) st) (λ st₁. keepRange st₁ e lsb (buildRange (m .exprs) false st₁ e lsb w))
+        go false q = walks-bind (lowerSteps rec ob (rangeSteps (m .exprs) e lsb w) st) (λ st₁. keepRange st₁ e lsb (buildRange (m .exprs) ob st₁ e lsb w))
             (steps-walk rec spec (rangeSteps (m .exprs) e lsb w) st i (range-asked m (good .exprs) e h lsb w fits))
-            (λ st₁ i₁ g₁ p₁. keep-range st₁ i₁ e lsb w h fits (buildRange (m .exprs) false st₁ e lsb w) (range-made G m (good .exprs) st₁ i₁ e lsb w h fits p₁))
+            (λ st₁ i₁ g₁ p₁. keep-range st₁ i₁ e lsb w h fits (buildRange (m .exprs) ob st₁ e lsb w) (range-made G m (good .exprs) ob st₁ i₁ e lsb w h fits p₁))
 
   -- ---- all of it ----
 
-  step-walk : (rec : Need → State → Out State) → Lowers rec → Lowers (lowerBy rec m false)
+  step-walk : (rec : Need → State → Out State) → Lowers rec → Lowers (lowerBy rec m ob)
   step-walk rec spec (Bit s b) st i h = resolve-walk rec spec st i s b
   step-walk rec spec (Whole e) st i h = expression-walk rec spec st i e h
   step-walk rec spec (Range e lsb w) st i h = range-walk rec spec st i e lsb w (h .0) (h .1)
 
-  pub need-walk : (f : ℕ) → Lowers (lowerNeed f m false)
+  pub need-walk : (f : ℕ) → Lowers (lowerNeed f m ob)
   unfolding lowerNeed
   need-walk zero n st i h = walks-refused
-  need-walk (suc f) n st i h = step-walk (λ n′ st′. lowerNeed f m false n′ st′) (need-walk f) n st i h
+  need-walk (suc f) n st i h = step-walk (λ n′ st′. lowerNeed f m ob n′ st′) (need-walk f) n st i h
 
   -- the needs of a list of steps are all lowered
-  pub all-walk : (ss : List Step) (st : State) → Inv m st → AllAsked m ss → Walks m st (λ st′. AllAfter st′ ss) (lowerAll m false ss st)
+  pub all-walk : (ss : List Step) (st : State) → Inv m st → AllAsked m ss → Walks m st (λ st′. AllAfter ob st′ ss) (lowerAll m ob ss st)
   unfolding lowerAll
-  all-walk ss st i h = steps-walk (λ n st′. lowerNeed (plenty m) m false n st′) (need-walk (plenty m)) ss st i h
+  all-walk ss st i h = steps-walk (λ n st′. lowerNeed (plenty m) m ob n st′) (need-walk (plenty m)) ss st i h

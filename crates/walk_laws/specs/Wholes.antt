@@ -1,20 +1,21 @@
 -- What is made of a whole expression, once its steps are done, stands for its word. Assumes nothing.
 use mathlib.Core.Path.{_≡_, refl, sym, ap, _∙_}
+use mathlib.Core.Logic.{_⊎_, inl, inr}
 use mathlib.Core.Bool.{Bool, true, false, cond}
 use mathlib.Core.List.{List, [], _∷_, _++_, map}
 use mathlib.Core.Option.{Option, none, some}
 use Prim.Native.Nat.{ℕ, zero, suc, _-_, _<_}
 use native.Mathlib.Omega.{arith}
-use lib.ListN.{length, getD, take, replicate}
+use lib.ListN.{length, getD, take, replicate, length-take}
 use Rattle.rtl.specs.Word.{bits, length-bits}
 use Rattle.rtl.specs.Ops.{joinW}
 use Rattle.rtl.specs.Rtl as R
 use Rattle.rtl.specs.Rtl.{Module, Valuation, Kind, Binary, word, word1}
 use Rattle.meaning.specs.Step.{Setting, Contents}
 use Rattle.model.specs.Words.{Netlist, absent}
-use Rattle.model.specs.Builder.{Made, done, andThen, addConstant}
+use Rattle.model.specs.Builder.{Made, done, andThen, addConstant, constantValue, isValue}
 use Rattle.model.specs.Ranges.{exprAt, widthAt, classOf, adderWidth}
-use Rattle.model.specs.Lowering.{State, isAdd, addOperands, carryLsb, Operands, fused, operandsOf, whole, wholeNets, wholeNet, wholes, operandSteps, backwards, kindSteps, wholeSteps, truncated, resized, buildOperands, buildBinary, partNets, buildKind, buildWhole}
+use Rattle.model.specs.Lowering.{selected, buildMux, State, isAdd, addOperands, carryLsb, Operands, fused, operandsOf, whole, wholeNets, wholeNet, wholes, operandSteps, backwards, kindSteps, wholeSteps, truncated, resized, buildOperands, buildBinary, partNets, buildKind, buildWhole}
 use Rattle.word_laws.specs.Widths.{AllBelow, BelowE, BinWidth, Formed, WidthOk, word-is, word-width}
 use Rattle.range_laws.specs.Fusion.{cellWord, carryBit, Operate, Narrowed, operands, narrowed}
 use Rattle.netlist_laws.specs.Meaning.{netValue}
@@ -93,11 +94,7 @@ cell-length : (op : Binary) (a b : List Bool) (c : Option Bool) → op ≡ R.Add
 cell-length op a b none e = rw e (length-bits (length a) _)
 cell-length op a b (some c) e = length-bits (length a) _
 
-module _ (G : Gates) (m : Module) (f : Formed (m .exprs)) (st : State) (i : Inv m st) where
-  -- nets of this netlist that stand for a word
-  abbrev pub Word : (Valuation → List Bool) → List ℕ → Netlist → Type 0
-  Word w ns l = Holds l (st .signalBits) ns w
-
+module _ (G : Gates) (m : Module) (f : Formed (m .exprs)) (ob : Bool) (st : State) (i : Inv m st) where
   -- bit 0 of a whole expression
   module _ (c : ℕ) (here : c < length (m .exprs)) (h : Has (whole st c)) where
     some-bit : 0 < length (wholeNets st c)
@@ -112,6 +109,43 @@ module _ (G : Gates) (m : Module) (f : Formed (m .exprs)) (st : State) (i : Inv 
     unfolding wholeNet
     bit0 l a s x v g = sym (map-at (netValue l s x) (wholeNets st c) 0 absent false some-bit)
         ∙ ap (λ (w : List Bool). getD w 0 false) (read-whole m st i c h .holds l a s x v g)
+
+  -- ---- a Mux: both sides, or the one that a constant condition takes ----
+
+  chosen : (o : Bool) (c : ℕ) (b : Bool) → selected o st c ≡ some b → constantValue (st .netlist) (wholeNet st c 0) ≡ some b
+  chosen true c b e = e
+  chosen false c b e = absurd (none-some e)
+
+  module _ (c : ℕ) (here : c < length (m .exprs)) (h : Has (whole st c)) (ts es : List ℕ) (wt we : Valuation → List Bool) where
+    abbrev MuxMade : List ℕ → Netlist → Type 0
+    MuxMade ns l = Holds l (st .signalBits) ns (λ v. cond (getD (word (m .exprs) v c) 0 false) (wt v) (we v))
+
+    -- the condition is the constant b
+    one-side : (b : Bool) → selected ob st c ≡ some b → Holds (st .netlist) (st .signalBits) (cond b ts es) (λ v. cond b (wt v) (we v))
+        → Makes (st .netlist) MuxMade (done (cond b ts es, st .netlist))
+    one-side b e p =
+        let k = G .known (st .netlist) (wholeNet st c 0) b (bit0-there c here h) (chosen ob c b e) in
+        makes-done (later-refl (i .sound)) cells-refl (record {
+          there = p .there;
+          holds = λ l a s d v g. p .holds l a s d v g ∙ ap (λ (t : Bool). cond t (wt v) (we v)) (sym (k .is l a s d) ∙ bit0 c here h l a s d v g);
+        })
+
+    pub mux-made : (A B : Type 0) → (A → Holds (st .netlist) (st .signalBits) ts wt) → (B → Holds (st .netlist) (st .signalBits) es we) → (A → B → length ts ≡ length es)
+        → (isValue false (selected ob st c) ≡ true) ⊎ A → (isValue true (selected ob st c) ≡ true) ⊎ B
+        → Makes (st .netlist) MuxMade (buildMux (selected ob st c) (wholeNet st c 0) ts es (st .netlist))
+    mux-made A B p q n x y = go (selected ob st c) refl x y
+      where
+        go : (o : Option Bool) → selected ob st c ≡ o → (isValue false o ≡ true) ⊎ A → (isValue true o ≡ true) ⊎ B
+            → Makes (st .netlist) MuxMade (buildMux o (wholeNet st c 0) ts es (st .netlist))
+        go none e (inl z) y = let u : _≡_ {A = ℕ} 0 1 = cc in absurd (omega arith)
+        go none e (inr a) (inl z) = let u : _≡_ {A = ℕ} 0 1 = cc in absurd (omega arith)
+        go none e (inr a) (inr b) =
+            gives-holds _ (G .mux (wholeNet st c 0) ts es (st .netlist) (i .sound) (bit0-there c here h) (p a .there) (q b .there) (n a b))
+            (λ l j s z v g. rw (p a .holds l j s z v g, q b .holds l j s z v g, bit0 c here h l j s z v g))
+        go (some true) e (inl z) y = let u : _≡_ {A = ℕ} 0 1 = cc in absurd (omega arith)
+        go (some true) e (inr a) y = one-side true e (p a)
+        go (some false) e x (inl z) = let u : _≡_ {A = ℕ} 0 1 = cc in absurd (omega arith)
+        go (some false) e x (inr b) = one-side false e (q b)
 
   -- ---- the operands' cell ----
 
@@ -144,14 +178,14 @@ module _ (G : Gates) (m : Module) (f : Formed (m .exprs)) (st : State) (i : Inv 
       (λ h a s d v g. rw (p .holds h a s d v g, q .holds h a s d v g, bit0 c (hc .0) (hc .1) h a s d v g))
 
   module _ (e : ℕ) (here : e < length (m .exprs)) where
-    abbrev Made′ : List ℕ → Netlist → Type 0
-    Made′ ns l = Holds l (st .signalBits) ns (λ v. word (m .exprs) v e)
+    abbrev MadeWord : List ℕ → Netlist → Type 0
+    MadeWord ns l = Holds l (st .signalBits) ns (λ v. word (m .exprs) v e)
 
     -- ---- filled up ----
 
     fill : (k : ℕ) (ns : List ℕ) (l : Netlist) (w : Valuation → List Bool) → Later (st .netlist) l → Holds l (st .signalBits) ns w → length ns ≡ k
         → ((v : Valuation) → word (m .exprs) v e ≡ w v ++ replicate (widthAt (m .exprs) e - k) false)
-        → Makes l Made′ (andThen (addConstant false l) (λ (z, l₁). done (ns ++ replicate (widthAt (m .exprs) e - length ns) z, l₁)))
+        → Makes l MadeWord (andThen (addConstant false l) (λ (z, l₁). done (ns ++ replicate (widthAt (m .exprs) e - length ns) z, l₁)))
     fill k ns l w a p n q = makes-bind (addConstant false l) _ (G .constant false l (a .sound)) (λ z l₁ b r.
         makes-done (later-refl (b .sound)) cells-refl (record {
           there = below-append (count l₁) ns _ (holds-later b more-refl p .there) (below-replicate (count l₁) (widthAt (m .exprs) e - length ns) z (r .there));
@@ -161,7 +195,7 @@ module _ (G : Gates) (m : Module) (f : Formed (m .exprs)) (st : State) (i : Inv 
 
     resized-made : (op : Binary) (a b : ℕ) → (exprAt (m .exprs) e) .kind ≡ R.Bin op a b → (n : Option ℕ) → cond (isAdd (classOf op)) (adderWidth (m .exprs) e) none ≡ n
         → (x y : ℕ) (c : Option ℕ) → ((v : Valuation) → Operate (m .exprs) v e (widthAt (m .exprs) e) op (record { lhs = x; rhs = y; carry = c }))
-        → (o : Made (List ℕ)) → Makes (st .netlist) (CellMade op n x y c) o → Makes (st .netlist) Made′ (resized n (widthAt (m .exprs) e) o)
+        → (o : Made (List ℕ)) → Makes (st .netlist) (CellMade op n x y c) o → Makes (st .netlist) MadeWord (resized n (widthAt (m .exprs) e) o)
     resized-made op a b k none q x y c t o r = makes-map o r (λ ns l d p. holds-as p (λ v. sym (t v .gives)))
     resized-made op a b k (some j) q x y c t o r = makes-bind o _ r (λ ns l d p.
         fill j ns l _ d p
@@ -195,11 +229,11 @@ module _ (G : Gates) (m : Module) (f : Formed (m .exprs)) (st : State) (i : Inv 
 
     truncated-length : (n : Option ℕ) (xs ys : List ℕ) → length xs ≡ length ys → length (truncated n xs) ≡ length (truncated n ys)
     truncated-length none xs ys h = h
-    truncated-length (some k) xs ys h = rw (lib.ListN.length-take k xs, lib.ListN.length-take k ys, h)
+    truncated-length (some k) xs ys h = rw (length-take k xs, length-take k ys, h)
 
     bin-made : (op : Binary) (a b : ℕ) → (exprAt (m .exprs) e) .kind ≡ R.Bin op a b → (n : Option ℕ) → cond (isAdd (classOf op)) (adderWidth (m .exprs) e) none ≡ n
-        → (o : Operands) → ((v : Valuation) → Operate (m .exprs) v e (widthAt (m .exprs) e) op o) → Taken op a b o → AllAfter st (operandSteps o)
-        → Makes (st .netlist) Made′ (resized n (widthAt (m .exprs) e) (buildOperands op n st o))
+        → (o : Operands) → ((v : Valuation) → Operate (m .exprs) v e (widthAt (m .exprs) e) op o) → Taken op a b o → AllAfter ob st (operandSteps o)
+        → Makes (st .netlist) MadeWord (resized n (widthAt (m .exprs) e) (buildOperands op n st o))
     bin-made op a b x n q o t plain h = resized-made op a b x n q a b none t _ (cell-made op n a b none (h .0) (h .1 .0) tt (width n q))
       where
         la : length (wholeNets st a) ≡ widthAt (m .exprs) a
@@ -237,7 +271,7 @@ module _ (G : Gates) (m : Module) (f : Formed (m .exprs)) (st : State) (i : Inv 
     AllHas [] = Unit {0}
     AllHas (p ∷ ps) = Has (whole st p) × AllHas ps
 
-    has-all : (ps : List ℕ) → AllAfter st (wholes ps) → AllHas ps
+    has-all : (ps : List ℕ) → AllAfter ob st (wholes ps) → AllHas ps
     has-all [] h = tt
     has-all (p ∷ ps) h = (h .0, has-all ps (h .1))
 
@@ -249,11 +283,11 @@ module _ (G : Gates) (m : Module) (f : Formed (m .exprs)) (st : State) (i : Inv 
     parts-made [] h = holds-nil
     parts-made (p ∷ ps) h = holds-append (parts-made ps (h .1)) (read-whole m st i p (h .0))
 
-    kind-made : (k : Kind) → (exprAt (m .exprs) e) .kind ≡ k → AllAfter st (kindSteps (m .exprs) (widthAt (m .exprs) e) k)
-        → Makes (st .netlist) Made′ (buildKind (m .exprs) false st e (widthAt (m .exprs) e) k)
+    kind-made : (k : Kind) → (exprAt (m .exprs) e) .kind ≡ k → AllAfter ob st (kindSteps (m .exprs) (widthAt (m .exprs) e) k)
+        → Makes (st .netlist) MadeWord (buildKind (m .exprs) ob st e (widthAt (m .exprs) e) k)
     unfolding buildBinary
     kind-made (R.Signal s lsb) x h =
-        makes-done (later-refl (i .sound)) cells-refl (holds-as (read-bits m st i s lsb (widthAt (m .exprs) e) h) (is (R.Signal s lsb) x))
+        makes-done (later-refl (i .sound)) cells-refl (holds-as (read-bits m st i ob s lsb (widthAt (m .exprs) e) h) (is (R.Signal s lsb) x))
     kind-made (R.Constant n) x h =
         gives-holds _ (G .constants (bits (widthAt (m .exprs) e) n) (st .netlist) (i .sound)) (λ l a s c v g. is (R.Constant n) x v)
     kind-made (R.Un op a) x h =
@@ -265,13 +299,10 @@ module _ (G : Gates) (m : Module) (f : Formed (m .exprs)) (st : State) (i : Inv 
     kind-made (R.Mux c t d) x h =
         let b = low (R.Mux c t d) x in
         let w = wide (R.Mux c t d) x in
-        let p = read-whole m st i t (h .1 .0) in
-        let q = read-whole m st i d (h .1 .1 .0) in
-        let lt = whole-length m st i f t (omega (arith, b .1)) (h .1 .0) in
-        let ld = whole-length m st i f d (omega (arith, b .2)) (h .1 .1 .0) in
-        gives-holds _ (G .mux (wholeNet st c 0) (wholeNets st t) (wholeNets st d) (st .netlist) (i .sound) (bit0-there c (omega (arith, b .0)) (h .0)) (p .there) (q .there)
-        (lt ∙ w .1 ∙ sym (w .2) ∙ sym ld))
-        (λ l j s z v g. rw (p .holds l j s z v g, q .holds l j s z v g, bit0 c (omega (arith, b .0)) (h .0) l j s z v g) (is (R.Mux c t d) x v))
+        makes-map _ (mux-made c (omega (arith, b .0)) (h .0) (wholeNets st t) (wholeNets st d) (λ v. word (m .exprs) v t) (λ v. word (m .exprs) v d)
+        (Has (whole st t)) (Has (whole st d)) (read-whole m st i t) (read-whole m st i d)
+        (λ p q. whole-length m st i f t (omega (arith, b .1)) p ∙ w .1 ∙ sym (w .2) ∙ sym (whole-length m st i f d (omega (arith, b .2)) q)) (h .1 .0) (h .1 .1 .0))
+        (λ ns l a p. holds-as p (is (R.Mux c t d) x))
     kind-made (R.Concat ps) x h =
         makes-done (later-refl (i .sound)) cells-refl (holds-as (parts-made ps (turned ps [] (has-all (backwards ps []) h) .0)) (is (R.Concat ps) x))
     kind-made (R.Slice a lsb) x h =
@@ -279,6 +310,6 @@ module _ (G : Gates) (m : Module) (f : Formed (m .exprs)) (st : State) (i : Inv 
         (holds-as (read-range m st i f a lsb (widthAt (m .exprs) e) (omega (arith, low (R.Slice a lsb) x)) (wide (R.Slice a lsb) x) (h .0)) (is (R.Slice a lsb) x))
 
     -- what `lower_expression` makes stands for the expression
-    pub whole-made : AllAfter st (wholeSteps (m .exprs) e) → Makes (st .netlist) (λ ns l. Holds l (st .signalBits) ns (λ v. word (m .exprs) v e)) (buildWhole (m .exprs) false st e)
+    pub whole-made : AllAfter ob st (wholeSteps (m .exprs) e) → Makes (st .netlist) (λ ns l. Holds l (st .signalBits) ns (λ v. word (m .exprs) v e)) (buildWhole (m .exprs) ob st e)
     unfolding wholeSteps buildWhole
     whole-made h = kind-made ((exprAt (m .exprs) e) .kind) refl h

@@ -20,7 +20,7 @@ use Rattle.word_laws.specs.Widths.{Formed}
 use Rattle.netlist_laws.specs.Meaning.{netValue}
 use Rattle.netlist_laws.specs.Sound.{Cells, count, Sound, Later}
 use Rattle.netlist_laws.specs.Run.{cells-refl, later-refl, later-trans, later-count}
-use Rattle.walk_laws.specs.Tables.{none-some, some-eq, Has, has-eq, same-cell, put-shaped, put-same, put-other, filled, filled-put, has-sets, known-sets, fits-sets, below-sets}
+use Rattle.walk_laws.specs.Tables.{none-some, some-eq, Has, same-cell, put-shaped, put-same, put-other, filled, filled-put, has-sets, known-sets, fits-sets, below-sets}
 use Rattle.walk_laws.specs.Kept.{Table, Agrees, More, more-refl, more-trans, Holds, holds-later, HoldsRow, row-later, Wide, Held, Inv, Grew}
 
 -- ---- how many nets stand for a word ----
@@ -65,7 +65,7 @@ module _ (m : Module) where
     cells = c;
     more = more-refl;
     framed = record { marks = λ p i e. e; bits = λ p i e. refl };
-    wholes = λ e h. h;
+    wholes = λ e ns h. h;
     held = λ e b h. h;
   }
 
@@ -118,24 +118,25 @@ module _ (m : Module) where
         ranges x (yes p) = rw (p, row-same) (record { there = λ b n q. absurd (none-some q); holds = λ l a s c v g. record { fits = λ b n q. absurd (none-some q) } })
         ranges x (no g) = rw (row-other x g) (i .ranges x)
 
-    pub grew-whole : Grew st (setWhole st e ns)
+    -- the expression had no nets when its lowering began
+    pub grew-whole : {st₀ : State} → Grew st₀ st → whole st₀ e ≡ none → Grew st₀ (setWhole st e ns)
     unfolding setWhole
-    grew-whole = record {
-      later = later-refl (i .sound);
-      cells = cells-refl;
-      more = more-refl;
-      framed = record { marks = λ p b q. q; bits = λ p b q. refl };
-      wholes = λ x h. wholes x h (ℕ-discrete x e);
-      held = λ x b h. held x b h (ℕ-discrete x e);
+    grew-whole {st₀} g z = record {
+      later = g .later;
+      cells = g .cells;
+      more = g .more;
+      framed = record { marks = g .framed .marks; bits = g .framed .bits };
+      wholes = λ x ks h. wholes x ks h (ℕ-discrete x e);
+      held = λ x b h. held x b (g .held x b h) (ℕ-discrete x e);
     }
       where
-        wholes : (x : ℕ) → Has (whole st x) → Dec (x ≡ e) → Has (whole (setWhole st e ns) x)
-        wholes x h (yes p) = record { value = ns; is = ap (whole (setWhole st e ns)) p ∙ whole-same }
-        wholes x h (no g) = has-eq (whole-other x g) h
+        wholes : (x : ℕ) (ks : List ℕ) → whole st₀ x ≡ some ks → Dec (x ≡ e) → whole (setWhole st e ns) x ≡ some ks
+        wholes x ks h (yes p) = absurd (none-some (sym z ∙ ap (whole st₀) (sym p) ∙ h))
+        wholes x ks h (no q) = whole-other x q ∙ g .wholes x ks h
 
         held : (x b : ℕ) → Held st x b → Dec (x ≡ e) → Held (setWhole st e ns) x b
         held x b h (yes p) = rw (ap (whole (setWhole st e ns)) p ∙ whole-same) tt
-        held x b h (no g) = rw (whole-other x g, row-other x g) h
+        held x b h (no q) = rw (whole-other x q, row-other x q) h
 
     pub has-whole : Has (whole (setWhole st e ns) e)
     has-whole = record { value = ns; is = whole-same }
@@ -210,7 +211,7 @@ module _ (m : Module) where
       cells = cells-refl;
       more = more-refl;
       framed = record { marks = λ p b q. q; bits = λ p b q. refl };
-      wholes = λ x h. has-eq (range-whole x) h;
+      wholes = λ x ks h. range-whole x ∙ h;
       held = λ x b h. range-held x b (ℕ-discrete x e) (whole st e) refl h;
     }
 
@@ -238,22 +239,6 @@ module _ (m : Module) where
       cells = i .cells;
       ranges = i .ranges;
     }
-
-    pub grew-mark : cell false (st .resolving) s b ≡ false → Grew st (mark st s b)
-    unfolding whole mark
-    grew-mark q = record {
-      later = later-refl (i .sound);
-      cells = cells-refl;
-      more = more-refl;
-      framed = record { marks = λ p j e. put-other false (st .resolving) s b true p j (apart p j e) ∙ e; bits = λ p j e. refl };
-      wholes = λ e h. h;
-      held = λ e j h. h;
-    }
-      where
-        apart : (p j : ℕ) → cell false (st .resolving) p j ≡ true → (p ≡ s) × (j ≡ b) → ⊥
-        apart p j e x =
-            let y : cell false (st .resolving) s b ≡ true = rw (x .0, x .1) at e in
-            let z : _≡_ {A = ℕ} 0 1 = cc in omega arith
 
     pub marked : s < length (m .signals) → b < signalWidth m s → cell false (mark st s b .resolving) s b ≡ true
     unfolding mark
