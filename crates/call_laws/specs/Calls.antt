@@ -3,6 +3,7 @@
 use Prim.Native.Nat.{ℕ, _≤_}
 use mathlib.Core.Bool.{false}
 use mathlib.Core.List.{List, _++_}
+use mathlib.Core.Option.{some}
 use mathlib.Core.Path.{_≡_, refl, sym, ap, subst, _∙_}
 use native.Mathlib.Omega.{arith}
 use lib.ListN.{length, drop, replicate, length-append, length-drop, length-replicate}
@@ -11,12 +12,12 @@ use Rattle.rules.specs.Rules.{Answer, Fine, Refused}
 use Rattle.meaning.specs.Image.{decode}
 use Rattle.meaning.specs.Checks.{checked, netlistNeed, scratchNeed}
 use Rattle.meaning.specs.NetlistImage.{netlist}
-use Rattle.meaning.specs.Step.{Setting, Contents, run, ofModule, Demand2, Demand3}
+use Rattle.meaning.specs.Step.{Setting, Contents, settled, run, ofModule, net, Demand2, Demand3}
 use Rattle.meaning.specs.Promise as Promise
 use Rattle.meaning.specs.Promise.{over, left}
 use Rattle.model.specs.Words.{absent, words}
 use Rattle.model.specs.Builder.{Out, refused, done}
-use Rattle.model.specs.Lowering.{State, expressionNet, lowerState, lowerWith, lower}
+use Rattle.model.specs.Lowering.{State, signalBit, expressionNet, lowerState, lowerWith, lower}
 use Rattle.call.specs.Call as Call
 use Rattle.call.specs.Call.{outcome, imageOf}
 use Rattle.netlist_view.specs.View.{Fit}
@@ -33,7 +34,7 @@ use Rattle.call_laws.specs.Further.{words-further}
 
 -- ---- a lowering that comes to its end ----
 
--- lowering module s with limits N and P ends in this state
+-- lowering the module in the bytes s with limits N and P ends in this state
 pub record Ends (s : List ℕ) (N P : ℕ) : Type 0 where
   pub state : State
   pub is : lowerState false (decode s) N P ≡ done state
@@ -78,7 +79,7 @@ module _ (s : List ℕ) (N P : ℕ) (buffer scratch : List ℕ) (passed : checke
 
     fit : Fit N P (st .netlist)
     fit =
-        let w : Lowered (decode s) is-good (N, P) st = subst (λ (o : Out State). Meets Any (Lowered (decode s) is-good (N, P)) o) ok (lowered (decode s) is-good (N, P) small) in
+        let w : Lowered (decode s) is-good false (N, P) st = subst (λ (o : Out State). Meets Any (Lowered (decode s) is-good false (N, P)) o) ok (lowered (decode s) is-good false (N, P) small) in
         let q = w .connected .inv .sound in
         let e = w .connected .limited in
         record { nets = e .0; list = e .1; few = omega (arith, q .few, e .0); short = omega (arith, q .short, e .1); formed = q .formed }
@@ -93,13 +94,18 @@ module _ (s : List ℕ) (N P : ℕ) (buffer scratch : List ℕ) (passed : checke
 
     -- the net that the lowering gave to a bit of an expression has that bit's value
     pub demand2 : Demand2 (decode s) (netlist (Call.bufferAfter s N P buffer scratch)) (expressionNet st)
-    demand2 = rw netlist-is (demands.demand2 (decode s) is-good N P small st ok)
+    demand2 = rw netlist-is (demands.demand2 (decode s) is-good false N P small st ok)
+
+    -- and the net of a resolved signal bit that bit's value
+    pub resolved : (u : Valuation) (t : Setting) (c : Contents) (p i k : ℕ) → signalBit st p i ≡ some k
+        → settled (decode s) u t c p i ≡ net (netlist (Call.bufferAfter s N P buffer scratch)) t c k
+    resolved = rw netlist-is (demands.resolved (decode s) is-good false N P small st ok)
 
     demand3-here : Demand3 (decode s) (netlist (Call.bufferAfter s N P buffer scratch))
-    demand3-here = rw netlist-is (demands.demand3 (decode s) is-good N P small st ok)
+    demand3-here = rw netlist-is (demands.demand3 (decode s) is-good false N P small st ok)
 
     determined-here : (u u′ : Valuation) (c : Contents) (settings : List Setting) → run (ofModule (decode s) u) c settings ≡ run (ofModule (decode s) u′) c settings
-    determined-here = demands.determined (decode s) is-good N P small st ok
+    determined-here = demands.determined (decode s) is-good false N P small st ok
 
     image-length : length (words N P (st .netlist)) ≡ netlistNeed N P
     unfolding netlistNeed
@@ -113,13 +119,19 @@ module _ (s : List ℕ) (N P : ℕ) (buffer scratch : List ℕ) where
     unfolding Promise.answer
     both = then-both _ _ yes
 
-    -- "module and netlist show the same": over every list of settings, from all first contents
+    pub passes : checked s N P (length buffer) (length scratch) ≡ Fine
+    passes = both .0
+
+    pub ended : Ends s N P
+    ended = ends s N P (both .1)
+
+    -- over every list of settings, from all first contents, module and netlist show the same
     pub demand3 : Demand3 (decode s) (netlist (Call.bufferAfter s N P buffer scratch))
-    demand3 = let e = ends s N P (both .1) in demand3-here s N P buffer scratch (both .0) (e .state) (e .is)
+    demand3 = demand3-here s N P buffer scratch passes (ended .state) (ended .is)
 
     -- the module has one run: what it shows does not hang on the values before the first round
     pub determined : (u u′ : Valuation) (c : Contents) (settings : List Setting) → run (ofModule (decode s) u) c settings ≡ run (ofModule (decode s) u′) c settings
-    determined = let e = ends s N P (both .1) in determined-here s N P buffer scratch (both .0) (e .state) (e .is)
+    determined = determined-here s N P buffer scratch passes (ended .state) (ended .is)
 
   -- a call that answers and leaves what the definitions say keeps the promise
   pub promise : (a : Answer) (buffer′ scratch′ : List ℕ) → a ≡ Call.answer s N P buffer scratch → buffer′ ≡ Call.bufferAfter s N P buffer scratch
