@@ -20,7 +20,14 @@ fn judge(space: &mut [u8]) {
     let read = io::read_full(0, space);
     let judged = if read < 32768 { read } else { 32768 };
     let mut answer = [0u32; 3];
-    struo::struo_check(fields::stretch(space, 0, judged), 1024, 2048, 8208, 8192, &mut answer);
+    struo::struo_check(
+        fields::stretch(space, 0, judged),
+        1024,
+        2048,
+        8208,
+        8192,
+        &mut answer,
+    );
     print_answer(answer);
 }
 
