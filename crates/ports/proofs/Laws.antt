@@ -51,11 +51,11 @@ abbrev pub ahead : List ℕ → Made (List ℕ) → Made (List ℕ)
 ahead ns (refused k x y) = refused k x y
 ahead ns (done (ms, l)) = done (ns ++ ms, l)
 
-ahead-none : (m : Made (List ℕ)) → ahead [] m ≡ m
+pub ahead-none : (m : Made (List ℕ)) → ahead [] m ≡ m
 ahead-none (refused k x y) = refl
 ahead-none (done (ms, l)) = refl
 
-ahead-also : (ns : List ℕ) (k : ℕ) (m : Made (List ℕ)) → ahead ns (also k m) ≡ ahead (ns ++ (k ∷ [])) m
+pub ahead-also : (ns : List ℕ) (k : ℕ) (m : Made (List ℕ)) → ahead ns (also k m) ≡ ahead (ns ++ (k ∷ [])) m
 ahead-also ns k (refused j x y) = refl
 ahead-also ns k (done (ms, l)) = ap (λ (t : List ℕ). done (t, l)) (sym (append-assoc ns (k ∷ []) ms))
 
