@@ -5,15 +5,17 @@ use mathlib.Core.List.{List, [], _∷_, _++_}
 use mathlib.Core.Option.{Option, none, some}
 use Prim.Native.Nat.{ℕ, zero, suc, _+_, _*_, _-_, _≤_, _<_}
 use native.Mathlib.Omega.{arith}
-use lib.ListN.{length, getD, take, drop, length-append, length-drop}
-use lib.Seq.{sets, sets-eq, take-at, getD-append-add, length-take-le}
-use Rattle.model.specs.Words.{Node, source, Netlist, used}
-use Rattle.model.specs.Builder.{done, Made, from, addNodes, addRecorded, push}
+use lib.ListN.{length, getD, set, take, drop, length-append, length-drop, length-set}
+use lib.Seq.{sets, sets-eq, take-at, getD-append-add, length-take-le, length-sets, drop-cons}
+use Rattle.model.specs.Words.{Node, source, Netlist, used, comparisonKey}
+use Rattle.model.specs.Builder.{done, Made, orMade, from, addNodes, addRecorded, push}
 use Rattle.model.specs.WordCells.{begins, findCell}
 use Rattle.netlist_view.specs.View.{netlistOf, Formed, Built}
 use Rattle.netlist_view.specs.Laws.{withRecord, used-is}
-use Rattle.netlist_index.specs.Index.{isCell, keyLength, Key, keyOf, firstOutput, hashKey, Chained, Indexed, CellsIndexed, Held}
+use Rattle.netlist_index.specs.Index.{isGate, isCell, keyLength, Key, keyOf, firstOutput, hashKey, Chained, Indexed, CellsIndexed, Held}
 use Rattle.netlist_index.specs.CellLaws.{begins-self, key-cell, key-length, key-is, Fresh, cells-push, cellLinked}
+use Rattle.netlist_view.specs.Formed.{formed-comparison}
+use Rattle.netlist_index.specs.CellSearch.{outputs, Outputs}
 use Rattle.nodes.specs.declared.Added.{Added}
 use Rattle.nodes.specs.declared.Added.the-variants.{Net, TooManyNets, ListFull}
 use Rattle.lists.specs.Pushes.{pushedOf, Pushes}
@@ -21,7 +23,7 @@ use Rattle.lists.specs.declared.Pushed.the-variants as P
 use Rattle.ports.specs.Fills.{runOf, Runs}
 use Rattle.ports.proofs.Laws.{length-from, from-at, Refusal, Ran, nodes-ran, refused-run, pushed-run}
 use Rattle.cell_index.specs.Found.{Links}
-use Rattle.cells.specs.Cells.{Ready, Makes}
+use Rattle.cells.specs.Cells.{Ready, Makes, CellKey}
 
 -- ---- the gates' index does not see the cells' ----
 
@@ -109,4 +111,78 @@ pub cell-refused : (n b : ℕ) (key w idx w₁ : List ℕ) (made : Made (List �
 cell-refused n b key w idx w₁ made x q d g = record {
   says = ap (addRecorded key) (g .says) ∙ refused-run key x q b (netlistOf n w₁);
   held = g .held idx d;
+}
+
+-- ---- keys ----
+
+take-sets : (b vs : List ℕ) (i : ℕ) → i + length vs ≤ length b → take (i + length vs) (sets b i vs) ≡ take i b ++ vs
+take-sets b vs i h =
+    let tk : length (take i b) ≡ i = length-take-le i b (omega arith) in
+    ap (take (i + length vs)) (sets-eq vs b i h)
+    ∙ take-at (take i b ++ vs) (drop (i + length vs) b) (i + length vs) (length-append (take i b) vs ∙ omega arith)
+
+front-three : (b : List ℕ) (x y z : ℕ) → 3 ≤ length b → take 3 (set (set (set b 0 x) 1 y) 2 z) ≡ x ∷ y ∷ z ∷ []
+front-three [] x y z h = absurd (omega arith)
+front-three (a ∷ []) x y z h = absurd (omega arith)
+front-three (a ∷ c ∷ []) x y z h = absurd (omega arith)
+front-three (a ∷ c ∷ d ∷ b) x y z h = refl
+
+pub comparison-put : (b : List ℕ) (op : ℕ) (lhs rhs : List ℕ) → length rhs ≡ length lhs → 3 + 2 * length lhs ≤ length b
+    → take (3 + 2 * length lhs) (sets (sets (set (set (set b 0 4) 1 op) 2 (length lhs)) 3 lhs) (3 + length lhs) rhs) ≡ comparisonKey op lhs rhs
+comparison-put b op lhs rhs e h =
+    let b₀ = set (set (set b 0 4) 1 op) 2 (length lhs) in
+    let l₀ : length b₀ ≡ length b = simp length-set in
+    let l₁ : length (sets b₀ 3 lhs) ≡ length b = length-sets b₀ 3 lhs ∙ l₀ in
+    let k : 3 + 2 * length lhs ≡ 3 + length lhs + length rhs = omega arith in
+    ap (λ (j : ℕ). take j (sets (sets b₀ 3 lhs) (3 + length lhs) rhs)) k
+    ∙ take-sets (sets b₀ 3 lhs) rhs (3 + length lhs) (omega arith)
+    ∙ ap (λ (t : List ℕ). t ++ rhs) (take-sets b₀ lhs 3 (omega arith) ∙ ap (λ (t : List ℕ). t ++ lhs) (front-three b 4 op (length lhs) (omega arith)))
+
+pub comparison-key : (op : ℕ) (lhs rhs : List ℕ) → length rhs ≡ length lhs → 0 < length lhs → CellKey 11 1 (comparisonKey op lhs rhs)
+unfolding isCell keyLength outputs isGate from
+comparison-key op lhs rhs e h =
+    let len : length (lhs ++ rhs) ≡ length lhs + length rhs = length-append lhs rhs in
+    record {
+      whole = record { cell = refl; long = omega arith; some = omega arith };
+      outs = refl;
+      node = λ owner. refl;
+      some = omega arith;
+      few = omega arith;
+      formed = λ first. formed-comparison op lhs rhs first e;
+    }
+
+-- ---- shared, or made ----
+
+pub ready : (n h kind b : ℕ) (w idx buffer : List ℕ) (k : ℕ) → Held n w idx → CellKey kind b (take k buffer) → h ≡ hashKey n (take k buffer) → h < n
+    → findCell (take k buffer) (netlistOf n w .records) ≡ none → k + b ≤ length buffer → Ready n h kind b (take k buffer) w idx buffer
+ready n h kind b w idx buffer k d c e l f room =
+    let kl : length (take k buffer) ≡ k = length-take-le k buffer (omega arith) in
+    record {
+      held = d;
+      whole = c .whole;
+      hash = e;
+      less = l;
+      new = f;
+      node = c .node;
+      some = c .some;
+      few = c .few;
+      front = ap (λ (j : ℕ). take j buffer) kl;
+      room = omega arith;
+      formed = c .formed;
+    }
+
+pub made-new : (m : Made (List ℕ)) (n b : ℕ) (key w idx : List ℕ) (l : Netlist) (r : Added) → findCell key (l .records) ≡ none → Makes m n b r w idx
+    → Makes (orMade (findCell key (l .records)) l m) n b r w idx
+made-new m n b key w idx l r e g = record { says = ap (λ (o : Option (List ℕ)). orMade o l m) e ∙ g .says; held = g .held }
+
+one-word : (w : List ℕ) (p : ℕ) → p + 1 ≤ length w → take 1 (drop p w) ≡ from (getD w p 0) 1
+unfolding from
+one-word w p h = ap (take 1) (drop-cons w p 0 (omega arith))
+
+pub made-shared : (m : Made (List ℕ)) (n : ℕ) (key w idx : List ℕ) (p : ℕ) → Held n w idx → outputs key ≡ 1 → Outputs n key w p
+    → Makes (orMade (findCell key (netlistOf n w .records)) (netlistOf n w) m) n 1 (Net (getD w p 0)) w idx
+made-shared m n key w idx p d e o = record {
+  says = ap (λ (x : Option (List ℕ)). orMade x (netlistOf n w) m) (o .says)
+      ∙ ap (λ (t : List ℕ). done (t, netlistOf n w)) (ap (λ (j : ℕ). take j (drop p w)) e ∙ one-word w p (omega (arith, o .within)));
+  held = d;
 }

@@ -12,6 +12,10 @@ use Rattle.netlist_view.specs.View.{netlistOf, Formed}
 use Rattle.netlist_index.specs.Index.{isGate, Key, hashKey, Held}
 use Rattle.nodes.specs.declared.Added.{Added}
 use Rattle.ports.specs.Fills.{runOf}
+use Rattle.model.specs.Builder as B
+use Rattle.netlist_index.specs.CellSearch.{outputs}
+use Rattle.cells.specs.declared.ComparisonOp.{ComparisonOp}
+use Rattle.cells.specs.declared.ComparisonOp.the-variants.{LessThanUnsigned, LessOrEqualUnsigned, LessThanSigned, LessOrEqualSigned}
 
 -- the words in front of a buffer are the key of a cell that is not there yet, with room for b outputs
 pub record Ready (n h kind b : ℕ) (key w idx buffer : List ℕ) : Type 0 where
@@ -31,3 +35,18 @@ pub record Ready (n h kind b : ℕ) (key w idx buffer : List ℕ) : Type 0 where
 pub record Makes (model : Made (List ℕ)) (n b : ℕ) (r : Added) (w idx : List ℕ) : Type 0 where
   pub says : model ≡ runOf r b (netlistOf n w)
   pub held : Held n w idx
+
+-- the key of a cell with b outputs, whose nodes are of a kind
+pub record CellKey (kind b : ℕ) (key : List ℕ) : Type 0 where
+  pub whole : Key key
+  pub outs : outputs key ≡ b
+  pub node : (owner : ℕ) → isGate (source kind owner 0) ≡ false
+  pub some : 0 < b
+  pub few : b ≤ 1024
+  pub formed : (first : ℕ) → Formed (key ++ from first b)
+
+abbrev pub compareOf : ComparisonOp → B.ComparisonOp
+compareOf LessThanUnsigned = B.LessThanUnsigned
+compareOf LessOrEqualUnsigned = B.LessOrEqualUnsigned
+compareOf LessThanSigned = B.LessThanSigned
+compareOf LessOrEqualSigned = B.LessOrEqualSigned
