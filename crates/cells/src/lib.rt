@@ -13,7 +13,7 @@ use lists::Pushed;
 use nodes::Added;
 
 // A new cell: its output nodes, its record, its place in the index. The first k words of the buffer are its key.
-fn add_cell(
+pub fn add_cell(
     net: &mut [u32],
     idx: &mut [u32],
     n: u32,
