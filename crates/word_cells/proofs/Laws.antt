@@ -21,12 +21,12 @@ use Rattle.netlist_index.specs.CellSearch.{outputs, Outputs}
 use Rattle.nodes.specs.declared.Added.{Added}
 use Rattle.nodes.specs.declared.Added.the-variants.{Net, TooManyNets, ListFull}
 use Rattle.ports.proofs.Laws.{length-from, from-at, Refusal, nodes-ran}
-use Rattle.constants.specs.Values.{carryOf, filledOf, Fills, refusalOf}
-use Rattle.constants.specs.declared.Filled.{Filled}
-use Rattle.constants.specs.declared.Filled.the-variants as F
+use Rattle.constant_fold.specs.Values.{carryOf, filledOf, Fills, refusalOf}
+use Rattle.constant_fold.specs.declared.Filled.{Filled}
+use Rattle.constant_fold.specs.declared.Filled.the-variants as F
 use Rattle.cells.specs.Cells.{CellKey, Makes}
 use Rattle.cells.proofs.Laws.{take-sets}
-use Rattle.constants.proofs.Laws.{sets-all}
+use Rattle.constant_fold.proofs.Laws.{sets-all}
 
 -- ---- the key ----
 

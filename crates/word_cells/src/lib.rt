@@ -7,12 +7,12 @@ ghost use Rattle.model.specs.Builder.{addNodes, addRecorded, arithmeticWord};
 ghost use Rattle.model.specs.WordCells as W;
 ghost use Rattle.netlist_view.specs.View.{netlistOf};
 ghost use Rattle.netlist_index.specs.Index.{Held};
-ghost use Rattle.constants.specs.Values.{opOf, carryOf, Fills};
+ghost use Rattle.constant_fold.specs.Values.{opOf, carryOf, Fills};
 ghost use Rattle.cells.specs.Cells.{Ready};
 ghost use Rattle.word_cells.specs.Operands.{Operands};
 use cell_index::Found;
-use constants::ArithmeticOp;
-use constants::Filled;
+use constant_fold::ArithmeticOp;
+use constant_fold::Filled;
 use nodes::Added;
 
 fn arithmetic_word(op: ArithmeticOp) -> u32
@@ -56,7 +56,7 @@ fn add_arithmetic(
     let w = out.len() as u32;
     let x = cells::add_cell(net, idx, n, h, 10, owner, buffer, k, w);
     let Added::Net(first) = x else {
-        return constants::refusal(x);
+        return constant_fold::refusal(x);
     };
     ports::put_run(out, 0, first, w);
     Filled::Done
@@ -96,8 +96,8 @@ fn compute(
             Filled::Done
         }
         Found::Nothing => {
-            if constants::fold_constant_arithmetic(net, op, lhs, rhs, carry, out, x, y) {
-                return constants::add_constants(net, idx, n, out);
+            if constant_fold::fold_constant_arithmetic(net, op, lhs, rhs, carry, out, x, y) {
+                return constant_fold::add_constants(net, idx, n, out);
             }
             add_arithmetic(net, idx, n, h, buffer, k, out)
         }

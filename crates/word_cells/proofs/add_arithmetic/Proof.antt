@@ -4,7 +4,7 @@ use Rattle.word_cells.proofs.add_arithmetic.Tie as tie
 use Rattle.word_cells.proofs.add_arithmetic.Reads as reads
 use Rattle.word_cells.proofs.add_arithmetic.Lts as lts
 use Rattle.cells.proofs.add_cell.Reads as add-cell-reads
-use Rattle.constants.proofs.refusal.Reads as refusal-reads
+use Rattle.constant_fold.proofs.refusal.Reads as refusal-reads
 use Rattle.ports.proofs.put_run.Reads as put-run-reads
 use mathlib.Core.Path.{_≡_, refl, sym, ap, subst, _∙_}
 use Prim.Native.Nat.{ℕ, _+_}
@@ -15,7 +15,7 @@ use Rattle.model.specs.Builder.{from, addNodes, addRecorded}
 use Rattle.netlist_view.specs.View.{netlistOf}
 use Rattle.netlist_view.specs.Laws.{records-count}
 use Rattle.ports.proofs.Laws.{not-net, length-from}
-use Rattle.constants.proofs.Laws.{sets-all}
+use Rattle.constant_fold.proofs.Laws.{sets-all}
 use Rattle.cells.specs.Cells.{Makes}
 use Rattle.word_cells.proofs.Laws.{fills-out, fills-run, first-few}
 

@@ -13,7 +13,7 @@ use native.Mathlib.Omega.{arith}
 use lib.ListN.{length, take, replicate}
 use lib.Seq.{length-take-le}
 use Rattle.model.specs.Words.{arithmeticKey}
-use Rattle.constants.specs.Values.{carryOf}
+use Rattle.constant_fold.specs.Values.{carryOf}
 
 -- src/lib.rt:95:9
 arithmetic-word-requires : tie.Need-arithmetic-word-requires

@@ -5,8 +5,8 @@ use Rattle.word_cells.proofs.compute.Reads as reads
 use Rattle.word_cells.proofs.compute.Lts as lts
 use Rattle.cell_index.proofs.find_cell.Reads as find-cell-reads
 use Rattle.cell_index.proofs.hash_key.Reads as hash-key-reads
-use Rattle.constants.proofs.add_constants.Reads as add-constants-reads
-use Rattle.constants.proofs.fold_constant_arithmetic.Reads as fold-constant-arithmetic-reads
+use Rattle.constant_fold.proofs.add_constants.Reads as add-constants-reads
+use Rattle.constant_fold.proofs.fold_constant_arithmetic.Reads as fold-constant-arithmetic-reads
 use Rattle.word_cells.proofs.add_arithmetic.Reads as add-arithmetic-reads
 use Rattle.word_cells.proofs.copy_outputs.Reads as copy-outputs-reads
 use mathlib.Core.Path.{_≡_, refl, sym, ap, subst, _∙_}
@@ -24,8 +24,8 @@ use Rattle.netlist_view.specs.View.{netlistOf}
 use Rattle.netlist_index.specs.CellSearch.{Outputs, outputs}
 use Rattle.cell_index.specs.Found.{Finds}
 use Rattle.cell_index.specs.declared.Found.{Found}
-use Rattle.constants.specs.Values.{opOf, carryOf, Fills}
-use Rattle.constants.proofs.Laws.{values-none, values-some}
+use Rattle.constant_fold.specs.Values.{opOf, carryOf, Fills}
+use Rattle.constant_fold.proofs.Laws.{values-none, values-some}
 use Rattle.cells.specs.Cells.{CellKey, Ready}
 use Rattle.cells.proofs.Laws.{ready}
 use Rattle.word_cells.proofs.Laws.{arithmetic-key, shared, folds, makes}
