@@ -1,13 +1,13 @@
 -- Constants and gates: older nodes never change, and the records stay. Assumes nothing.
-use mathlib.Core.Path.{_≡_, refl, sym, ap, _∙_}
+use mathlib.Core.Path.{_≡_, refl}
 use mathlib.Core.Bool.{Bool, true, false, cond, _||_}
 use mathlib.Core.List.{List, [], _∷_, _++_}
 use mathlib.Core.Option.{Option, none, some}
-use Prim.Native.Nat.{ℕ, min, max}
+use Prim.Native.Nat.{ℕ}
 use lib.Dec.{eqb, ltb}
 use lib.ListN.{length}
-use Rattle.model.specs.Words.{Node, Netlist, absent, gate}
-use Rattle.model.specs.Builder.{Out, refused, done, Made, nodeForNet, constantValue, isConstant, find, orMade, notBy, muxBy, addNode, addCached, addConstant, addNot, addAnd, addOr, addXor, addMux}
+use Rattle.model.specs.Words.{Node, Netlist}
+use Rattle.model.specs.Builder.{refused, done, Made, nodeForNet, constantValue, isConstant, find, orMade, notBy, muxBy, addNode, addCached, addConstant, addNot, addAnd, addOr, addXor, addMux}
 
 -- l′ has the nodes of l, and perhaps newer ones, and the records of l
 pub record Grows (l l′ : Netlist) : Type 0 where

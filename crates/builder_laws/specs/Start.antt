@@ -1,13 +1,11 @@
 -- After a start, with an index of zeros, the builder's invariant holds. Assumes nothing.
-use mathlib.Core.Path.{_≡_, refl, sym, ap, subst, _∙_}
+use mathlib.Core.Path.{_≡_, refl, sym, subst, _∙_}
 use mathlib.Core.List.{List, []}
-use Prim.Native.Nat.{ℕ, zero, suc, _+_, _*_, _<_}
-use native.Mathlib.Omega.{arith}
-use lib.ListN.{length, getD, drop, replicate, length-replicate}
+use Prim.Native.Nat.{ℕ, zero, suc, _+_, _*_}
+use lib.ListN.{length, getD, drop, length-replicate}
 use lib.Seq.{getD-drop}
 use Rattle.model.specs.Words.{Netlist}
 use Rattle.model.specs.WordCells.{findCell}
-use Rattle.netlist_view.specs.View.{netlistOf}
 use Rattle.netlist_view.specs.Laws.{zeros, empty, Holds}
 use Rattle.netlist_index.specs.Index.{newest, newestCell, findNewest, Indexed, CellsIndexed, Held}
 

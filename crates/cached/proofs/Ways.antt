@@ -1,22 +1,20 @@
 -- The ways through add_cached, each as a law of the model. Assumes nothing.
-use mathlib.Core.Path.{_≡_, refl, sym, ap, _∙_}
-use mathlib.Core.Bool.{Bool, true, false, not, cond, _&&_}
+use mathlib.Core.Path.{_≡_, sym}
+use mathlib.Core.Bool.{true}
 use mathlib.Core.List.{List, [], _∷_}
-use mathlib.Core.Option.{Option, none, some}
-use Prim.Native.Nat.{ℕ, zero, suc, _+_, _*_, _≤_, _<_, min, max}
+use mathlib.Core.Option.{none, some}
+use Prim.Native.Nat.{ℕ, _≤_, _<_}
 use native.Mathlib.Omega.{arith}
-use native.Mathlib.Nat.{mod-lt}
 use lib.ListN.{length, getD}
-use lib.Dec.{eqb, ltb}
-use borrow.Author.Tests.{eq-eqb, ne-eqb, lt-ltb, le-ltb}
-use Rattle.model.specs.Words.{absent, Node, node, gate, Netlist}
-use Rattle.model.specs.Builder.{find, addNode, addCached, refused, done, Made}
+use borrow.Author.Tests.{lt-ltb, le-ltb}
+use Rattle.model.specs.Words.{Node, node}
+use Rattle.model.specs.Builder.{find, addNode, addCached, done}
 use Rattle.netlist_view.specs.View.{nodesOf, netlistOf}
 use Rattle.netlist_view.specs.Laws.{count-is, withNode, Holds}
 use Rattle.netlist_index.specs.Index.{mixed, hashWords, isGate, hashNode, Held}
 use Rattle.netlist_index.specs.Laws.{linked}
 use Rattle.netlist_index.specs.Held.{held-gate}
-use Rattle.nodes.specs.Gives.{outOf, Gives}
+use Rattle.nodes.specs.Gives.{Gives}
 use Rattle.nodes.specs.declared.Added.the-variants.{Net, TooManyNets}
 
 pub gate-is : (k o b x y z : ℕ) → 0 < k → k < 7 → isGate (node k o b x y z) ≡ true

@@ -1,19 +1,18 @@
 -- The loops over a key, and the words of a cell's place. Assumes nothing.
 use mathlib.Core.Path.{_≡_, refl, sym, ap, ap₂, _∙_}
-use mathlib.Core.Bool.{Bool, true, false, cond}
+use mathlib.Core.Bool.{true, false}
 use mathlib.Core.List.{List, [], _∷_}
 use Prim.Native.Nat.{ℕ, zero, suc, _+_, _*_, _-_, _≤_, _<_}
 use native.Mathlib.Omega.{arith}
 use native.Mathlib.Numerals.{add-one}
 use native.Mathlib.Nat.{add-zero}
-use lib.ListN.{length, getD, set, drop, length-drop, drop-of-length-le}
+use lib.ListN.{length, getD, set, drop, drop-of-length-le}
 use lib.Seq.{drop-cons, drop-set-add, getD-drop, getD-set-other}
-use lib.Dec.{eqb}
 use borrow.Author.Tests.{eq-eqb, ne-eqb}
 use Rattle.model.specs.Words.{absent}
 use Rattle.model.specs.WordCells.{begins}
 use Rattle.netlist_index.specs.Index.{mixed, hashWords, keyLength, firstOutput}
-use Rattle.netlist_index.specs.CellLaws.{begins-hit, begins-miss, cellLinked}
+use Rattle.netlist_index.specs.CellLaws.{begins-hit, begins-miss}
 use Rattle.cell_index.specs.Found.{Links}
 
 -- ---- the hash ----

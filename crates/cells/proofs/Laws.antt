@@ -1,27 +1,27 @@
 -- A new cell: its record in the buffer, the netlist's invariant after it. Assumes nothing.
-use mathlib.Core.Path.{_≡_, refl, sym, ap, ap₂, subst, _∙_}
-use mathlib.Core.Bool.{Bool, true, false}
+use mathlib.Core.Path.{_≡_, refl, sym, ap, subst, _∙_}
+use mathlib.Core.Bool.{true}
 use mathlib.Core.List.{List, [], _∷_, _++_}
 use mathlib.Core.Option.{Option, none, some}
-use Prim.Native.Nat.{ℕ, zero, suc, _+_, _*_, _-_, _≤_, _<_}
+use Prim.Native.Nat.{ℕ, _+_, _*_, _≤_, _<_}
 use native.Mathlib.Omega.{arith}
 use lib.ListN.{length, getD, set, take, drop, length-append, length-drop, length-set}
 use lib.Seq.{sets, sets-eq, take-at, getD-append-add, length-take-le, length-sets, drop-cons}
-use Rattle.model.specs.Words.{Node, source, Netlist, used, comparisonKey}
-use Rattle.model.specs.Builder.{done, Made, orMade, from, addNodes, addRecorded, push}
+use Rattle.model.specs.Words.{Node, Netlist, used, comparisonKey}
+use Rattle.model.specs.Builder.{done, Made, orMade, from, addRecorded}
 use Rattle.model.specs.WordCells.{begins, findCell}
-use Rattle.netlist_view.specs.View.{netlistOf, Formed, Built}
-use Rattle.netlist_view.specs.Laws.{withRecord, used-is}
-use Rattle.netlist_index.specs.Index.{isGate, isCell, keyLength, Key, keyOf, firstOutput, hashKey, Chained, Indexed, CellsIndexed, Held}
+use Rattle.netlist_view.specs.View.{netlistOf, Built}
+use Rattle.netlist_view.specs.Laws.{withRecord}
+use Rattle.netlist_index.specs.Index.{isGate, isCell, keyLength, keyOf, firstOutput, hashKey, Chained, Indexed, CellsIndexed, Held}
 use Rattle.netlist_index.specs.CellLaws.{begins-self, key-cell, key-length, key-is, Fresh, cells-push, cellLinked}
 use Rattle.netlist_view.specs.Formed.{formed-comparison}
 use Rattle.netlist_index.specs.CellSearch.{outputs, Outputs}
 use Rattle.nodes.specs.declared.Added.{Added}
-use Rattle.nodes.specs.declared.Added.the-variants.{Net, TooManyNets, ListFull}
-use Rattle.lists.specs.Pushes.{pushedOf, Pushes}
+use Rattle.nodes.specs.declared.Added.the-variants.{Net, ListFull}
+use Rattle.lists.specs.Pushes.{Pushes}
 use Rattle.lists.specs.declared.Pushed.the-variants as P
-use Rattle.ports.specs.Fills.{runOf, Runs}
-use Rattle.ports.proofs.Laws.{length-from, from-at, Refusal, Ran, nodes-ran, refused-run, pushed-run}
+use Rattle.ports.specs.Fills.{Runs}
+use Rattle.ports.proofs.Laws.{length-from, from-at, Refusal, Ran, refused-run, pushed-run}
 use Rattle.cell_index.specs.Found.{Links}
 use Rattle.cells.specs.Cells.{Ready, Makes, CellKey}
 

@@ -1,10 +1,9 @@
 -- The ways through the gates' code, each as a law of the model. Assumes nothing.
-use mathlib.Core.Path.{_≡_, refl, sym, ap, _∙_}
+use mathlib.Core.Path.{_≡_, refl, _∙_}
 use mathlib.Core.Bool.{Bool, true, false, not}
 use mathlib.Core.List.{List}
-use mathlib.Core.Option.{Option, none, some}
-use Prim.Native.Nat.{ℕ, _<_, min, max}
-use native.Mathlib.Omega.{arith}
+use mathlib.Core.Option.{none, some}
+use Prim.Native.Nat.{ℕ, min, max}
 use borrow.Author.Tests.{eq-eqb, ne-eqb}
 use Rattle.model.specs.Words.{absent, gate, Netlist}
 use Rattle.model.specs.Builder.{done, Made, nodeForNet, constantValue, isValue, isConstant, addCached, addConstant, addNot, addAnd, addOr, addXor, addMux}

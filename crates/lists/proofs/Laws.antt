@@ -1,15 +1,14 @@
 -- A copy as a run of stores; the ways of a push. Assumes nothing.
 use mathlib.Core.Path.{_≡_, refl, sym, ap, _∙_}
-use mathlib.Core.Bool.{Bool, true, false}
 use mathlib.Core.List.{List, [], _∷_, _++_}
-use Prim.Native.Nat.{ℕ, zero, suc, _+_, _*_, _-_, _≤_, _<_}
+use Prim.Native.Nat.{ℕ, _+_, _≤_, _<_}
 use native.Mathlib.Omega.{arith}
 use native.Mathlib.Numerals.{add-one}
 use lib.ListN.{length, getD, set, take, drop, length-set}
 use lib.Seq.{paste, paste-zero, paste-suc, sets, sets-eq, take-all}
 use borrow.Author.Tests.{le-leb, lt-leb}
 use Rattle.model.specs.Words.{absent, used}
-use Rattle.model.specs.Builder.{refused, done, push}
+use Rattle.model.specs.Builder.{done, push}
 use Rattle.netlist_view.specs.View.{room, netlistOf, Formed, Built}
 use Rattle.netlist_view.specs.Laws.{used-is, withRecord, Holds}
 use Rattle.netlist_index.specs.CellLaws.{held-record}

@@ -1,10 +1,10 @@
 -- Laws of the index over word cells: keys, and one record more. Assumes nothing.
 use mathlib.Core.Path.{_≡_, refl, sym, ap, ap₂, subst, _∙_}
-use mathlib.Core.Bool.{Bool, true, false, cond, _&&_, _||_}
+use mathlib.Core.Bool.{Bool, true, false, cond, _||_}
 use mathlib.Core.List.{List, [], _∷_, _++_, reverse, reverseAux}
 use mathlib.Core.Logic.{_≢_}
-use mathlib.Core.Option.{Option, none, some}
-use Prim.Native.Nat.{ℕ, zero, suc, _+_, _*_, _-_, _%_, _≤_, _<_}
+use mathlib.Core.Option.{none, some}
+use Prim.Native.Nat.{ℕ, suc, _+_, _*_, _≤_, _<_}
 use native.Mathlib.Omega.{arith}
 use native.Mathlib.Nat.{mod-lt}
 use lib.ListN.{length, getD, set, take, drop, length-set}
@@ -15,7 +15,7 @@ use Rattle.model.specs.Words.{absent, Netlist, used}
 use Rattle.model.specs.WordCells.{begins, findCell}
 use Rattle.netlist_view.specs.View.{netlistOf}
 use Rattle.netlist_view.specs.Laws.{withRecord, Holds}
-use Rattle.netlist_index.specs.Index.{hashWords, isCell, keyLength, Key, keyOf, firstOutput, hashKey, cellBucket, newestCell, findNewest, Linked, CellsChained, CellsIndexed, Indexed, Held}
+use Rattle.netlist_index.specs.Index.{hashWords, isCell, keyLength, Key, keyOf, firstOutput, hashKey, cellBucket, newestCell, findNewest, CellsChained, CellsIndexed, Indexed, Held}
 
 pub reverse-snoc : {A : Type 0} (xs : List A) (x : A) → reverse (xs ++ (x ∷ [])) ≡ x ∷ reverse xs
 reverse-snoc xs x = go xs []

@@ -1,21 +1,21 @@
 -- The search for a cell by its key, along a bucket's chain, and where the cells stand in the words. Assumes nothing.
 use mathlib.Core.Path.{_≡_, refl, sym, ap, ap₂, subst, _∙_}
-use mathlib.Core.Bool.{Bool, true, false, cond, _&&_, _||_}
+use mathlib.Core.Bool.{Bool, true, false, cond, _||_}
 use mathlib.Core.List.{List, [], _∷_, _++_, append-assoc, append-nil, reverse, reverse-append, reverse-reverse, reverse-cons}
-use mathlib.Core.Option.{Option, none, some}
-use Prim.Native.Nat.{ℕ, zero, suc, _+_, _*_, _-_, _≤_, _<_}
+use mathlib.Core.Option.{none, some}
+use Prim.Native.Nat.{ℕ, suc, _+_, _*_, _-_, _≤_, _<_}
 use native.Mathlib.Omega.{arith}
 use lib.ListN.{length, getD, take, drop, length-append, take-append-drop, length-drop, List·getD-append}
 use lib.Seq.{drop-drop, drop-at, take-at, take-append-le, drop-append-le}
 use lib.Dec.{eqb}
-use borrow.Author.Tests.{eqb-true, eqb-false, eq-eqb, ne-eqb}
+use borrow.Author.Tests.{eqb-true, eq-eqb}
 use Rattle.rules.specs.Rules.{_≡?_, pick}
 use Rattle.meaning.specs.NetlistImage.{recordLength}
-use Rattle.model.specs.Words.{absent, Netlist, used, listWords, words}
+use Rattle.model.specs.Words.{absent, used, listWords, words}
 use Rattle.model.specs.WordCells.{begins, findCell}
 use Rattle.netlist_view.specs.View.{room, netlistOf, Formed, AllFormed, Built}
 use Rattle.netlist_view.specs.Records.{used-length}
-use Rattle.netlist_view.specs.Laws.{words-list, zeros, used-is}
+use Rattle.netlist_view.specs.Laws.{words-list, zeros}
 use Rattle.netlist_index.specs.Index.{isCell, keyLength, Key, keyOf, firstOutput, hashKey, cellBucket, newestCell, findNewest, Linked, CellsChained, CellsIndexed, Held}
 use Rattle.netlist_index.specs.CellLaws.{begins-word, begins-self, begins-append, begins-take, key-cell, key-is, key-length, findNewest-hit, findNewest-miss, newestCell-cons, cell-bucket, bucket-cell, used-back, absurdly}
 

@@ -1,15 +1,15 @@
 -- The builder's invariant after one node more. Assumes nothing.
-use mathlib.Core.Path.{_≡_, refl, sym, ap, subst, _∙_}
-use mathlib.Core.Bool.{Bool, true, false}
+use mathlib.Core.Path.{_≡_, sym, subst, _∙_}
+use mathlib.Core.Bool.{true, false}
 use mathlib.Core.List.{List, [], _∷_, reverse}
-use Prim.Native.Nat.{ℕ, zero, suc, _+_, _*_, _≤_, _<_}
+use Prim.Native.Nat.{ℕ, suc, _+_, _*_, _<_}
 use native.Mathlib.Omega.{arith}
 use lib.ListN.{length, getD, set, drop, length-set}
 use lib.Seq.{drop-set-lt}
 use Rattle.model.specs.Words.{Node, Netlist}
-use Rattle.netlist_view.specs.View.{nodesOf, netlistOf, room, Built}
+use Rattle.netlist_view.specs.View.{netlistOf}
 use Rattle.netlist_view.specs.Laws.{withNode, Holds}
-use Rattle.netlist_index.specs.Index.{hashNode, isGate, isCell, Indexed, Linked, CellsChained, CellsIndexed, Held}
+use Rattle.netlist_index.specs.Index.{hashNode, isGate, Indexed, CellsChained, CellsIndexed, Held}
 use Rattle.netlist_index.specs.Laws.{hash-less, indexed-other, indexed-push, linked}
 
 cells-chained-grow : (m k : ℕ) (rs : List (List ℕ)) (idx : List ℕ) → CellsChained m k rs idx → CellsChained m (suc k) rs idx

@@ -1,21 +1,21 @@
 -- Laws of the index over constants and gates. Assumes nothing.
-use mathlib.Core.Path.{_≡_, refl, sym, ap, subst, _∙_}
+use mathlib.Core.Path.{_≡_, refl, sym, ap, _∙_}
 use mathlib.Core.Bool.{Bool, true, false, cond, _&&_}
 use mathlib.Core.List.{List, [], _∷_}
 use mathlib.Core.Logic.{_≢_, ⊎-elim}
-use mathlib.Core.Option.{Option, none, some}
-use Prim.Native.Nat.{ℕ, zero, suc, _+_, _*_, _-_, _%_, _≤_, _<_}
+use mathlib.Core.Option.{none, some}
+use Prim.Native.Nat.{ℕ, zero, suc, _+_, _-_, _%_, _≤_, _<_}
 use native.Mathlib.Omega.{arith}
 use native.Mathlib.Nat.{eq-or-lt-of-le, mod-lt}
-use lib.ListN.{length, getD, set, drop, length-set}
-use lib.Seq.{getD-set-same, getD-set-other, drop-set-lt}
+use lib.ListN.{length, getD, set, length-set}
+use lib.Seq.{getD-set-same, getD-set-other}
 use lib.Dec.{eqb, ltb}
 use borrow.Author.Tests.{eqb-true, eqb-false, eq-eqb}
-use Rattle.model.specs.Words.{Node, Netlist}
+use Rattle.model.specs.Words.{Node}
 use Rattle.model.specs.Builder.{same, find}
-use Rattle.netlist_view.specs.View.{nodeAt, nodesOf, netlistOf}
+use Rattle.netlist_view.specs.View.{nodeAt, nodesOf}
 use Rattle.netlist_view.specs.Laws.{nodesOf-suc, length-nodesOf}
-use Rattle.netlist_index.specs.Index.{mixed, hashWords, hashNode, isGate, inBucket, newest, Chained, Indexed}
+use Rattle.netlist_index.specs.Index.{hashWords, hashNode, isGate, inBucket, newest, Chained, Indexed}
 
 pub hash-less : (m : ℕ) (x : Node) → 0 < m → hashNode m x < m
 unfolding hashNode

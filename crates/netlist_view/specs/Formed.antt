@@ -1,14 +1,12 @@
 -- Each kind of list record is found again by the image's reader. Assumes nothing.
-use mathlib.Core.Path.{_≡_, refl, sym, ap, _∙_}
+use mathlib.Core.Path.{_≡_, refl, sym}
 use mathlib.Core.List.{List, [], _∷_, _++_, append-assoc}
-use mathlib.Core.Option.{Option}
-use Prim.Native.Nat.{ℕ, suc, _+_, _*_, _<_}
+use Prim.Native.Nat.{ℕ, _<_}
 use native.Mathlib.Omega.{arith}
-use lib.ListN.{length, getD, drop, length-append}
+use lib.ListN.{length, length-append}
 use lib.Seq.{drop-at}
 use Rattle.rules.specs.Rules.{_≡?_, pick}
 use Rattle.meaning.specs.NetlistImage.{recordLength, portLength, portLists}
-use Rattle.model.specs.Words.{absent, optionWord, arithmeticKey, comparisonKey}
 use Rattle.netlist_view.specs.View.{Formed}
 
 pub formed-port : (s w : ℕ) (ns : List ℕ) → length ns ≡ w → Formed (0 ∷ s ∷ w ∷ ns)

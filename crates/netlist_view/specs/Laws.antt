@@ -8,11 +8,11 @@ use native.Mathlib.Omega.{arith}
 use native.Mathlib.Nat.{add-zero, eq-or-lt-of-le}
 use lib.ListN.{length, take, drop, getD, set, replicate, length-append, length-replicate, replicate-append-replicate}
 use borrow.Author.Tests.{eq-eqb, ne-eqb, lt-ltb, le-ltb}
-use lib.Seq.{take-at, drop-at, getD-append-add, getD-drop, sets, sets-eq, drop-drop, drop-append-add}
+use lib.Seq.{take-at, drop-at, getD-append-add, getD-drop, sets, sets-eq, drop-append-add}
 use Rattle.meaning.specs.NetlistImage.{recordsOf, split}
 use Rattle.model.specs.Words.{absent, Node, node, gate, Netlist, bitWord, used, count, nodesWords, listWords, headerWords, words}
 use Rattle.model.specs.Builder.{nodeForNet}
-use Rattle.netlist_view.specs.View.{nodeAt, nodesOf, room, netlistOf, Formed, AllFormed, Fit, Built}
+use Rattle.netlist_view.specs.View.{nodeAt, nodesOf, room, netlistOf, Formed, Fit, Built}
 use Rattle.netlist_view.specs.Records.{used-length, used-snoc, listWords-snoc, count-snoc, count-le, formed-snoc, split-list}
 
 pub nodesOf-suc : (w : List ℕ) (k : ℕ) → nodesOf w (suc k) ≡ nodeAt w k ∷ nodesOf w k

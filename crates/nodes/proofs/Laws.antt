@@ -1,22 +1,21 @@
 -- A node's words as the model reads them; a node more, and none more. Assumes nothing.
-use mathlib.Core.Path.{_≡_, refl, sym, ap, _∙_}
-use mathlib.Core.Bool.{Bool, true, false, cond}
-use mathlib.Core.List.{List, [], _∷_, _++_, append-nil}
-use mathlib.Core.Option.{Option, none, some}
-use Prim.Native.Nat.{ℕ, zero, suc, _+_, _*_, _≤_, _<_}
+use mathlib.Core.Path.{_≡_, sym, ap, _∙_}
+use mathlib.Core.Bool.{Bool, false}
+use mathlib.Core.List.{List, _++_, append-nil}
+use mathlib.Core.Option.{none, some}
+use Prim.Native.Nat.{ℕ, _+_, _*_, _≤_, _<_}
 use native.Mathlib.Omega.{arith}
 use native.Mathlib.Numerals.{add-one, add-two, add-three, add-four, add-five}
 use lib.ListN.{length, getD, set, drop, replicate, drop-of-length-le}
-use lib.Seq.{sets}
 use lib.Dec.{eqb}
 use borrow.Author.Tests.{eq-eqb, ne-eqb, lt-ltb, le-ltb}
-use Rattle.model.specs.Words.{absent, Node, node, gate, Netlist}
-use Rattle.model.specs.Builder.{nodeForNet, constantOf, constantValue, addNode, refused, done}
+use Rattle.model.specs.Words.{absent, Node, node}
+use Rattle.model.specs.Builder.{nodeForNet, constantOf, constantValue, addNode, done}
 use Rattle.netlist_view.specs.View.{nodeAt, netlistOf, Built}
-use Rattle.netlist_view.specs.Laws.{node-there, node-past, node-pushed, count-is, withNode, Holds, nodeWords}
-use Rattle.netlist_index.specs.Index.{isGate, Held}
+use Rattle.netlist_view.specs.Laws.{node-there, node-past, node-pushed, count-is, withNode, Holds}
+use Rattle.netlist_index.specs.Index.{isGate}
 use Rattle.netlist_index.specs.Held.{held-other}
-use Rattle.nodes.specs.Gives.{outOf, Adds}
+use Rattle.nodes.specs.Gives.{Adds}
 use Rattle.nodes.specs.declared.Added.the-variants.{Net, TooManyNets}
 
 -- a list filled to its end

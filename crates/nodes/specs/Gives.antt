@@ -5,7 +5,7 @@ use mathlib.Core.List.{List}
 use mathlib.Core.Option.{Option, none, some}
 use Prim.Native.Nat.{ℕ}
 use Rattle.model.specs.Words.{Netlist}
-use Rattle.model.specs.Builder.{Out, refused, done, Made}
+use Rattle.model.specs.Builder.{refused, done, Made}
 use Rattle.netlist_view.specs.View.{netlistOf, Built}
 use Rattle.netlist_index.specs.Index.{Held}
 use Rattle.nodes.specs.declared.Added.{Added}

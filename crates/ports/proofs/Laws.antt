@@ -1,8 +1,8 @@
 -- Runs of numbers and of nodes. Assumes nothing.
-use mathlib.Core.Path.{_≡_, refl, sym, ap, ap₂, _∙_}
+use mathlib.Core.Path.{_≡_, refl, sym, ap, _∙_}
 use mathlib.Core.Bool.{Bool, true, false}
 use mathlib.Core.List.{List, [], _∷_, _++_, append-assoc, append-nil}
-use Prim.Native.Nat.{ℕ, zero, suc, _+_, _*_, _-_, _≤_, _<_}
+use Prim.Native.Nat.{ℕ, zero, suc, _+_, _-_, _≤_, _<_}
 use native.Mathlib.Omega.{arith}
 use native.Mathlib.Numerals.{add-one}
 use lib.ListN.{length, getD, set, take, drop, replicate}
@@ -13,9 +13,9 @@ use mathlib.Core.Logic.{⊎-elim}
 use types.Run.{OneOf}
 use denote.Enum.Declared.{tagOf}
 use Rattle.nodes.proofs.Added.{the-type}
-use Rattle.model.specs.Words.{absent, Node, node, source, Netlist}
-use Rattle.model.specs.Builder.{Out, refused, done, andThen, Made, addNode, also, each, both, from, addNodes, addRecorded, addOutputPort, push}
-use Rattle.netlist_view.specs.View.{nodesOf, netlistOf, Built}
+use Rattle.model.specs.Words.{absent, Node, node, Netlist}
+use Rattle.model.specs.Builder.{refused, done, andThen, Made, addNode, also, each, both, from, addNodes, addRecorded, addOutputPort, push}
+use Rattle.netlist_view.specs.View.{netlistOf, Built}
 use Rattle.netlist_view.specs.Laws.{count-is, withNode}
 use Rattle.netlist_index.specs.Index.{isCell, Held}
 use Rattle.lists.specs.Pushes.{pushedOf, Pushes}

@@ -4,7 +4,7 @@ use mathlib.Core.List.{List}
 use Prim.Native.Nat.{ℕ, _+_, _≤_}
 use lib.ListN.{getD}
 use Rattle.model.specs.Words.{absent, Node, node, Netlist}
-use Rattle.model.specs.Builder.{Out, refused, done, Made, from}
+use Rattle.model.specs.Builder.{refused, done, Made, from}
 use Rattle.netlist_view.specs.View.{netlistOf, Built}
 use Rattle.netlist_index.specs.Index.{Held}
 use Rattle.nodes.specs.declared.Added.{Added}

@@ -1,9 +1,9 @@
 -- An arithmetic cell's key, and the ways to its outputs. Assumes nothing.
-use mathlib.Core.Path.{_≡_, refl, sym, ap, subst, _∙_}
+use mathlib.Core.Path.{_≡_, refl, sym, ap, _∙_}
 use mathlib.Core.Bool.{Bool, true, false, cond}
 use mathlib.Core.List.{List, [], _∷_, _++_}
 use mathlib.Core.Option.{Option, none, some}
-use Prim.Native.Nat.{ℕ, zero, suc, _+_, _*_, _-_, _≤_, _<_}
+use Prim.Native.Nat.{ℕ, _+_, _*_, _-_, _≤_, _<_}
 use native.Mathlib.Omega.{arith}
 use lib.ListN.{length, getD, set, take, drop, length-append, length-set, length-drop}
 use lib.Seq.{sets, length-sets, length-take-le}
@@ -11,7 +11,7 @@ use lib.Dec.{eqb}
 use borrow.Author.Tests.{eqb-true}
 use Rattle.model.specs.Words.{absent, Netlist, source, optionWord, arithmeticKey, count}
 use Rattle.model.specs.Builder as B
-use Rattle.model.specs.Builder.{refused, done, andThen, Made, orMade, from, each, addConstant, addNodes, addRecorded, push, arithmeticWord, addArithmetic, arithmeticBy, foldConstantArithmetic}
+use Rattle.model.specs.Builder.{refused, done, Made, orMade, from, each, addConstant, addNodes, addRecorded, push, arithmeticWord, addArithmetic, foldConstantArithmetic}
 use Rattle.model.specs.WordCells as W
 use Rattle.model.specs.WordCells.{findCell}
 use Rattle.netlist_view.specs.View.{netlistOf}
@@ -21,7 +21,7 @@ use Rattle.netlist_index.specs.CellSearch.{outputs, Outputs}
 use Rattle.nodes.specs.declared.Added.{Added}
 use Rattle.nodes.specs.declared.Added.the-variants.{Net, TooManyNets, ListFull}
 use Rattle.ports.proofs.Laws.{length-from, from-at, Refusal, nodes-ran}
-use Rattle.constant_fold.specs.Values.{carryOf, filledOf, Fills, refusalOf}
+use Rattle.constant_fold.specs.Values.{carryOf, Fills, refusalOf}
 use Rattle.constant_fold.specs.declared.Filled.{Filled}
 use Rattle.constant_fold.specs.declared.Filled.the-variants as F
 use Rattle.cells.specs.Cells.{CellKey, Makes}

@@ -1,40 +1,31 @@
+-- `cached::hash` meets its contract. Assumes nothing.
 use borrow.Author.Needs.{needs}
 use Rattle.cached.proofs.hash.Statement.{statement}
 use Rattle.cached.proofs.hash.Tie as tie
-use Rattle.cached.proofs.hash.Reads as reads
-use Rattle.cached.proofs.hash.Lts as lts
-use Rattle.cached.proofs.mix.Reads as mix-reads
 use native.Mathlib.Nat.{mod-lt}
-use mathlib.Core.Path.{_≡_, refl, sym, ap, _∙_}
-use Rattle.netlist_index.specs.Index.{hashNode, hashWords, mixed}
+use mathlib.Core.Path.{ap}
+use Rattle.netlist_index.specs.Index.{hashNode, hashWords}
 use Prim.Native.Nat.{ℕ, _%_}
 use Rattle.cached.proofs.Ways.{mixed-five}
 
--- src/lib.rt:33:29
 mix-requires : tie.Need-mix-requires
 mix-requires c κs = search needs
 
--- src/lib.rt:33:25
 mix-requires-2 : tie.Need-mix-requires-2
 mix-requires-2 c κs = search needs
 
--- src/lib.rt:33:21
 mix-requires-3 : tie.Need-mix-requires-3
 mix-requires-3 c κs = search needs
 
--- src/lib.rt:33:17
 mix-requires-4 : tie.Need-mix-requires-4
 mix-requires-4 c κs = search needs
 
--- src/lib.rt:33:9
 mix-requires-5 : tie.Need-mix-requires-5
 mix-requires-5 c κs = search needs
 
--- src/lib.rt:34:5
 rem-result : tie.Need-rem-result
 rem-result c = search needs
 
--- src/lib.rt:29:1
 returns : tie.Need-returns
 unfolding hashNode hashWords
 returns c =
