@@ -1,0 +1,2 @@
+-- The words of a constant.
+pub mod Constants

@@ -1,0 +1,1 @@
+// Laws of the expressions that an image stands for. No code.

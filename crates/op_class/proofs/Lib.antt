@@ -1,0 +1,2 @@
+-- Laws of default arms.
+pub mod Among

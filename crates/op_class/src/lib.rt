@@ -1,0 +1,22 @@
+// What the ranges and the fusion ask of an operator: an And, an Add, a Sub, or another.
+ghost use mathlib.Core.Path.{_≡_};
+ghost use Rattle.op_class.specs.OpClass.{opClassOf};
+use records::BinaryOp;
+
+pub enum OpClass {
+    Ands,
+    Adds,
+    Subtracts,
+    Other,
+}
+
+pub fn op_class(op: BinaryOp) -> OpClass
+    ensures { λ r. ⌜ r ≡ opClassOf op ⌝ }
+{
+    match op {
+        BinaryOp::And => OpClass::Ands,
+        BinaryOp::Add => OpClass::Adds,
+        BinaryOp::Sub => OpClass::Subtracts,
+        _ => OpClass::Other,
+    }
+}

@@ -1,0 +1,1 @@
+// Laws of the ranges, of narrowed adders, fused carries and zero expressions. No code.

@@ -1,0 +1,2 @@
+-- What a range's value stands for, and the laws of the rows.
+pub mod Rows
