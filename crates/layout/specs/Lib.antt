@@ -1,0 +1,2 @@
+-- The steps in which the scratch is laid out.
+pub mod Stages

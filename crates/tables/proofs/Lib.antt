@@ -1,0 +1,2 @@
+-- Laws that the proofs of the tables' functions cite.
+pub mod Ways

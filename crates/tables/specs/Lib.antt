@@ -1,0 +1,2 @@
+-- What the answers of the tables stand for.
+pub mod Answers
