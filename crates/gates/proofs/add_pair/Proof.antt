@@ -1,0 +1,62 @@
+use borrow.Author.Needs.{needs}
+use Rattle.gates.proofs.add_pair.Statement.{statement}
+use Rattle.gates.proofs.add_pair.Tie as tie
+use Rattle.gates.proofs.add_pair.Reads as reads
+use Rattle.gates.proofs.add_pair.Lts as lts
+use Rattle.cached.proofs.add_cached.Reads as add-cached-reads
+use mathlib.Core.Path.{_≡_}
+use Prim.Native.Nat.{min, max}
+use native.Mathlib.Omega.{arith}
+
+-- src/lib.rt:61:9
+add-cached-requires : tie.Need-add-cached-requires
+add-cached-requires c κs = search needs
+
+-- src/lib.rt:63:9
+add-cached-requires-2 : tie.Need-add-cached-requires-2
+add-cached-requires-2 c κs = search needs
+
+-- src/lib.rt:56:1
+same-length : tie.Need-same-length
+same-length c = search needs
+
+-- src/lib.rt:56:1
+same-length-2 : tie.Need-same-length-2
+same-length-2 c = search needs
+
+-- src/lib.rt:56:1
+returns : tie.Need-returns
+returns c =
+    let s = c .before .before .before .before .before .before .before .before .before .before .args in
+    let l : min (s .a) (s .b) ≡ s .a = omega arith in
+    let m : max (s .a) (s .b) ≡ s .b = omega arith in
+    rw (l, m) (c .before .before .before .before .add-cached .ensures)
+
+-- src/lib.rt:56:1
+same-length-3 : tie.Need-same-length-3
+same-length-3 c = search needs
+
+-- src/lib.rt:56:1
+same-length-4 : tie.Need-same-length-4
+same-length-4 c = search needs
+
+-- src/lib.rt:56:1
+returns-2 : tie.Need-returns-2
+returns-2 c =
+    let s = c .before .before .before .before .before .before .before .before .before .before .args in
+    let l : min (s .a) (s .b) ≡ s .b = omega arith in
+    let m : max (s .a) (s .b) ≡ s .a = omega arith in
+    rw (l, m) (c .before .before .before .before .add-cached2 .ensures)
+
+pub add-pair-spec : {M : Type 1} → statement M
+add-pair-spec =
+    tie.close
+    (tie.spec
+    add-cached-requires
+    add-cached-requires-2
+    same-length
+    same-length-2
+    returns
+    same-length-3
+    same-length-4
+    returns-2)

@@ -1,0 +1,152 @@
+// Constants and gates, folded as struo-ir folds them.
+ghost use mathlib.Core.Path.{_≡_};
+ghost use Prim.Native.Nat.{ℕ, _+_, _*_, _≤_, _<_, min, max};
+ghost use lib.ListN.{length, getD};
+ghost use Rattle.model.specs.Words.{absent, gate};
+ghost use Rattle.model.specs.Builder.{isConstant, addCached, addConstant, addNot, addAnd, addOr, addXor, addMux};
+ghost use Rattle.netlist_view.specs.View.{netlistOf};
+ghost use Rattle.netlist_index.specs.Index.{Held};
+ghost use Rattle.nodes.specs.Gives.{Gives};
+use cached::add_cached;
+use nodes::ABSENT;
+use nodes::Added;
+use nodes::Constant;
+use nodes::constant_value;
+
+// Whether net k is the constant v.
+pub fn is_constant(net: &[u32], k: u32, v: bool) -> bool
+    requires { ⌜ 16 + 6 * getD (now net) 1 0 ≤ length (now net) ⌝ }
+    ensures { λ r. ⌜ ((n : ℕ) → isConstant v (netlistOf n (now (net .entry))) k ≡ r) ⌝ }
+{
+    match constant_value(net, k) {
+        Constant::Zero => !v,
+        Constant::One => v,
+        Constant::Other => false,
+    }
+}
+
+pub fn add_constant(net: &mut [u32], idx: &mut [u32], n: u32, v: bool) -> Added
+    requires { ⌜ Held n (now net) (now idx) ⌝ }
+    ensures { λ r. ⌜ Gives (addConstant v (netlistOf n (now (net .entry)))) n r (now (net .exit)) (now (idx .exit)) ⌝ }
+{
+    if v {
+        add_cached(net, idx, n, 1, 1, ABSENT, ABSENT, ABSENT)
+    } else {
+        add_cached(net, idx, n, 1, 0, ABSENT, ABSENT, ABSENT)
+    }
+}
+
+pub fn add_not(net: &mut [u32], idx: &mut [u32], n: u32, a: u32) -> Added
+    requires { ⌜ Held n (now net) (now idx) ⌝ }
+    ensures { λ r. ⌜ Gives (addNot a (netlistOf n (now (net .entry)))) n r (now (net .exit)) (now (idx .exit)) ⌝ }
+{
+    match constant_value(net, a) {
+        Constant::Zero => add_constant(net, idx, n, true),
+        Constant::One => add_constant(net, idx, n, false),
+        Constant::Other => {
+            if nodes::kind_of(net, a) == 5 {
+                return Added::Net(nodes::input_of(net, a));
+            }
+            add_cached(net, idx, n, 5, ABSENT, a, ABSENT, ABSENT)
+        }
+    }
+}
+
+// A gate whose pair of inputs is ordered.
+fn add_pair(net: &mut [u32], idx: &mut [u32], n: u32, kind: u32, a: u32, b: u32) -> Added
+    requires { ⌜ (Held n (now net) (now idx)) × (0 < kind) × (kind < 7) ⌝ }
+    ensures { λ r. ⌜ Gives (addCached (gate kind (min a b) (max a b) absent) (netlistOf n (now (net .entry)))) n r (now (net .exit)) (now (idx .exit)) ⌝ }
+{
+    if a < b {
+        add_cached(net, idx, n, kind, ABSENT, a, b, ABSENT)
+    } else {
+        add_cached(net, idx, n, kind, ABSENT, b, a, ABSENT)
+    }
+}
+
+pub fn add_and(net: &mut [u32], idx: &mut [u32], n: u32, a: u32, b: u32) -> Added
+    requires { ⌜ Held n (now net) (now idx) ⌝ }
+    ensures { λ r. ⌜ Gives (addAnd a b (netlistOf n (now (net .entry)))) n r (now (net .exit)) (now (idx .exit)) ⌝ }
+{
+    if a == b {
+        return Added::Net(a);
+    }
+    if is_constant(net, a, false) {
+        return add_constant(net, idx, n, false);
+    }
+    if is_constant(net, b, false) {
+        return add_constant(net, idx, n, false);
+    }
+    if is_constant(net, a, true) {
+        return Added::Net(b);
+    }
+    if is_constant(net, b, true) {
+        return Added::Net(a);
+    }
+    add_pair(net, idx, n, 2, a, b)
+}
+
+pub fn add_or(net: &mut [u32], idx: &mut [u32], n: u32, a: u32, b: u32) -> Added
+    requires { ⌜ Held n (now net) (now idx) ⌝ }
+    ensures { λ r. ⌜ Gives (addOr a b (netlistOf n (now (net .entry)))) n r (now (net .exit)) (now (idx .exit)) ⌝ }
+{
+    if a == b {
+        return Added::Net(a);
+    }
+    if is_constant(net, a, true) {
+        return add_constant(net, idx, n, true);
+    }
+    if is_constant(net, b, true) {
+        return add_constant(net, idx, n, true);
+    }
+    if is_constant(net, a, false) {
+        return Added::Net(b);
+    }
+    if is_constant(net, b, false) {
+        return Added::Net(a);
+    }
+    add_pair(net, idx, n, 3, a, b)
+}
+
+pub fn add_xor(net: &mut [u32], idx: &mut [u32], n: u32, a: u32, b: u32) -> Added
+    requires { ⌜ Held n (now net) (now idx) ⌝ }
+    ensures { λ r. ⌜ Gives (addXor a b (netlistOf n (now (net .entry)))) n r (now (net .exit)) (now (idx .exit)) ⌝ }
+{
+    if a == b {
+        return add_constant(net, idx, n, false);
+    }
+    if is_constant(net, a, false) {
+        return Added::Net(b);
+    }
+    if is_constant(net, b, false) {
+        return Added::Net(a);
+    }
+    if is_constant(net, a, true) {
+        return add_not(net, idx, n, b);
+    }
+    if is_constant(net, b, true) {
+        return add_not(net, idx, n, a);
+    }
+    add_pair(net, idx, n, 4, a, b)
+}
+
+// Where the condition is a Not the sides are exchanged. Its input is no Not, so once is enough.
+pub fn add_mux(net: &mut [u32], idx: &mut [u32], n: u32, c: u32, t: u32, e: u32) -> Added
+    requires { ⌜ Held n (now net) (now idx) ⌝ }
+    ensures { λ r. ⌜ Gives (addMux c t e (netlistOf n (now (net .entry)))) n r (now (net .exit)) (now (idx .exit)) ⌝ }
+{
+    if t == e {
+        return Added::Net(t);
+    }
+    match constant_value(net, c) {
+        Constant::Zero => Added::Net(e),
+        Constant::One => Added::Net(t),
+        Constant::Other => {
+            if nodes::kind_of(net, c) == 5 {
+                let a = nodes::input_of(net, c);
+                return add_cached(net, idx, n, 6, ABSENT, a, e, t);
+            }
+            add_cached(net, idx, n, 6, ABSENT, c, t, e)
+        }
+    }
+}

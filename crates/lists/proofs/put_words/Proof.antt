@@ -1,0 +1,78 @@
+use Rattle.lists.proofs.put_words.Statement.{statement}
+use Rattle.lists.proofs.put_words.Tie as tie
+use Rattle.lists.proofs.put_words.Reads as reads
+use Rattle.lists.proofs.put_words.Lts as lts
+use mathlib.Core.Path.{_≡_, sym, _∙_}
+use Prim.Native.Nat.{ℕ, _-_}
+use native.Mathlib.Omega.{arith}
+use lib.ListN.{length}
+use borrow.Author.Needs.{needs}
+use Rattle.lists.proofs.Laws.{Copied, copied-start, copied-more, copied-end}
+
+abbrev Inv-loop : tie.InvT-loop
+Inv-loop net₀ at r i₀ net i = Copied net₀ at r net i
+
+abbrev μ-loop : tie.MeasureT-loop
+μ-loop net₀ at r i₀ net i = length r - i
+
+-- src/lib.rt:21:5
+loop-holds : tie.Need-loop-holds Inv-loop μ-loop
+loop-holds c = copied-start _ _ _
+
+-- src/lib.rt:22:23
+mul-net : tie.Need-mul-net Inv-loop μ-loop
+mul-net c = omega arith
+
+-- src/lib.rt:22:23
+shared-slice-read-net : tie.Need-shared-slice-read-net Inv-loop μ-loop
+shared-slice-read-net c = omega arith
+
+-- src/lib.rt:22:13
+add-net : tie.Need-add-net Inv-loop μ-loop
+add-net c = omega arith
+
+-- src/lib.rt:22:9
+mul-net-2 : tie.Need-mul-net-2 Inv-loop μ-loop
+mul-net-2 c = omega arith
+
+-- src/lib.rt:22:9
+slice-write-net : tie.Need-slice-write-net Inv-loop μ-loop
+slice-write-net c = omega arith
+
+-- src/lib.rt:23:9
+add-i : tie.Need-add-i Inv-loop μ-loop
+add-i c = omega arith
+
+-- src/lib.rt:21:5
+loop-less : tie.Need-loop-less Inv-loop μ-loop
+loop-less c = omega arith
+
+-- src/lib.rt:21:5
+loop-again : tie.Need-loop-again Inv-loop μ-loop
+loop-again c = copied-more _ _ _ _ _ (c .before .before .loop .inv) (c .before .loop-test .taken) (c .before .before .before .pre)
+
+-- src/lib.rt:16:1
+same-length : tie.Need-same-length Inv-loop μ-loop
+same-length c = c .before .loop .inv .sized
+
+-- src/lib.rt:16:1
+returns : tie.Need-returns Inv-loop μ-loop
+returns c = copied-end _ _ _ _ _ (c .before .loop .inv) (c .loop-test .left) (c .before .before .pre)
+
+pub put-words-spec : {M : Type 1} → statement M
+put-words-spec =
+    tie.close
+    (tie.spec
+    Inv-loop
+    μ-loop
+    loop-holds
+    mul-net
+    shared-slice-read-net
+    add-net
+    mul-net-2
+    slice-write-net
+    add-i
+    loop-less
+    loop-again
+    same-length
+    returns)

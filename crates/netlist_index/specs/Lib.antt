@@ -1,0 +1,5 @@
+pub mod Index
+pub mod Laws
+pub mod Held
+pub mod CellLaws
+pub mod CellSearch

@@ -1,0 +1,1 @@
+// The hash index over gates and cells: definitions and laws in specs/, no code.
