@@ -78,10 +78,10 @@ some-put : (t : List (List (Option ℕ))) (p b q c n : ℕ) → isSome (cell non
 some-put t p b q c n h =
     ⊎-elim
     (λ (r : (p ≡ q) × (getD (put t p b (some n)) q [] ≡ set (getD t p []) b (some n))).
-      rw (r .1)
-      (⊎-elim (λ (e : (b ≡ c) × (getD (set (getD t p []) b (some n)) c none ≡ some n)). ap isSome (e .1))
-      (λ (e : getD (set (getD t p []) b (some n)) c none ≡ getD (getD t p []) c none). ap isSome e ∙ ap (λ (k : ℕ). isSome (getD (getD t k []) c none)) (r .0) ∙ h)
-      (set-or (getD t p []) b c (some n) none)))
+    rw (r .1)
+    (⊎-elim (λ (e : (b ≡ c) × (getD (set (getD t p []) b (some n)) c none ≡ some n)). ap isSome (e .1))
+    (λ (e : getD (set (getD t p []) b (some n)) c none ≡ getD (getD t p []) c none). ap isSome e ∙ ap (λ (k : ℕ). isSome (getD (getD t k []) c none)) (r .0) ∙ h)
+    (set-or (getD t p []) b c (some n) none)))
     (λ (r : getD (put t p b (some n)) q [] ≡ getD t q []). rw r h)
     (set-or t p q (set (getD t p []) b (some n)) [])
 
@@ -111,10 +111,10 @@ grows-whole st e ns (Whole d) h =
 grows-whole st e ns (Range d l w) h =
     ⊎-elim (λ (r : (e ≡ d) × (getD (set (st .expressionBits) e (some ns)) d none ≡ some ns)). rw (r .1))
     (λ (r : getD (set (st .expressionBits) e (some ns)) d none ≡ getD (st .expressionBits) d none).
-      rw r
-      (⊎-elim (λ (q : (e ≡ d) × (getD (set (st .expressionRanges) e []) d [] ≡ [])). rw (q .1) (known-none (getD (st .expressionBits) d none) w l))
-      (λ (q : getD (set (st .expressionRanges) e []) d [] ≡ getD (st .expressionRanges) d []). rw q h)
-      (set-or (st .expressionRanges) e d [] [])))
+    rw r
+    (⊎-elim (λ (q : (e ≡ d) × (getD (set (st .expressionRanges) e []) d [] ≡ [])). rw (q .1) (known-none (getD (st .expressionBits) d none) w l))
+    (λ (q : getD (set (st .expressionRanges) e []) d [] ≡ getD (st .expressionRanges) d []). rw q h)
+    (set-or (st .expressionRanges) e d [] [])))
     (set-or (st .expressionBits) e d (some ns) none)
 
 -- ---- rows of a range ----
@@ -200,10 +200,10 @@ module _ (st : State) (e lsb : ℕ) (ns : List ℕ) (room : whole st e ≡ none 
   grows-range (Range d l w) h =
       ⊎-elim
       (λ (r : (e ≡ d) × (getD (set (st .expressionRanges) e (rangesBy (getD (st .expressionBits) e none) (getD (st .expressionRanges) e []) lsb ns)) d []
-          ≡ rangesBy (getD (st .expressionBits) e none) (getD (st .expressionRanges) e []) lsb ns)).
-        rw (r .1, ← r .0) (kept-row (getD (st .expressionBits) e none) refl l w (rw (← r .0) at h)))
+      ≡ rangesBy (getD (st .expressionBits) e none) (getD (st .expressionRanges) e []) lsb ns)).
+      rw (r .1, ← r .0) (kept-row (getD (st .expressionBits) e none) refl l w (rw (← r .0) at h)))
       (λ (r : getD (set (st .expressionRanges) e (rangesBy (getD (st .expressionBits) e none) (getD (st .expressionRanges) e []) lsb ns)) d []
-          ≡ getD (st .expressionRanges) d []). rw r h)
+      ≡ getD (st .expressionRanges) d []). rw r h)
       (set-or (st .expressionRanges) e d (rangesBy (getD (st .expressionBits) e none) (getD (st .expressionRanges) e []) lsb ns) [])
 
   new-row : (o : Option (List ℕ)) → whole st e ≡ o → knownBy o (take (length ns) (drop lsb (rangesBy o (getD (st .expressionRanges) e []) lsb ns))) ≡ true
