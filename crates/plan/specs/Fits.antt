@@ -1,6 +1,6 @@
 -- What an accepted image tells of the needs of an expression and of a range of it: they are in the image, and of a lower rank, which is
 -- what the walk's recursion falls by; and what the plan's functions ask. Assumes nothing.
-use mathlib.Core.Path.{_≡_, refl, sym, ap, _∙_, subst}
+use mathlib.Core.Path.{_≡_, refl, sym, subst}
 use mathlib.Core.Bool.{Bool, true, false, cond, true≢false}
 use mathlib.Core.List.{List, [], _∷_, _++_, map}
 use mathlib.Core.Option.{Option, none, some}

@@ -3,17 +3,15 @@ use mathlib.Core.Path.{_≡_, refl, sym, ap, _∙_}
 use mathlib.Core.Bool.{Bool, true, false, cond, true≢false}
 use mathlib.Core.List.{List, [], _∷_, _++_, map}
 use mathlib.Core.Option.{Option, none, some}
-use Prim.Native.Nat.{ℕ, zero, suc, _+_, _*_, _-_, _≤_, _<_, min, max}
+use Prim.Native.Nat.{ℕ, _+_, _-_, _≤_, _<_, min, max}
 use native.Mathlib.Omega.{arith}
-use lib.Dec.{ltb}
-use lib.ListN.{length, getD, drop, drop-of-length-le}
+use lib.ListN.{length, drop, drop-of-length-le}
 use borrow.Author.Tests.{lt-ltb, le-ltb}
-use Rattle.rules.specs.Rules.{listOf}
 use Rattle.meaning.specs.Image.{countAt, exprWidth, listWord}
 use Rattle.rtl.specs.Rtl as R
 use Rattle.model.specs.Ranges.{Gate, classOf, widthAt}
 use Rattle.model.specs.Lowering as M
-use Rattle.model.specs.Lowering.{Step, wholes, signalSteps, pieces, operandsOf, wholeSteps, rangeSteps, concatPieces, gateOf, gateSteps, isAdd}
+use Rattle.model.specs.Lowering.{wholes, pieces, operandsOf, wholeSteps, rangeSteps, concatPieces, gateOf, gateSteps}
 use Rattle.records.specs.Expr.{unaryMeans, binaryMeans, kindMeans, expressionOf, Decoded, decoded}
 use Rattle.records.specs.declared.UnaryOp.{UnaryOp}
 use Rattle.records.specs.declared.BinaryOp.{BinaryOp}
@@ -23,12 +21,11 @@ use Rattle.records.specs.declared.Expression.{Expression}
 use Rattle.expr_laws.specs.Exprs.{exprsOf, Readable, width-at, width-read, kind-read}
 use Rattle.op_class.specs.OpClass.{opClassOf, addsOf, add-class}
 use Rattle.op_class.specs.declared.OpClass.{OpClass}
-use Rattle.fusion.specs.Fusion.{partsOf}
 use Rattle.walk_view.specs.Met.{isSome}
 use Rattle.plan.specs.declared.Need.{Need}
 use Rattle.plan.specs.declared.Need.the-variants.{Bit, Whole, Range, Nothing}
 use Rattle.plan.specs.Plan.{needsOf, stepNeeds, plainOf, operandNeeds, muxNeeds, kindNeeds, wholeNeeds, bitwise, unaryNeeds, binaryNeeds, muxRanges, pieceStep, partNeeds, lowFirst, kindTurns, kindRest, kindNext, AskedRange, NextAsked, rangeTurns, rangeRest}
-use Rattle.plan.specs.Lists.{need-next, signal-length, signal-next, low-length, low-next, wholes-length, wholes-drop, piece-next}
+use Rattle.plan.specs.Lists.{signal-length, signal-next, low-length, low-next, wholes-length, wholes-drop, piece-next}
 
 -- ---- operands ----
 

@@ -9,14 +9,13 @@ use lib.Dec.{ltb}
 use lib.ListN.{length, getD, drop}
 use lib.Seq.{drop-cons}
 use borrow.Author.Tests.{ltb-true, ltb-false}
-use Rattle.rules.specs.Rules.{each, listOf}
+use Rattle.rules.specs.Rules.{listOf}
 use Rattle.rtl.specs.Rtl.{Expr}
 use Rattle.model.specs.Builder.{from}
 use Rattle.model.specs.Ranges.{widthAt}
 use Rattle.model.specs.Lowering as M
-use Rattle.model.specs.Lowering.{Step, Always, Piece, signalSteps, wholes, backwards, pieces}
+use Rattle.model.specs.Lowering.{signalSteps, wholes, backwards, pieces}
 use Rattle.expr_laws.specs.Listed.{length-listOf, getD-listOf}
-use Rattle.walk_view.specs.Met.{stepNeed}
 use Rattle.plan.specs.Plan.{stepNeeds, pieceStep, partNeeds}
 
 -- an element and what is behind it

@@ -1,15 +1,15 @@
 -- The needs that the answers stand for, and the lists of needs of the lowering model by the code's kinds. Assumes nothing.
 use mathlib.Core.Path.{_≡_}
-use mathlib.Core.Bool.{Bool, true, false, cond}
+use mathlib.Core.Bool.{Bool, cond}
 use mathlib.Core.List.{List, [], _∷_, map}
 use mathlib.Core.Option.{none}
 use Prim.Native.Nat.{ℕ, _+_, _-_, _≤_, _<_, min, max}
 use lib.Dec.{ltb}
-use lib.ListN.{length, drop}
-use Rattle.meaning.specs.Image.{countAt, exprWidth, listWord}
+use lib.ListN.{drop}
+use Rattle.meaning.specs.Image.{exprWidth, listWord}
 use Rattle.model.specs.Ranges.{widthAt, classOf}
 use Rattle.model.specs.Lowering as M
-use Rattle.model.specs.Lowering.{Step, Always, Piece, operandSteps, kindSteps, wholeSteps, backwards, pieces, isBitNot, gateOf, gateSteps, kindRangeSteps, rangeSteps}
+use Rattle.model.specs.Lowering.{Step, Always, Piece, operandSteps, kindSteps, wholeSteps, backwards, pieces, isBitNot, gateOf, gateSteps}
 use Rattle.records.specs.Expr.{unaryMeans, binaryMeans, kindMeans, expressionOf}
 use Rattle.records.specs.declared.UnaryOp.{UnaryOp}
 use Rattle.records.specs.declared.BinaryOp.{BinaryOp}

@@ -1,15 +1,13 @@
 -- An accepted image is one that the tables are laid out for (`sized`) and whose expressions can be read (`readable`). Assumes nothing.
 use mathlib.Core.Path.{_≡_, refl, sym, ap, ap₂, _∙_}
-use mathlib.Core.List.{List, [], _∷_}
+use mathlib.Core.List.{List}
 use Prim.Native.Nat.{ℕ, zero, suc, _+_, _≤_, _<_}
 use native.Mathlib.Nat.{zero-add}
 use native.Mathlib.Omega.{arith}
 use lib.ListN.{length}
 use Rattle.rules.specs.Rules.{each, listOf, sumTo}
-use Rattle.rtl.specs.Rtl as R
 use Rattle.rtl.specs.Rtl.{Expr}
-use Rattle.meaning.specs.Image as image
-use Rattle.meaning.specs.Image.{countAt, field, listWord, signalWidth, exprWidth}
+use Rattle.meaning.specs.Image.{countAt, field, listWord, exprWidth}
 use Rattle.model.specs.Ranges as model
 use Rattle.fields.specs.Fields.{fieldIn}
 use Rattle.records.specs.Expr.{unaryMeans, binaryMeans, kindMeans, exprMeans, expressionIn, expressionOf, expr-means}
@@ -21,9 +19,9 @@ use Rattle.records.specs.declared.ExprKind.{ExprKind}
 use Rattle.records.specs.declared.ExprKind.the-variants.{Signal, Constant, Unary, Binary, Mux, Concat, Slice}
 use Rattle.checks.specs.Accepted.{Accepted}
 use Rattle.accepted.specs.Fits.{unaryFits, binaryFits, kindFits, expr-fits}
-use Rattle.word_laws.specs.Widths.{Formed, AllBelow, BelowE, UnWidth, BinWidth, WidthOk, sumOf}
+use Rattle.word_laws.specs.Widths.{AllBelow, BelowE, UnWidth, BinWidth, WidthOk, sumOf}
 use Rattle.expr_laws.specs.Exprs.{exprsOf, expr-at, length-exprs, Readable, Listed}
-use Rattle.table_view.specs.View.{Sized, Drives}
+use Rattle.table_view.specs.View.{Sized}
 
 pub sized : (s : List ℕ) → Accepted s → Sized s
 sized s a = record {

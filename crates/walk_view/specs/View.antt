@@ -1,7 +1,7 @@
 -- The walk's invariant over image, netlist words and scratch (`Ready`), the state that they hold (`walkState`), and what a call of the
 -- walk gives: `Builds` outside the recursion, `Gives` within it. Assumes nothing.
 use mathlib.Core.Path.{_≡_}
-use mathlib.Core.Bool.{Bool, true, false}
+use mathlib.Core.Bool.{true, false}
 use mathlib.Core.List.{List}
 use Prim.Native.Nat.{ℕ, _+_, _*_, _≤_, _<_}
 use lib.ListN.{length, getD, take, drop}

@@ -1,8 +1,7 @@
+-- `plan::is_bitwise` meets its contract. Assumes nothing.
 use borrow.Author.Needs.{needs}
 use Rattle.plan.proofs.is_bitwise.Statement.{statement}
 use Rattle.plan.proofs.is_bitwise.Tie as tie
-use Rattle.plan.proofs.is_bitwise.Reads as reads
-use Rattle.plan.proofs.is_bitwise.Lts as lts
 use mathlib.Core.Path.{_≡_, refl}
 use mathlib.Core.Bool.{false}
 use mathlib.Core.List.{[], _∷_}
@@ -37,34 +36,27 @@ others B.ShiftLeft h = refl
 others B.ShiftRightLogical h = refl
 others B.ShiftRightArithmetic h = refl
 
--- src/lib.rt:166:26
 enum-told : tie.Need-enum-told
 enum-told c = search needs
 
--- src/lib.rt:167:25
 enum-told-2 : tie.Need-enum-told-2
 enum-told-2 c = search needs
 
--- src/lib.rt:168:26
 enum-told-3 : tie.Need-enum-told-3
 enum-told-3 c = search needs
 
--- src/lib.rt:162:1
 returns : tie.Need-returns
 unfolding bitwise binaryMeans
 returns c = rw (c .enum-told .given .1)
 
--- src/lib.rt:162:1
 returns-2 : tie.Need-returns-2
 unfolding bitwise binaryMeans
 returns-2 c = rw (c .enum-told2 .given .1)
 
--- src/lib.rt:162:1
 returns-3 : tie.Need-returns-3
 unfolding bitwise binaryMeans
 returns-3 c = rw (c .enum-told3 .given .1)
 
--- src/lib.rt:162:1
 returns-4 : tie.Need-returns-4
 returns-4 c = others (c .before .args .op) (c .match .keys4)
 
