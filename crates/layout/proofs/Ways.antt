@@ -13,13 +13,14 @@ use lib.Seq.{getD-set-same, getD-set-other, paste}
 use Rattle.rules.specs.Rules.{each, listOf, sumTo}
 use Rattle.rtl.specs.Rtl as R
 use Rattle.rtl.specs.Rtl.{byAssign}
-use Rattle.meaning.specs.Image.{countAt, field, signalWidth, exprWidth, assignAt, decode}
+use Rattle.meaning.specs.Image as I
+use Rattle.meaning.specs.Image.{countAt, field, signalWidth, exprWidth, assignAt, signalAt, decode}
 use Rattle.meaning.specs.Checks.{signalBits, exprBits, scratchNeed}
 use Rattle.model.specs.Lowering as M
 use Rattle.model.specs.Lowering.{exprDriver, driverOf}
-use Rattle.table_view.specs.Rows.{listOf-agree, at-listOf, length-listOf, same-or, stretch-apart, stretch-before}
-use Rattle.table_view.specs.View.{limitOf, signalColumn, exprColumn, bitColumn, signalBit, driverAt, firstAt, exprAt, isSet, driverWord, Sized}
-use Rattle.table_view.specs.Laws.{Stored, stored-one, stored-paste, need-is, signal-inside, signal-ends, signals-few, isSet-yes, isSet-no}
+use Rattle.table_view.specs.Rows.{listOf-agree, at-listOf, length-listOf, map-listOf, replicate-listOf, same-or, stretch-apart, rows}
+use Rattle.table_view.specs.View.{limitOf, signalColumn, exprColumn, bitColumn, signalBit, driverAt, firstAt, exprAt, bitAt, known, isSet, isWhole, wholeAt, rangesAt, stateAt, freeAt, driverWord, Sized, LaidAt}
+use Rattle.table_view.specs.Laws.{Stored, stored-paste, need-is, signal-inside, signal-ends, signals-few, isSet-yes, isSet-no, known-none, whole-none, ranges-there, free-all}
 use Rattle.table_view.specs.Drivers.{covers, covered, covers-yes}
 use Rattle.layout.specs.Stages.{HeadedAt, Fixed, FirstsAt, Starts, Indexed, Ready}
 
@@ -66,17 +67,17 @@ module _ (s : List ℕ) (n : ℕ) (w : List ℕ) (z : Sized s) (l : n ≤ 65535)
   five : 4 < length w
   five = omega (arith, need-is s n)
 
-  pub fixed-off : Fixed s n false (four w n b c d)
-  fixed-off =
+  pub fixed-off : (ob : Bool) → ob ≡ false → Fixed s n ob (four w n b c d)
+  fixed-off ob off =
       let f = four-at w n b c d five in
       record {
         headed = record { image = z; limited = l; long = four-long w n b c d ∙ long ∙ need-is s n; limit = f .0; bits = f .1 .0 ∙ p; exprs = f .1 .1 .0 ∙ q; nets = f .1 .1 .1 ∙ r };
-        flag = isSet-no _ (four-other w n b c d 4 (omega arith) ∙ blank-at w 4 blank);
+        flag = isSet-no _ (four-other w n b c d 4 (omega arith) ∙ blank-at w 4 blank) ∙ sym off;
         rest = λ j u. four-other w n b c d j (omega arith) ∙ blank-at w j blank;
       }
 
-  pub fixed-on : Fixed s n true (set (four w n b c d) 4 1)
-  fixed-on =
+  pub fixed-on : (ob : Bool) → ob ≡ true → Fixed s n ob (set (four w n b c d) 4 1)
+  fixed-on ob on =
       let f = four-at w n b c d five in
       let v = four w n b c d in
       let o : (j : ℕ) → (j ≡ 4 → ⊥) → getD (set v 4 1) j 0 ≡ getD v j 0 = λ j x. getD-set-other v 4 j 1 0 x in
@@ -90,7 +91,7 @@ module _ (s : List ℕ) (n : ℕ) (w : List ℕ) (z : Sized s) (l : n ≤ 65535)
           exprs = o 2 (λ x. absurd (omega arith)) ∙ f .1 .1 .0 ∙ q;
           nets = o 3 (λ x. absurd (omega arith)) ∙ f .1 .1 .1 ∙ r;
         };
-        flag = ap isSet (getD-set-same v 4 1 0 (omega (arith, four-long w n b c d, five))) ∙ isSet-yes 1 (λ x. absurd (omega arith));
+        flag = ap isSet (getD-set-same v 4 1 0 (omega (arith, four-long w n b c d, five))) ∙ isSet-yes 1 (λ x. absurd (omega arith)) ∙ sym on;
         rest = λ j u. o j (λ x. absurd (omega arith)) ∙ four-other w n b c d j (omega arith) ∙ blank-at w j blank;
       }
 
@@ -293,3 +294,145 @@ index-step s n w w₁ w′ a h ix st =
     let e : a ≡ suc (a - 1) = omega arith in
     index-turn s n w w₁ w′ (a - 1) (omega (arith, ix .below)) (subst (λ (i : ℕ). IndexedAt s n w w₁ i) e ix)
     (subst (λ (m : ℕ). Stored (driverAt s m (field s 3 (a - 1) 0) (field s 3 (a - 1) 1)) (field s 3 (a - 1) 2) (λ i. (field s 3 (a - 1) 3 + 1) * 1024 + i) w₁ w′) (ix .firsts .headed .limit) st)
+
+-- ---- the steps together ----
+
+pub headed-own : (s : List ℕ) (n : ℕ) (w : List ℕ) → HeadedAt s n w → HeadedAt s (limitOf w) w
+headed-own s n w h = subst (λ (m : ℕ). HeadedAt s m w) (sym (h .limit)) h
+
+headed-kept : (s : List ℕ) (n : ℕ) (w w′ : List ℕ) → HeadedAt s n w → length w′ ≡ length w → ((j : ℕ) → j < 4 → getD w′ j 0 ≡ getD w j 0) → HeadedAt s n w′
+headed-kept s n w w′ h l o = record {
+  image = h .image;
+  limited = h .limited;
+  long = l ∙ h .long;
+  limit = o 0 (omega arith) ∙ h .limit;
+  bits = o 1 (omega arith) ∙ h .bits;
+  exprs = o 2 (omega arith) ∙ h .exprs;
+  nets = o 3 (omega arith) ∙ h .nets;
+}
+
+-- first bits of signals stand; all else but fixed words and first bits is 0
+pub record Laying (s : List ℕ) (n : ℕ) (ob : Bool) (w : List ℕ) : Type 0 where
+  pub firsts : FirstsAt s n w
+  pub flag : isSet (getD w 4 0) ≡ ob
+  pub zero : (j : ℕ) → 4 < j → ((i : ℕ) → i < signalBits s → j ≡ signalColumn n + 3 * signalBits s + i → ⊥) → ((e : ℕ) → e < countAt s 1 → j ≡ exprAt s n e 0 → ⊥) → getD w j 0 ≡ 0
+
+pub after-firsts : (s : List ℕ) (n : ℕ) (ob : Bool) (w w′ : List ℕ) → Fixed s n ob w → Stored (firstAt s (limitOf w) 0) (countAt s 0) (sumTo (signalWidth s)) w w′ → Laying s n ob w′
+after-firsts s n ob w w′ h st₀ =
+    let st : Stored (firstAt s n 0) (countAt s 0) (sumTo (signalWidth s)) w w′ = subst (λ (m : ℕ). Stored (firstAt s m 0) (countAt s 0) (sumTo (signalWidth s)) w w′) (h .headed .limit) st₀ in
+    let few = signals-few s (h .headed .image) in
+    record {
+      firsts = record {
+        headed = headed-kept s n w w′ (h .headed) (st .long) (λ j u. st .other j (λ i v z. absurd (omega arith)));
+        firsts = λ p u. (let m : firstAt s n p ≡ firstAt s n 0 + p = omega arith in ap (λ (j : ℕ). getD w′ j 0) m ∙ st .inside p u);
+      };
+      flag = ap isSet (st .other 4 (λ i v z. absurd (omega arith))) ∙ h .flag;
+      zero = λ j u o q. st .other j (λ i v z. o i (omega arith) (omega arith)) ∙ h .rest j u;
+    }
+
+pub after-starts : (s : List ℕ) (n : ℕ) (ob : Bool) (w w′ : List ℕ) → Laying s n ob w → Starts s (limitOf w) w w′ → Laying s n ob w′ × Starts s n w w′
+after-starts s n ob w w′ h st₀ =
+    let st : Starts s n w w′ = subst (λ (m : ℕ). Starts s m w w′) (h .firsts .headed .limit) st₀ in
+    let few = signals-few s (h .firsts .headed .image) in
+    (record {
+      firsts = record {
+        headed = headed-kept s n w w′ (h .firsts .headed) (st .long) (λ j u. st .other j (λ e v z. absurd (omega arith)));
+        firsts = λ p u. st .other _ (λ e v z. absurd (omega arith)) ∙ h .firsts .firsts p u;
+      };
+      flag = ap isSet (st .other 4 (λ e v z. absurd (omega arith))) ∙ h .flag;
+      zero = λ j u o q. st .other j q ∙ h .zero j u o q;
+    }, st)
+
+pub column-zero : (s : List ℕ) (n : ℕ) (ob : Bool) (w : List ℕ) → Laying s n ob w → (i : ℕ) → i < signalBits s → getD w (signalColumn (limitOf w) + signalBits s + i) 0 ≡ 0
+column-zero s n ob w h i u =
+    let m : signalColumn (limitOf w) + signalBits s + i ≡ signalColumn n + signalBits s + i = ap (λ (k : ℕ). signalColumn k + signalBits s + i) (h .firsts .headed .limit) in
+    ap (λ (j : ℕ). getD w j 0) m ∙ h .zero _ (omega arith) (λ i′ v z. absurd (omega arith)) (λ e v z. absurd (omega arith))
+
+module _ (s : List ℕ) (n : ℕ) (ob : Bool) (w₀ w w′ : List ℕ) (h : Laying s n ob w) (st : Starts s n w₀ w) (ix₀ : Indexed s (limitOf w) w w′) where
+  ix : Indexed s n w w′
+  ix = subst (λ (m : ℕ). Indexed s m w w′) (h .firsts .headed .limit) ix₀
+
+  -- a word that no step stored
+  still : (j : ℕ) → 4 < j → ((i : ℕ) → i < signalBits s → j ≡ signalColumn n + signalBits s + i → ⊥) → ((i : ℕ) → i < signalBits s → j ≡ signalColumn n + 3 * signalBits s + i → ⊥)
+      → ((e : ℕ) → e < countAt s 1 → j ≡ exprAt s n e 0 → ⊥) → getD w′ j 0 ≡ 0
+  still j u a b c = ix .other j a ∙ h .zero j u b c
+
+  nets-none : (j : ℕ) → j < signalBits s → getD w′ (signalColumn n + j) 0 ≡ 0
+  nets-none j u = still _ (omega arith) (λ i v z. absurd (omega arith)) (λ i v z. absurd (omega arith)) (λ e v z. absurd (omega arith))
+
+  marks-none : (j : ℕ) → j < signalBits s → getD w′ (signalColumn n + 2 * signalBits s + j) 0 ≡ 0
+  marks-none j u = still _ (omega arith) (λ i v z. absurd (omega arith)) (λ i v z. absurd (omega arith)) (λ e v z. absurd (omega arith))
+
+  flags-none : (e : ℕ) → e < countAt s 1 → getD w′ (exprAt s n e 1) 0 ≡ 0
+  flags-none e u = still _ (omega arith) (λ i v z. absurd (omega arith)) (λ i v z. absurd (omega arith)) (λ e′ v z. absurd (omega arith))
+
+  bits-none : (j : ℕ) → getD w′ (bitColumn s n + j) 0 ≡ 0
+  bits-none j = still _ (omega arith) (λ i v z. absurd (omega arith)) (λ i v z. absurd (omega arith)) (λ e v z. absurd (omega arith))
+
+  not-whole : (e : ℕ) → e < countAt s 1 → isWhole s n w′ e ≡ false
+  not-whole e u = isSet-no _ (flags-none e u)
+
+  laid-at : LaidAt s n w′
+  laid-at =
+      let f = firsts-kept s n w w′ (h .firsts) (ix .long) (ix .other) in
+      let d = f .headed in
+      record {
+        image = d .image;
+        limited = d .limited;
+        long = d .long;
+        limit = d .limit;
+        bits = d .bits;
+        exprs = d .exprs;
+        nets = d .nets;
+        firsts = f .firsts;
+        starts = λ e u. ix .other _ (λ i v z. absurd (omega arith)) ∙ st .starts e u;
+        drivers = ix .drivers;
+        signalNets = λ j u. omega (arith, nets-none j u);
+        exprNets = λ j u. omega (arith, bits-none j);
+        wholes = λ e b u v q. absurd (true≢false (sym q ∙ not-whole e u));
+      }
+
+  none-rows : {A : Type 0} (a : A) (g : ℕ → A) → ((j : ℕ) → j < signalBits s → g j ≡ a) → rows (signalWidth s) (countAt s 0) g ≡ map (λ x. replicate (x .width) a) (decode s .signals)
+  unfolding rows decode signalAt
+  none-rows a g z =
+      listOf-agree (countAt s 0) (λ i. listOf (signalWidth s i) (λ j. g (sumTo (signalWidth s) i + j))) (λ i. replicate (signalWidth s i) a)
+        (λ i u. listOf-agree (signalWidth s i) (λ j. g (sumTo (signalWidth s) i + j)) (λ j. a) (λ j v. z _ (signal-inside s i j u v)) ∙ sym (replicate-listOf (signalWidth s i) a))
+      ∙ sym (map-listOf (λ x. replicate (x .width) a) (countAt s 0) (signalAt s))
+
+  wholes-none : listOf (countAt s 1) (wholeAt s n w′) ≡ map (λ x. none) (decode s .exprs)
+  unfolding decode
+  wholes-none = listOf-agree (countAt s 1) (wholeAt s n w′) (λ e. none) (λ e u. whole-none s n w′ e (not-whole e u)) ∙ sym (map-listOf (λ x. none) (countAt s 1) (I.exprAt s))
+
+  ranges-none : listOf (countAt s 1) (rangesAt s n w′) ≡ map (λ x. replicate (x .width) none) (decode s .exprs)
+  unfolding decode I.exprAt
+  ranges-none =
+      listOf-agree (countAt s 1) (rangesAt s n w′) (λ e. replicate (exprWidth s e) none)
+        (λ e u. ranges-there s n w′ e (not-whole e u)
+          ∙ listOf-agree (exprWidth s e) (λ b. known (getD w′ (bitAt s n e b) 0)) (λ b. none) (λ b v. known-none _ (bits-none _))
+          ∙ sym (replicate-listOf (exprWidth s e) none))
+      ∙ sym (map-listOf (λ x. replicate (x .width) none) (countAt s 1) (I.exprAt s))
+
+  state-at : (p : ℕ) → stateAt s n (record { maxNets = n; maxList = p; nodes = []; records = [] }) w′ ≡ M.start (decode s) n p
+  unfolding M.start
+  state-at p = λ j. M.state (record { maxNets = n; maxList = p; nodes = []; records = [] })
+    (none-rows none (λ i. known (getD w′ (signalColumn n + i) 0)) (λ i u. known-none _ (nets-none i u)) j)
+    (none-rows false (λ i. isSet (getD w′ (signalColumn n + 2 * signalBits s + i) 0)) (λ i u. isSet-no _ (marks-none i u)) j)
+    (wholes-none j) (ranges-none j)
+
+  pub ready-way : Ready s n ob w′
+  ready-way =
+      let q : getD w′ 0 0 ≡ n = laid-at .limit in
+      record {
+        laid = subst (λ (m : ℕ). LaidAt s m w′) (sym q) laid-at;
+        limit = q;
+        flag = ap isSet (ix .other 4 (λ i v z. absurd (omega arith))) ∙ h .flag;
+        state = λ p. ap (λ (m : ℕ). stateAt s m (record { maxNets = n; maxList = p; nodes = []; records = [] }) w′) q ∙ state-at p;
+        free = ap (λ (m : ℕ). freeAt s m w′) q ∙ free-all s n w′ marks-none;
+        index = λ j u v. still j u (λ i x z. absurd (omega arith)) (λ i x z. absurd (omega arith)) (λ e x z. absurd (omega arith));
+      }
+
+-- a cleared list is 0 throughout
+pub cleared : (w w′ : List ℕ) → w′ ≡ replicate (length w) 0 → (length w′ ≡ length w) × (w′ ≡ replicate (length w′) 0)
+cleared w w′ e =
+    let l : length w′ ≡ length w = ap length e ∙ length-replicate (length w) 0 in
+    (l, e ∙ ap (λ (k : ℕ). replicate k 0) (sym l))

@@ -206,7 +206,7 @@ kept-laid s n w w′ h k = record {
 abbrev pub ExprSame : List ℕ → ℕ → List ℕ → List ℕ → ℕ → Type 0
 ExprSame s n w w′ e = (getD w′ (exprAt s n e 1) 0 ≡ getD w (exprAt s n e 1) 0) × ((b : ℕ) → b < exprWidth s e → getD w′ (bitAt s n e b) 0 ≡ getD w (bitAt s n e b) 0)
 
-still-whole : (s : List ℕ) (n : ℕ) (w w′ : List ℕ) (e b : ℕ) → LaidAt s n w → ExprSame s n w w′ e → e < countAt s 1 → b < exprWidth s e → isWhole s n w′ e ≡ true
+pub still-whole : (s : List ℕ) (n : ℕ) (w w′ : List ℕ) (e b : ℕ) → LaidAt s n w → ExprSame s n w w′ e → e < countAt s 1 → b < exprWidth s e → isWhole s n w′ e ≡ true
     → 0 < getD w′ (bitAt s n e b) 0
 still-whole s n w w′ e b h x u v q = subst (λ (m : ℕ). 0 < m) (sym (x .1 b v)) (h .wholes e b u v (sym (ap isSet (x .0)) ∙ q))
 
@@ -227,17 +227,17 @@ writes op s w w′ h k e f =
 -- ---- the state's parts, where words agree ----
 
 module _ (s : List ℕ) (n : ℕ) (w w′ : List ℕ) where
-  signals-stay : ((j : ℕ) → j < signalBits s → getD w′ (signalColumn n + j) 0 ≡ getD w (signalColumn n + j) 0) → signalRows s n w′ ≡ signalRows s n w
+  pub signals-stay : ((j : ℕ) → j < signalBits s → getD w′ (signalColumn n + j) 0 ≡ getD w (signalColumn n + j) 0) → signalRows s n w′ ≡ signalRows s n w
   unfolding signalBits
   signals-stay h =
       rows-agree (signalWidth s) (countAt s 0) (λ j. known (getD w′ (signalColumn n + j) 0)) (λ j. known (getD w (signalColumn n + j) 0)) (λ j u. ap known (h j u))
 
-  marks-stay : ((j : ℕ) → j < signalBits s → getD w′ (signalColumn n + 2 * signalBits s + j) 0 ≡ getD w (signalColumn n + 2 * signalBits s + j) 0) → markRows s n w′ ≡ markRows s n w
+  pub marks-stay : ((j : ℕ) → j < signalBits s → getD w′ (signalColumn n + 2 * signalBits s + j) 0 ≡ getD w (signalColumn n + 2 * signalBits s + j) 0) → markRows s n w′ ≡ markRows s n w
   marks-stay h =
       rows-agree (signalWidth s) (countAt s 0) (λ j. isSet (getD w′ (signalColumn n + 2 * signalBits s + j) 0))
       (λ j. isSet (getD w (signalColumn n + 2 * signalBits s + j) 0)) (λ j u. ap isSet (h j (bits-below s j u)))
 
-  free-stays : ((j : ℕ) → j < signalBits s → getD w′ (signalColumn n + 2 * signalBits s + j) 0 ≡ getD w (signalColumn n + 2 * signalBits s + j) 0) → freeAt s n w′ ≡ freeAt s n w
+  pub free-stays : ((j : ℕ) → j < signalBits s → getD w′ (signalColumn n + 2 * signalBits s + j) 0 ≡ getD w (signalColumn n + 2 * signalBits s + j) 0) → freeAt s n w′ ≡ freeAt s n w
   unfolding freeAt
   free-stays h =
       sum-agree (λ j. unset (getD w′ (signalColumn n + 2 * signalBits s + j) 0)) (λ j. unset (getD w (signalColumn n + 2 * signalBits s + j) 0)) (signalBits s) (λ j u. ap unset (h j u))
@@ -250,10 +250,10 @@ module _ (s : List ℕ) (n : ℕ) (w w′ : List ℕ) where
   ranges-stay e h =
       ap₂ rangesOf (ap isSet (h .0)) (listOf-agree (exprWidth s e) (λ b. known (getD w′ (bitAt s n e b) 0)) (λ b. known (getD w (bitAt s n e b) 0)) (λ b u. ap known (h .1 b u)))
 
-  wholes-stay : ((e : ℕ) → e < countAt s 1 → ExprSame s n w w′ e) → listOf (countAt s 1) (wholeAt s n w′) ≡ listOf (countAt s 1) (wholeAt s n w)
+  pub wholes-stay : ((e : ℕ) → e < countAt s 1 → ExprSame s n w w′ e) → listOf (countAt s 1) (wholeAt s n w′) ≡ listOf (countAt s 1) (wholeAt s n w)
   wholes-stay h = listOf-agree (countAt s 1) (wholeAt s n w′) (wholeAt s n w) (λ e u. whole-stays e (h e u))
 
-  rangeses-stay : ((e : ℕ) → e < countAt s 1 → ExprSame s n w w′ e) → listOf (countAt s 1) (rangesAt s n w′) ≡ listOf (countAt s 1) (rangesAt s n w)
+  pub rangeses-stay : ((e : ℕ) → e < countAt s 1 → ExprSame s n w w′ e) → listOf (countAt s 1) (rangesAt s n w′) ≡ listOf (countAt s 1) (rangesAt s n w)
   rangeses-stay h = listOf-agree (countAt s 1) (rangesAt s n w′) (rangesAt s n w) (λ e u. ranges-stay e (h e u))
 
 -- ---- stores into the tables ----
@@ -650,3 +650,23 @@ skip-range s w ns e lsb h u is =
     (λ l j. state l (signalRows s n w) (markRows s n w) (listOf (countAt s 1) (wholeAt s n w))
     (sym (ap (λ (o : Option (List ℕ)). set ranges e (M.rangesBy o (getD ranges e []) lsb ns)) (read-whole s n l w e u ∙ whole-some s n w e is) ∙ set-getD ranges e []) j))
     (omega arith)
+
+-- ---- the measure ----
+
+sum-ones : (f : ℕ → ℕ) (n : ℕ) → ((j : ℕ) → j < n → f j ≡ 1) → sumTo f n ≡ n
+unfolding sumTo
+sum-ones f zero h = refl
+sum-ones f (suc n) h = omega (arith, sum-ones f n (λ j u. h j (omega arith)), h n (omega arith))
+
+sum-units : (f : ℕ → ℕ) (n : ℕ) → ((j : ℕ) → j < n → f j ≤ 1) → sumTo f n ≤ n
+unfolding sumTo
+sum-units f zero h = omega arith
+sum-units f (suc n) h = omega (arith, sum-units f n (λ j u. h j (omega arith)), h n (omega arith))
+
+pub free-all : (s : List ℕ) (n : ℕ) (w : List ℕ) → ((j : ℕ) → j < signalBits s → getD w (signalColumn n + 2 * signalBits s + j) 0 ≡ 0) → freeAt s n w ≡ signalBits s
+unfolding freeAt unset
+free-all s n w h = sum-ones (λ j. unset (getD w (signalColumn n + 2 * signalBits s + j) 0)) (signalBits s) (λ j u. ap unset (h j u))
+
+pub free-most : (s : List ℕ) (n : ℕ) (w : List ℕ) → freeAt s n w ≤ signalBits s
+unfolding freeAt
+free-most s n w = sum-units (λ j. unset (getD w (signalColumn n + 2 * signalBits s + j) 0)) (signalBits s) (λ j u. unset-most (getD w (signalColumn n + 2 * signalBits s + j) 0))

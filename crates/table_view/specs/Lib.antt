@@ -5,3 +5,5 @@ pub mod Laws
 pub mod Reads
 pub mod Drivers
 pub mod Copies
+pub mod Frame
+pub mod Bounds

@@ -9,6 +9,7 @@ use native.Mathlib.Omega.{arith}
 use lib.ListN.{length-set}
 use Rattle.table_view.specs.Laws.{need-is}
 use Rattle.layout.proofs.Ways.{fixed-on, fixed-off}
+use Prim.Native.Nat.{_+_, _*_}
 
 -- src/lib.rt:44:9
 signal-bits-requires : tie.Need-signal-bits-requires
@@ -70,7 +71,11 @@ same-length c = search needs
 returns : tie.Need-returns
 returns c =
     let s = c .before .before .before .before .before in
-    ?
+    let a = s .args in
+    let b = c .before .before .signal-bits .result in
+    let k = c .before .count .result in
+    fixed-on (a .image .now) (a .n) (a .scr .now) (s .pre .0) (s .pre .1) (s .pre .2) (s .pre .3) b (64 + 4 * a .n + 4 * b) (64 + 4 * a .n + 4 * b + 8 * k) (c .before .before .signal-bits .ensures)
+    (omega (arith, c .before .before .signal-bits .ensures)) (omega (arith, c .before .before .signal-bits .ensures, c .before .count .ensures)) (a .ob) (c .if1 .taken)
 
 -- src/lib.rt:40:1
 same-length-2 : tie.Need-same-length-2
@@ -80,7 +85,11 @@ same-length-2 c = search needs
 returns-2 : tie.Need-returns-2
 returns-2 c =
     let s = c .before .before .before .before .before in
-    ?
+    let a = s .args in
+    let b = c .before .before .signal-bits .result in
+    let k = c .before .count .result in
+    fixed-off (a .image .now) (a .n) (a .scr .now) (s .pre .0) (s .pre .1) (s .pre .2) (s .pre .3) b (64 + 4 * a .n + 4 * b) (64 + 4 * a .n + 4 * b + 8 * k) (c .before .before .signal-bits .ensures)
+    (omega (arith, c .before .before .signal-bits .ensures)) (omega (arith, c .before .before .signal-bits .ensures, c .before .count .ensures)) (a .ob) (c .if1 .left)
 
 pub lay-fixed-spec : {M : Type 1} → statement M
 lay-fixed-spec =
