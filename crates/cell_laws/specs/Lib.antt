@@ -1,0 +1,5 @@
+-- What the nets of cells stand for.
+pub mod Records
+pub mod Cells
+pub mod Arithmetic
+pub mod Comparison
