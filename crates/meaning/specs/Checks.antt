@@ -48,7 +48,7 @@ noExpr s e = not (e <? countAt s 1)
 unfoldable pub badBit : List ℕ → ℕ → Bool
 badBit s p = noSignal s p or signalWidth s p ≢? 1
 
--- fields f and f + 1 of record r of section k: a control that must be there, or one that may be absent
+-- fields f and f + 1 of record r of section k: a control that must be there
 unfoldable pub badControl : List ℕ → ℕ → ℕ → ℕ → Bool
 badControl s k r f = badBit s (field s k r f) or 1 <? field s k r (f + 1)
 

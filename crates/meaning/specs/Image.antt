@@ -98,7 +98,7 @@ kindOf s k w a b c =
     (pick (k ≡? 5) (R.Concat (listOf b (λ i. listWord s (a + i))))
     (R.Slice a b))))))
 
--- a control's signal and its polarity (0 high), which may be absent
+-- a control's signal and its polarity (0 high); what may be absent
 unfoldable pub controlOf : ℕ → ℕ → R.Control
 controlOf p polarity = record { signal = p; level = polarity ≡? 0 }
 

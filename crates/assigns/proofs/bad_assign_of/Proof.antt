@@ -1,0 +1,80 @@
+-- `assigns::bad_assign_of` meets its contract. Assumes nothing.
+use Rattle.assigns.proofs.bad_assign_of.Statement.{statement}
+use Rattle.assigns.proofs.bad_assign_of.Tie as tie
+use mathlib.Core.Path.{sym, _∙_}
+use borrow.Author.Needs.{needs}
+use Rattle.rules.specs.Laws.{or-hit, or-skip, ne-yes, ne-no}
+use Rattle.drivers.specs.Columns.{same-assigned}
+use Rattle.assigns.specs.Assign.{badAssignOf}
+
+no-signal-requires : tie.Need-no-signal-requires
+no-signal-requires c κs = search needs
+
+returns : tie.Need-returns
+unfolding badAssignOf
+returns c = or-hit _ (sym (c .before .no-signal .ensures) ∙ c .if1 .taken)
+
+is-outside-requires : tie.Need-is-outside-requires
+is-outside-requires c κs = search needs
+
+returns-2 : tie.Need-returns-2
+unfolding badAssignOf
+returns-2 c = or-skip (sym (c .before .before .before .no-signal .ensures) ∙ c .before .before .if1 .left) (or-hit _ (sym (c .before .is-outside .ensures) ∙ c .if2 .taken))
+
+signal-width-requires : tie.Need-signal-width-requires
+signal-width-requires c κs = search needs
+
+below-sum-requires : tie.Need-below-sum-requires
+below-sum-requires c κs = search needs
+
+returns-3 : tie.Need-returns-3
+unfolding badAssignOf
+returns-3 c = or-skip (sym (c .before .before .before .before .before .before .no-signal .ensures) ∙ c .before .before .before .before .before .if1 .left) (or-skip (sym (c .before .before .before .before .is-outside .ensures) ∙ c .before .before .before .if2 .left) (or-hit _ (sym (rw (c .before .before .signal-width .ensures) at (c .before .below-sum .ensures)) ∙ c .if3 .taken)))
+
+no-expr-requires : tie.Need-no-expr-requires
+no-expr-requires c κs = search needs
+
+returns-4 : tie.Need-returns-4
+unfolding badAssignOf
+returns-4 c = or-skip (sym (c .before .before .before .before .before .before .before .before .no-signal .ensures) ∙ c .before .before .before .before .before .before .before .if1 .left) (or-skip (sym (c .before .before .before .before .before .before .is-outside .ensures) ∙ c .before .before .before .before .before .if2 .left) (or-skip (sym (rw (c .before .before .before .before .signal-width .ensures) at (c .before .before .before .below-sum .ensures)) ∙ c .before .before .if3 .left) (or-hit _ (sym (c .before .no-expr .ensures) ∙ c .if4 .taken))))
+
+expr-width-requires : tie.Need-expr-width-requires
+expr-width-requires c κs = search needs
+
+returns-5 : tie.Need-returns-5
+unfolding badAssignOf
+returns-5 c = or-skip (sym (c .before .before .before .before .before .before .before .before .before .before .no-signal .ensures) ∙ c .before .before .before .before .before .before .before .before .before .if1 .left) (or-skip (sym (c .before .before .before .before .before .before .before .before .is-outside .ensures) ∙ c .before .before .before .before .before .before .before .if2 .left) (or-skip (sym (rw (c .before .before .before .before .before .before .signal-width .ensures) at (c .before .before .before .before .before .below-sum .ensures)) ∙ c .before .before .before .before .if3 .left) (or-skip (sym (c .before .before .before .no-expr .ensures) ∙ c .before .before .if4 .left) (or-hit _ (ne-yes _ _ (λ e. c .if5 .taken (c .before .expr-width .ensures ∙ e)))))))
+
+is-input-requires : tie.Need-is-input-requires
+is-input-requires c κs = search needs
+
+returns-6 : tie.Need-returns-6
+unfolding badAssignOf
+returns-6 c = or-skip (sym (c .before .before .before .before .before .before .before .before .before .before .before .before .no-signal .ensures) ∙ c .before .before .before .before .before .before .before .before .before .before .before .if1 .left) (or-skip (sym (c .before .before .before .before .before .before .before .before .before .before .is-outside .ensures) ∙ c .before .before .before .before .before .before .before .before .before .if2 .left) (or-skip (sym (rw (c .before .before .before .before .before .before .before .before .signal-width .ensures) at (c .before .before .before .before .before .before .before .below-sum .ensures)) ∙ c .before .before .before .before .before .before .if3 .left) (or-skip (sym (c .before .before .before .before .before .no-expr .ensures) ∙ c .before .before .before .before .if4 .left) (or-skip (ne-no _ _ (sym (c .before .before .before .expr-width .ensures) ∙ c .before .before .if5 .left)) (or-hit _ (sym (c .before .is-input .ensures) ∙ c .if6 .taken))))))
+
+is-assigned-requires : tie.Need-is-assigned-requires
+is-assigned-requires c κs = search needs
+
+returns-7 : tie.Need-returns-7
+unfolding badAssignOf
+returns-7 c = or-skip (sym (c .before .before .before .before .before .before .before .before .before .before .before .before .before .no-signal .ensures) ∙ c .before .before .before .before .before .before .before .before .before .before .before .before .if1 .left) (or-skip (sym (c .before .before .before .before .before .before .before .before .before .before .before .is-outside .ensures) ∙ c .before .before .before .before .before .before .before .before .before .before .if2 .left) (or-skip (sym (rw (c .before .before .before .before .before .before .before .before .before .signal-width .ensures) at (c .before .before .before .before .before .before .before .before .below-sum .ensures)) ∙ c .before .before .before .before .before .before .before .if3 .left) (or-skip (sym (c .before .before .before .before .before .before .no-expr .ensures) ∙ c .before .before .before .before .before .if4 .left) (or-skip (ne-no _ _ (sym (c .before .before .before .before .expr-width .ensures) ∙ c .before .before .before .if5 .left)) (or-skip (sym (c .before .before .is-input .ensures) ∙ c .before .if6 .left) (c .is-assigned .ensures ∙ same-assigned _ _ _ _ _ _ _ _ (c .before .before .before .before .before .before .before .before .before .before .before .before .before .before .before .pre)))))))
+
+pub bad-assign-of-spec : {M : Type 1} → statement M
+bad-assign-of-spec =
+    tie.close
+    (tie.spec
+    no-signal-requires
+    returns
+    is-outside-requires
+    returns-2
+    signal-width-requires
+    below-sum-requires
+    returns-3
+    no-expr-requires
+    returns-4
+    expr-width-requires
+    returns-5
+    is-input-requires
+    returns-6
+    is-assigned-requires
+    returns-7)

@@ -1,0 +1,2 @@
+-- What the lowering call promises.
+pub mod Call

@@ -1,0 +1,3 @@
+-- Bench cases computed by the checker from the images' bytes.
+pub mod Images
+pub mod Table

@@ -1,0 +1,183 @@
+-- Document 01's bench cases K1 to K12 and its listing example, computed by the checker from the images' bytes: what the call
+-- answers, how many nets it makes, which arithmetic cells. K3, K4 and K10 stand twice: as written, where constant operands fold
+-- (docs/DIFFERENCES.md, 1), and primed, with operands that have those values but no constant nets.
+use Prim.Native.Nat.{ℕ}
+use mathlib.Core.Path.{_≡_, refl}
+use mathlib.Core.Bool.{Bool, true, false, cond}
+use mathlib.Core.List.{List, [], _∷_, map}
+use mathlib.Core.Option.{Option, none, some}
+use lib.Dec.{eqb}
+use lib.ListN.{getD, replicate}
+use Rattle.rtl.specs.Word.{value}
+use Rattle.rtl.specs.Ops.{tab}
+use Rattle.meaning.specs.Step.{Contents, Machine, ofModule, ofNetlist, perhaps}
+use Rattle.rules.specs.Rules as Rules
+use Rattle.meaning.specs.Image as Image
+use Rattle.meaning.specs.Checks as Checks
+use Rattle.meaning.specs.NetlistImage as NetlistImage
+use Rattle.meaning.specs.Promise as Promise
+use Rattle.meaning.specs.Listing as Listing
+use Rattle.model.specs.Words as Words
+use Rattle.model.specs.Builder as Builder
+use Rattle.model.specs.WordCells as WordCells
+use Rattle.model.specs.Ranges as Ranges
+use Rattle.model.specs.Lowering as Lowering
+use Rattle.call.specs.Call as Call
+use Rattle.cases.specs.Images as Images
+
+-- to open this is to open every definition that a case computes
+computing : ℕ
+unfolding Rules._<?_ Rules._≡?_ Rules._≢?_ Rules._or_ Rules._and_ Rules.pick Rules.outside Rules.upTo Rules.first Rules.any Rules.sumTo Rules.each Rules.listOf Rules.only Rules.sameText Rules.andThen Image.wordAt Image.sizeOf Image.mostOf Image.countAt Image.offsetAt Image.bytesOf Image.startOf Image.part Image.field Image.listWord Image.nameOf Image.signalWidth Image.exprWidth Image.direction Image.unaryOf Image.binaryOf Image.constantWords Image.constantOf Image.kindOf Image.controlOf Image.optional Image.signalAt Image.exprAt Image.assignAt Image.registerOf Image.registerAt Image.portOf Image.memoryAt Image.decode Checks.wrongCount Checks.wrongField Checks.firstField Checks.header Checks.badName Checks.nameTaken Checks.noSignal Checks.noExpr Checks.badBit Checks.badControl Checks.notZero Checks.badOptional Checks.isInput Checks.assigned Checks.targeted Checks.readInto Checks.driven Checks.badSignal Checks.badUnary Checks.badBinary Checks.late Checks.badConcat Checks.badKind Checks.badExpr Checks.badAssign Checks.badValue Checks.badReset Checks.badRegister Checks.badAddress Checks.badPort Checks.badSecond Checks.badMemory Checks.section Checks.records Checks.netlistNeed Checks.signalBits Checks.exprBits Checks.scratchNeed Checks.refuse Checks.checked NetlistImage.nodeWord NetlistImage.nodeOf NetlistImage.nodeAt NetlistImage.portLists NetlistImage.portLength NetlistImage.recordLength NetlistImage.split NetlistImage.recordsOf NetlistImage.recordsWith NetlistImage.registerBitOf NetlistImage.memoryPortOf NetlistImage.memoryOf NetlistImage.arithmeticOf NetlistImage.comparisonOf NetlistImage.outPortOf NetlistImage.notOutput NetlistImage.isOutputPort NetlistImage.netlist Promise.over Promise.left Promise.answer Promise.bufferAfter Promise.scratchAfter Listing.digits Listing.decimal Listing.line Listing.together Listing.kindWord Listing.bitName Listing.signalName Listing.registerName Listing.memoryName Listing.owned Listing.inputs Listing.netLine Listing.recordLine Listing.listing Listing.program Words.used Words.count Words.words Builder.addNode Builder.push Builder.nodeForNet Builder.constantValue Builder.same Builder.find Builder.addCached Builder.addConstant Builder.addNot Builder.addAnd Builder.addOr Builder.addXor Builder.addMux Builder.each Builder.both Builder.from Builder.addNodes Builder.addRecorded Builder.addInputPort Builder.addOutputPort Builder.constantValues Builder.foldConstantArithmetic Builder.addArithmetic Builder.addComparison WordCells.begins WordCells.findCell WordCells.arithmetic WordCells.comparison Ranges.binaryRange Ranges.rangeAt Ranges.adderWidth Lowering.level Lowering.levels Lowering.reduceTree Lowering.addEqual Lowering.equalWords Lowering.stages Lowering.shift Lowering.lowerUnary Lowering.lowerBinary Lowering.isZeroExpression Lowering.carryLsb Lowering.addOperands Lowering.operandsOf Lowering.setSignalBit Lowering.setSignal Lowering.mark Lowering.setWhole Lowering.whole Lowering.setRange Lowering.signalBit Lowering.signalNet Lowering.signalNets Lowering.wholeNets Lowering.wholeNet Lowering.rangeNets Lowering.rangeKnown Lowering.signalSteps Lowering.wholeSteps Lowering.pieces Lowering.concatPieces Lowering.rangeSteps Lowering.buildBinary Lowering.buildWhole Lowering.buildRange Lowering.lowerSteps Lowering.driverOf Lowering.drive Lowering.resolveSignalBit Lowering.keepWhole Lowering.lowerExpression Lowering.keepRange Lowering.lowerExpressionRange Lowering.lowerNeed Lowering.plenty Lowering.lowerAll Lowering.start Lowering.reserveInputs Lowering.reserveRegisters Lowering.reserveMemories Lowering.reserveSources Lowering.connectMemories Lowering.registerBits Lowering.connectRegisters Lowering.connectOutputs Lowering.lowerState Lowering.expressionNet Lowering.lowerWith Lowering.lower Call.outcome Call.imageOf
+computing = 0
+
+-- the call on image s with limits N and P, lent as many words as it requires, all 0
+abbrev answered : List ℕ → ℕ → ℕ → List ℕ
+answered s N P = Call.numbers (Call.answer s N P (replicate (Checks.netlistNeed N P) 0) (replicate (Checks.scratchNeed s N) 0))
+
+abbrev netlistWords : List ℕ → ℕ → ℕ → List ℕ
+netlistWords s N P = Call.bufferAfter s N P (replicate (Checks.netlistNeed N P) 0) (replicate (Checks.scratchNeed s N) 0)
+
+-- an arithmetic cell: operation (0 add, 1 subtract), width, and whether it has a carry
+abbrev cell : List ℕ → List ℕ
+cell r = getD r 1 0 ∷ getD r 2 0 ∷ cond (eqb (getD r 3 0) Image.absent) 0 1 ∷ []
+
+abbrev cells : List ℕ → List (List ℕ)
+cells w = (getD w 1 0 ∷ []) ∷ map cell (NetlistImage.recordsWith 3 w)
+
+-- the three numbers of the answer; the nets; the arithmetic cells
+abbrev pub shown : List ℕ → ℕ → ℕ → List (List ℕ)
+shown s N P = answered s N P ∷ cells (netlistWords s N P)
+
+abbrev pub accepted : ℕ → List (List ℕ) → List (List ℕ)
+accepted nets rest = (0 ∷ 0 ∷ 0 ∷ []) ∷ (nets ∷ []) ∷ rest
+
+-- after a refusal the words are 0
+abbrev pub refused : ℕ → ℕ → ℕ → List (List ℕ)
+refused n a b = (n ∷ a ∷ b ∷ []) ∷ (0 ∷ []) ∷ []
+
+abbrev pub add : ℕ → List ℕ
+add w = 0 ∷ w ∷ 0 ∷ []
+
+abbrev pub addCarry : ℕ → List ℕ
+addCarry w = 0 ∷ w ∷ 1 ∷ []
+
+abbrev pub subtract : ℕ → List ℕ
+subtract w = 1 ∷ w ∷ 0 ∷ []
+
+pub k1 : shown Images.k01 1 0 ≡ accepted 0 []
+unfolding computing
+k1 = refl
+
+pub k2 : shown Images.k02 22 44 ≡ accepted 22 (add 5 ∷ [])
+unfolding computing
+k2 = refl
+
+pub k3 : shown Images.k03 9 11 ≡ accepted 9 []
+unfolding computing
+k3 = refl
+
+pub k3′ : shown Images.k03prime 31 77 ≡ accepted 31 (subtract 16 ∷ add 1 ∷ [])
+unfolding computing
+k3′ = refl
+
+pub k4 : shown Images.k04 10 11 ≡ accepted 10 []
+unfolding computing
+k4 = refl
+
+pub k4′ : shown Images.k04prime 38 98 ≡ accepted 38 (subtract 16 ∷ add 8 ∷ [])
+unfolding computing
+k4′ = refl
+
+pub k5 : shown Images.k05 162 240 ≡ accepted 162 (add 33 ∷ [])
+unfolding computing
+k5 = refl
+
+pub k6 : shown Images.k06 195 337 ≡ accepted 195 (add 65 ∷ [])
+unfolding computing
+k6 = refl
+
+pub k7 : shown Images.k07 6 48 ≡ accepted 6 []
+unfolding computing
+k7 = refl
+
+pub k8 : shown Images.k08 26 33 ≡ accepted 26 []
+unfolding computing
+k8 = refl
+
+pub k9 : shown Images.k09 16 16 ≡ refused 7 1 0
+unfolding computing
+k9 = refl
+
+pub k10 : shown Images.k10 20 123 ≡ accepted 20 []
+unfolding computing
+k10 = refl
+
+pub k10′ : shown Images.k10prime 64 128 ≡ refused 8 0 0
+unfolding computing
+k10′ = refl
+
+pub k10-comparison : shown Images.k10comparison 64 128 ≡ refused 8 0 0
+unfolding computing
+k10-comparison = refl
+
+pub k11 : shown Images.k11 9 29 ≡ accepted 9 (addCarry 2 ∷ [])
+unfolding computing
+k11 = refl
+
+pub k12 : shown Images.k12 12 39 ≡ accepted 12 (add 2 ∷ add 2 ∷ [])
+unfolding computing
+k12 = refl
+
+-- ---- K3 and K4: what the Add, expression 2, is narrowed to; K10: the reset value's bits, bit 0 first ----
+
+abbrev narrowed : List ℕ → Option ℕ
+narrowed s = Ranges.adderWidth ((Image.decode s) .exprs) 2
+
+pub k3-narrowed : narrowed Images.k03 ≡ some 1
+unfolding computing
+k3-narrowed = refl
+
+pub k4-narrowed : narrowed Images.k04 ≡ none
+unfolding computing
+k4-narrowed = refl
+
+pub k10-value : map (λ r. getD r 12 0) (NetlistImage.recordsWith 1 (netlistWords Images.k10 20 123)) ≡ 0 ∷ 1 ∷ 0 ∷ 0 ∷ 0 ∷ 0 ∷ 0 ∷ 0 ∷ []
+unfolding computing
+k10-value = refl
+
+-- ---- K7, K8: the outputs' numbers, of the module and of the netlist ----
+
+abbrev empty : Contents
+empty = record { reg = λ k i. false; dat = λ k second i. false; mem = λ k at i. false }
+
+-- output signal p of width w, at the start
+abbrev number : ℕ → Machine → ℕ → ℕ
+number w m p = value (tab w (λ i. perhaps false (λ b. b) (m .outputs (λ q j. false) empty p i)))
+
+abbrev ofImage : List ℕ → Machine
+ofImage s = ofModule (Image.decode s) (λ p i. false)
+
+abbrev ofCall : List ℕ → ℕ → ℕ → Machine
+ofCall s N P = ofNetlist (NetlistImage.netlist (netlistWords s N P))
+
+pub k7-module : map (number 1 (ofImage Images.k07)) (0 ∷ 1 ∷ []) ≡ 1 ∷ 0 ∷ []
+unfolding computing
+k7-module = refl
+
+pub k7-netlist : map (number 1 (ofCall Images.k07 6 48)) (0 ∷ 1 ∷ []) ≡ 1 ∷ 0 ∷ []
+unfolding computing
+k7-netlist = refl
+
+pub k8-module : map (number 8 (ofImage Images.k08)) (0 ∷ 1 ∷ 2 ∷ []) ≡ 255 ∷ 255 ∷ 254 ∷ []
+unfolding computing
+k8-module = refl
+
+pub k8-netlist : map (number 8 (ofCall Images.k08 26 33)) (0 ∷ 1 ∷ 2 ∷ []) ≡ 255 ∷ 255 ∷ 254 ∷ []
+unfolding computing
+k8-netlist = refl
+
+-- ---- the listing example ----
+
+pub example : Call.program Images.listing ≡ Listing.text "nets 3 list 8\n0 input a\n1 not 0\n2 output y 1\nport a 0\nport y 2\n"
+unfolding computing
+example = refl

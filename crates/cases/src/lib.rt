@@ -1,0 +1,1 @@
+// Document 01's bench cases as theorems about the definitions, in specs/: no code.

@@ -1,0 +1,78 @@
+-- `checks::check_drivers` meets its contract. Assumes nothing.
+use borrow.Author.Needs.{needs}
+use Rattle.checks.proofs.check_drivers.Statement.{statement}
+use Rattle.checks.proofs.check_drivers.Tie as tie
+use mathlib.Core.Path.{sym, _∙_}
+use Rattle.checks.specs.Checked.{answerOf, driversThen, then-fine, then-refused, refuse-yes, refuse-no, section-bad, section-fine}
+
+first-assign-requires : tie.Need-first-assign-requires
+first-assign-requires c κs = search needs
+
+count-requires : tie.Need-count-requires
+count-requires c κs = search needs
+
+returns : tie.Need-returns
+unfolding answerOf driversThen
+returns c =
+    then-refused _ 4 3 _ (section-bad _ 3 _ _ _ (c .before .before .first-assign .ensures) (c .before .count .ensures) (c .if1 .taken))
+
+first-register-requires : tie.Need-first-register-requires
+first-register-requires c κs = search needs
+
+count-requires-2 : tie.Need-count-requires-2
+count-requires-2 c κs = search needs
+
+returns-2 : tie.Need-returns-2
+unfolding answerOf driversThen
+returns-2 c =
+    then-fine (section-fine _ 3 _ _ _ (c .before .before .before .before .before .first-assign .ensures) (c .before .before .before .before .count .ensures) (c .before .before .before .if1 .left))
+    (then-refused _ 4 4 _ (section-bad _ 4 _ _ _ (c .before .before .first-register .ensures) (c .before .count2 .ensures) (c .if2 .taken)))
+
+first-memory-requires : tie.Need-first-memory-requires
+first-memory-requires c κs = search needs
+
+count-requires-3 : tie.Need-count-requires-3
+count-requires-3 c κs = search needs
+
+returns-3 : tie.Need-returns-3
+unfolding answerOf driversThen
+returns-3 c =
+    then-fine (section-fine _ 3 _ _ _ (c .before .before .before .before .before .before .before .before .first-assign .ensures) (c .before .before .before .before .before .before .before .count .ensures) (c .before .before .before .before .before .before .if1 .left))
+    (then-fine (section-fine _ 4 _ _ _ (c .before .before .before .before .before .first-register .ensures) (c .before .before .before .before .count2 .ensures) (c .before .before .before .if2 .left))
+    (then-refused _ 4 5 _ (section-bad _ 5 _ _ _ (c .before .before .first-memory .ensures) (c .before .count3 .ensures) (c .if3 .taken))))
+
+scratch-short-requires : tie.Need-scratch-short-requires
+scratch-short-requires c κs = search needs
+
+returns-4 : tie.Need-returns-4
+unfolding answerOf driversThen
+returns-4 c =
+    then-fine (section-fine _ 3 _ _ _ (c .before .before .before .before .before .before .before .before .before .before .first-assign .ensures) (c .before .before .before .before .before .before .before .before .before .count .ensures) (c .before .before .before .before .before .before .before .before .if1 .left))
+    (then-fine (section-fine _ 4 _ _ _ (c .before .before .before .before .before .before .before .first-register .ensures) (c .before .before .before .before .before .before .count2 .ensures) (c .before .before .before .before .before .if2 .left))
+    (then-fine (section-fine _ 5 _ _ _ (c .before .before .before .before .first-memory .ensures) (c .before .before .before .count3 .ensures) (c .before .before .if3 .left))
+    (sym (refuse-yes 5 (sym (c .before .scratch-short .ensures) ∙ c .if4 .taken)))))
+
+returns-5 : tie.Need-returns-5
+unfolding answerOf driversThen
+returns-5 c =
+    then-fine (section-fine _ 3 _ _ _ (c .before .before .before .before .before .before .before .before .before .before .first-assign .ensures) (c .before .before .before .before .before .before .before .before .before .count .ensures) (c .before .before .before .before .before .before .before .before .if1 .left))
+    (then-fine (section-fine _ 4 _ _ _ (c .before .before .before .before .before .before .before .first-register .ensures) (c .before .before .before .before .before .before .count2 .ensures) (c .before .before .before .before .before .if2 .left))
+    (then-fine (section-fine _ 5 _ _ _ (c .before .before .before .before .first-memory .ensures) (c .before .before .before .count3 .ensures) (c .before .before .if3 .left))
+    (sym (refuse-no 5 (sym (c .before .scratch-short .ensures) ∙ c .if4 .left)))))
+
+pub check-drivers-spec : {M : Type 1} → statement M
+check-drivers-spec =
+    tie.close
+    (tie.spec
+    first-assign-requires
+    count-requires
+    returns
+    first-register-requires
+    count-requires-2
+    returns-2
+    first-memory-requires
+    count-requires-3
+    returns-3
+    scratch-short-requires
+    returns-4
+    returns-5)

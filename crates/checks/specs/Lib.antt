@@ -1,0 +1,3 @@
+-- The whole check of an image.
+pub mod Checked
+pub mod Accepted

@@ -1,0 +1,72 @@
+// The check of an image: refusals 1 to 5, in their order.
+ghost use mathlib.Core.Path.{_≡_};
+ghost use Prim.Native.Nat.{_≤_};
+ghost use Rattle.rules.specs.Rules.{Answer};
+ghost use Rattle.meaning.specs.Checks as rule;
+ghost use Rattle.checks.specs.Accepted.{Counts};
+ghost use Rattle.checks.specs.Checked.{answerOf, driversThen, recordsThen};
+
+pub enum Checked {
+    Fine,
+    Limits,
+    NetlistShort,
+    Field(u32),
+    Record(u32, u32),
+    ScratchShort,
+}
+
+// The answer of the assignments, registers, memories and the scratch.
+fn check_drivers(s: &[u8], n: u32, scratch: usize) -> Checked
+    requires { ⌜ (Counts (now s)) × (rule.signalBits (now s) ≤ 4096) × (rule.exprBits (now s) ≤ 32768) ⌝ }
+    ensures { λ c. ⌜ answerOf c ≡ driversThen (now (s .entry)) n scratch ⌝ }
+{
+    let a = assigns::first_assign(s);
+    if a < fields::count(s, 3) {
+        return Checked::Record(3, a);
+    }
+    let r = registers::first_register(s);
+    if r < fields::count(s, 4) {
+        return Checked::Record(4, r);
+    }
+    let m = memories::first_memory(s);
+    if m < fields::count(s, 5) {
+        return Checked::Record(5, m);
+    }
+    if header::scratch_short(s, n, scratch) {
+        return Checked::ScratchShort;
+    }
+    Checked::Fine
+}
+
+// The answer of all records and the scratch.
+fn check_records(s: &[u8], n: u32, scratch: usize) -> Checked
+    requires { ⌜ Counts (now s) ⌝ }
+    ensures { λ c. ⌜ answerOf c ≡ recordsThen (now (s .entry)) n scratch ⌝ }
+{
+    let p = signals::first_signal(s);
+    if p < fields::count(s, 0) {
+        return Checked::Record(0, p);
+    }
+    let e = exprs::first_expr(s);
+    if e < fields::count(s, 1) {
+        return Checked::Record(1, e);
+    }
+    check_drivers(s, n, scratch)
+}
+
+// The check of an image, for net limit n, list limit p and the words of the two buffers.
+pub fn check(image: &[u8], n: u32, p: u32, netlist: usize, scratch: usize) -> Checked
+    ensures { λ c. ⌜ answerOf c ≡ rule.checked (now (image .entry)) n p netlist scratch ⌝ }
+{
+    if header::bad_limits(n, p) {
+        return Checked::Limits;
+    }
+    if header::netlist_short(n, p, netlist) {
+        return Checked::NetlistShort;
+    }
+    let f = header::first_field(image);
+    if f < 16 {
+        return Checked::Field(f);
+    }
+    check_records(image, n, scratch)
+}

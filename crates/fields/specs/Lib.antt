@@ -1,0 +1,2 @@
+-- Fields of records.
+pub mod Fields

@@ -1,0 +1,41 @@
+-- The rules of a memory but for its name, a port in two halves: where either is first broken is the earlier of two places.
+use Prim.Native.Nat.{ℕ, _+_}
+use mathlib.Core.Bool.{Bool}
+use mathlib.Core.List.{List}
+use mathlib.Core.Path.{_≡_, sym}
+use Rattle.rules.specs.Rules.{_<?_, _≢?_, _or_, outside, first}
+use Rattle.meaning.specs.Image.{countAt, field, signalWidth, firstPort, hasSecond}
+use Rattle.meaning.specs.Checks.{noSignal, badBit, badControl, badOptional, badValue, driven, badAddress, badPort, badSecond, badMemory}
+use Rattle.names.specs.Names.{wrongName}
+use Rattle.names.specs.Earlier.{earlierOf, first-either, or-assoc}
+
+-- what a port reads, into signal p
+unfoldable pub badRead : List ℕ → ℕ → ℕ → ℕ → ℕ → Bool
+badRead s r f w p = badAddress s (field s 5 r f) or noSignal s p or signalWidth s p ≢? w or badOptional s 5 r (f + 2)
+
+-- what it writes, and its clock
+unfoldable pub badWrite : List ℕ → ℕ → ℕ → ℕ → Bool
+badWrite s r f w =
+    badAddress s (field s 5 r (f + 4))
+    or badValue s (field s 5 r (f + 5)) w
+    or badControl s 5 r (f + 6)
+    or badBit s (field s 5 r (f + 8)) or 1 <? field s 5 r (f + 9)
+
+pub port-halves : (s : List ℕ) (r f w : ℕ) → (badRead s r f w (field s 5 r (f + 1)) or badWrite s r f w or driven s (countAt s 4) r (field s 5 r (f + 1))) ≡ badPort s r f w
+unfolding badRead badWrite badPort
+port-halves s r f w = simp or-assoc
+
+unfoldable pub badRest : List ℕ → ℕ → Bool
+badRest s r =
+    outside (field s 5 r 2) 1 65536
+    or 2 <? field s 5 r 3
+    or field s 5 r 4 ≢? 1
+    or badPort s r firstPort (signalWidth s (field s 5 r (firstPort + 1)))
+    or badSecond s r (field s 5 r hasSecond) (signalWidth s (field s 5 r (firstPort + 1)))
+
+pub name-or-rest : (s : List ℕ) (r : ℕ) → badMemory s r ≡ (wrongName s 5 r or badRest s r)
+unfolding badMemory wrongName badRest
+name-or-rest s r = sym (or-assoc _ _ _)
+
+pub first-earlier : (s : List ℕ) (n : ℕ) → first (badMemory s) n ≡ earlierOf (first (wrongName s 5) n) (first (badRest s) n)
+first-earlier s n = first-either _ _ _ n (name-or-rest s)

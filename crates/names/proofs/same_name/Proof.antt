@@ -1,0 +1,49 @@
+-- `names::same_name` meets its contract. Assumes nothing.
+use borrow.Author.Needs.{needs}
+use Rattle.names.proofs.same_name.Statement.{statement}
+use Rattle.names.proofs.same_name.Tie as tie
+use mathlib.Core.Path.{sym, _∙_}
+use native.Mathlib.Nat.{le-refl}
+use Rattle.names.specs.Names.{sameName, other-hash}
+
+mul-if1 : tie.Need-mul-if1
+mul-if1 c = search needs
+
+element-copy-out-if1 : tie.Need-element-copy-out-if1
+element-copy-out-if1 c = search needs
+
+mul-if1-2 : tie.Need-mul-if1-2
+mul-if1-2 c = search needs
+
+element-copy-out-if1-2 : tie.Need-element-copy-out-if1-2
+element-copy-out-if1-2 c = search needs
+
+returns : tie.Need-returns
+returns c = sym (other-hash _ _ _ _ (λ e. c .if1 .taken (c .before .before .before .before .pre .2 _ (c .before .before .before .before .pre .1) ∙ e ∙ sym (c .before .before .before .before .pre .2 _ (le-refl _)))))
+
+name-requires : tie.Need-name-requires
+name-requires c κs = search needs
+
+name-requires-2 : tie.Need-name-requires-2
+name-requires-2 c κs = search needs
+
+same-text-requires : tie.Need-same-text-requires
+same-text-requires c κs = search needs
+
+returns-2 : tie.Need-returns-2
+unfolding sameName
+returns-2 c = cc
+
+pub same-name-spec : {M : Type 1} → statement M
+same-name-spec =
+    tie.close
+    (tie.spec
+    mul-if1
+    element-copy-out-if1
+    mul-if1-2
+    element-copy-out-if1-2
+    returns
+    name-requires
+    name-requires-2
+    same-text-requires
+    returns-2)

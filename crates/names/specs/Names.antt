@@ -1,0 +1,108 @@
+-- Names: the rule of their bytes, the hash that tells unequal names apart, and what the search for a bad or equal name answers.
+use Prim.Native.Nat.{ℕ, _+_, _*_, _%_, _≤_, _<_}
+use mathlib.Core.Bool.{Bool, true, false, true≢false}
+use mathlib.Core.List.{List, [], _∷_}
+use mathlib.Core.Path.{_≡_, refl, sym, ap, _∙_}
+use native.Mathlib.Omega.{arith}
+use native.Mathlib.Numerals.{add-one}
+use lib.ListN.{length, take, drop, getD, set, drop-of-length-le}
+use lib.Seq.{drop-cons, getD-set-same, getD-set-other}
+use mathlib.Core.Logic.{⊎-elim}
+use native.Mathlib.Nat.{eq-or-lt-of-le}
+use Rattle.rules.specs.Rules.{_≡?_, _or_, outside, any, sameText}
+use Rattle.rules.specs.Laws.{and-yes, and-miss, and-skip, eq-yes, eq-no, yes-eq}
+use Rattle.meaning.specs.Image.{nameOf}
+use Rattle.meaning.specs.Checks.{badName, nameTaken}
+
+-- byte i of a name is no printing character
+unfoldable pub badByte : List ℕ → ℕ → Bool
+badByte t i = outside (getD t i 0) 33 126
+
+-- names of records j and r of section k are equal
+unfoldable pub sameName : List ℕ → ℕ → ℕ → ℕ → Bool
+sameName s k r j = sameText (nameOf s k j) (nameOf s k r)
+
+-- the rule of names: a bad one, or one that an earlier record has
+unfoldable pub wrongName : List ℕ → ℕ → ℕ → Bool
+wrongName s k r = badName s k r or nameTaken s k r
+
+-- ---- hashes ----
+
+unfoldable pub mixed : ℕ → ℕ → ℕ
+mixed h b = (h * 16777619 + b) % 4294967296
+
+unfoldable pub hashFrom : ℕ → List ℕ → ℕ
+hashFrom h [] = h
+hashFrom h (b ∷ bs) = hashFrom (mixed h b) bs
+
+-- the hash of a name's first 64 bytes
+unfoldable pub hashAt : List ℕ → ℕ → ℕ → ℕ
+hashAt s k r = hashFrom 0 (take 64 (nameOf s k r))
+
+pub hash-end : (h i : ℕ) (t : List ℕ) → length t ≤ i → hashFrom h (drop i t) ≡ h
+unfolding hashFrom
+hash-end h i t e = ap (hashFrom h) (drop-of-length-le t e)
+
+pub hash-more : (h i : ℕ) (t : List ℕ) → i < length t → hashFrom h (drop i t) ≡ hashFrom (mixed h (getD t i 0)) (drop (i + 1) t)
+unfolding hashFrom
+hash-more h i t e = rw (add-one, drop-cons t i 0)
+
+-- ---- equal texts ----
+
+pub same-equal : (a b : List ℕ) → sameText a b ≡ true → a ≡ b
+unfolding sameText
+same-equal [] [] e = refl
+same-equal [] (b ∷ bs) e = absurd (true≢false (sym e))
+same-equal (a ∷ as′) [] e = absurd (true≢false (sym e))
+same-equal (a ∷ as′) (b ∷ bs) e = go (and-yes e) (same-equal as′ bs)
+  where
+    go : ((a ≡? b) ≡ true) × (sameText as′ bs ≡ true) → (sameText as′ bs ≡ true → as′ ≡ bs) → a ∷ as′ ≡ b ∷ bs
+    go p ih = let q = yes-eq a b (p .0) in let r = ih (p .1) in cc
+
+pub same-length : (a b : List ℕ) → (length a ≡ length b → ⊥) → sameText a b ≡ false
+same-length a b h = go (sameText a b) refl
+  where
+    go : (t : Bool) → sameText a b ≡ t → t ≡ false
+    go true e = absurd (h (ap length (same-equal a b e)))
+    go false e = refl
+
+pub same-end : (a b : List ℕ) (i : ℕ) → length a ≡ length b → length a ≤ i → sameText (drop i a) (drop i b) ≡ true
+unfolding sameText
+same-end a b i e h =
+    let x : drop i a ≡ [] = drop-of-length-le a h in
+    let l : length b ≤ i = omega arith in
+    let y : drop i b ≡ [] = drop-of-length-le b l in
+    rw (x, y)
+
+pub same-more : (a b : List ℕ) (i : ℕ) → i < length a → i < length b → getD a i 0 ≡ getD b i 0 → sameText (drop i a) (drop i b) ≡ sameText (drop (i + 1) a) (drop (i + 1) b)
+unfolding sameText
+same-more a b i ha hb e = rw (add-one, drop-cons a i 0, drop-cons b i 0) (sym (and-skip (eq-yes _ _ e) refl))
+
+pub same-other : (a b : List ℕ) (i : ℕ) → i < length a → i < length b → (getD a i 0 ≡ getD b i 0 → ⊥) → sameText (drop i a) (drop i b) ≡ false
+unfolding sameText
+same-other a b i ha hb e = rw (drop-cons a i 0, drop-cons b i 0) (sym (and-miss _ (eq-no _ _ e)))
+
+-- names with other hashes are not equal
+pub other-hash : (s : List ℕ) (k r j : ℕ) → (hashAt s k j ≡ hashAt s k r → ⊥) → sameName s k r j ≡ false
+unfolding sameName hashAt
+other-hash s k r j h = go (sameText (nameOf s k j) (nameOf s k r)) refl
+  where
+    go : (t : Bool) → sameText (nameOf s k j) (nameOf s k r) ≡ t → t ≡ false
+    go true e = absurd (h (ap (λ (t : List ℕ). hashFrom 0 (take 64 t)) (same-equal _ _ e)))
+    go false e = refl
+
+-- one more hash is stored
+pub stored : (hs : List ℕ) (g : ℕ → ℕ) (i v : ℕ) → i < length hs → v ≡ g i → ((j : ℕ) → j < i → getD hs j 0 ≡ g j) → (j : ℕ) → j < i + 1 → getD (set hs i v) j 0 ≡ g j
+stored hs g i v l e p j h = ⊎-elim (λ (q : j ≡ i). at q) (λ (q : j < i). before q) (eq-or-lt-of-le (omega arith))
+  where
+    at : j ≡ i → getD (set hs i v) j 0 ≡ g j
+    at q = rw q (getD-set-same hs i v 0 l ∙ e)
+
+    before : j < i → getD (set hs i v) j 0 ≡ g j
+    before q = getD-set-other hs i j v 0 (λ (z : j ≡ i). omega arith) ∙ p j q
+
+-- ---- the search ----
+
+pub taken-from : (s : List ℕ) (k r : ℕ) → nameTaken s k r ≡ any (sameName s k r) r
+unfolding nameTaken sameName
+taken-from s k r = refl

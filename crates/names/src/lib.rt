@@ -1,0 +1,149 @@
+// The rule of names: their bytes, and none equal within a section. Hashes tell unequal names apart.
+ghost use mathlib.Core.Path.{_≡_};
+ghost use Prim.Native.Nat.{ℕ, _≤_, _<_};
+ghost use lib.ListN.{getD};
+ghost use Rattle.rules.specs.Rules.{first, any, sameText};
+ghost use Rattle.meaning.specs.Image.{countAt, field, nameOf};
+ghost use Rattle.meaning.specs.Checks.{badName, nameTaken};
+ghost use Rattle.names.specs.Earlier.{earlierOf};
+ghost use Rattle.names.specs.Names.{badByte, sameName, wrongName, mixed, hashFrom, hashAt};
+
+// One of the first n bytes of a name is no printing character.
+fn bad_bytes(t: &[u8], n: u32) -> bool
+    ensures { λ r. ⌜ r ≡ any (badByte (now (t .entry))) n ⌝ }
+{
+    let mut i: u32 = 0;
+    while i < n {
+        if fields::is_outside(fields::byte(t, i as usize), 33, 126) {
+            return true;
+        }
+        i += 1;
+    }
+    false
+}
+
+// The name of record r of section k breaks a rule of its own.
+pub fn bad_name(s: &[u8], k: u32, r: u32) -> bool
+    ensures { λ b. ⌜ b ≡ badName (now (s .entry)) k r ⌝ }
+{
+    let at = fields::record_field(s, k, r, 0);
+    let len = fields::record_field(s, k, r, 1);
+    if fields::is_outside(len, 1, 64) {
+        return true;
+    }
+    if (fields::count(s, 6) as u64) < (at as u64) + (len as u64) {
+        return true;
+    }
+    bad_bytes(fields::name(s, k, r), len)
+}
+
+// Two texts are equal.
+fn same_text(a: &[u8], b: &[u8]) -> bool
+    ensures { λ r. ⌜ r ≡ sameText (now (a .entry)) (now (b .entry)) ⌝ }
+{
+    if a.len() != b.len() {
+        return false;
+    }
+    let mut i: usize = 0;
+    while i < a.len() {
+        if a[i] != b[i] {
+            return false;
+        }
+        i += 1;
+    }
+    true
+}
+
+// A hash with one more byte.
+fn mix(h: u32, b: u8) -> u32
+    ensures { λ r. ⌜ r ≡ mixed h b ⌝ }
+{
+    (((h as u64) * 16777619 + (b as u64)) % 4294967296) as u32
+}
+
+// The hash of a text.
+fn hash(t: &[u8]) -> u32
+    ensures { λ r. ⌜ r ≡ hashFrom 0 (now (t .entry)) ⌝ }
+{
+    let mut h: u32 = 0;
+    let mut i: usize = 0;
+    while i < t.len() {
+        h = mix(h, t[i]);
+        i += 1;
+    }
+    h
+}
+
+// The hash of the name of record r of section k.
+fn name_hash(s: &[u8], k: u32, r: u32) -> u32
+    ensures { λ h. ⌜ h ≡ hashAt (now (s .entry)) k r ⌝ }
+{
+    hash(fields::stretch(fields::name(s, k, r), 0, 64))
+}
+
+// The hashes of the names of the first n records of section k.
+pub fn hashes(s: &[u8], k: u32, n: u32) -> [u32; 512]
+    requires { ⌜ n ≤ 512 ⌝ }
+    ensures { λ hs. ⌜ ((j : ℕ) → j < n → getD hs j 0 ≡ hashAt (now (s .entry)) k j) ⌝ }
+{
+    let mut hs: [u32; 512] = [0; 512];
+    let mut i: u32 = 0;
+    while i < n {
+        hs[i as usize] = name_hash(s, k, i);
+        i += 1;
+    }
+    hs
+}
+
+// The names of records j and r of section k are equal; hs are the names' hashes.
+fn same_name(s: &[u8], k: u32, r: u32, j: u32, hs: &[u32; 512]) -> bool
+    requires { ⌜ (r < 512) × (j ≤ r) × ((i : ℕ) → i ≤ r → getD (now hs) i 0 ≡ hashAt (now s) k i) ⌝ }
+    ensures { λ b. ⌜ b ≡ sameName (now (s .entry)) k r j ⌝ }
+{
+    if hs[j as usize] != hs[r as usize] {
+        return false;
+    }
+    same_text(fields::name(s, k, j), fields::name(s, k, r))
+}
+
+// An earlier record of section k has the name of record r; hs are the names' hashes.
+pub fn name_taken(s: &[u8], k: u32, r: u32, hs: &[u32; 512]) -> bool
+    requires { ⌜ (r < 512) × ((i : ℕ) → i ≤ r → getD (now hs) i 0 ≡ hashAt (now s) k i) ⌝ }
+    ensures { λ b. ⌜ b ≡ nameTaken (now (s .entry)) k r ⌝ }
+{
+    let mut j: u32 = 0;
+    while j < r {
+        if same_name(s, k, r, j, hs) {
+            return true;
+        }
+        j += 1;
+    }
+    false
+}
+
+// The first of the records of section k whose name breaks a rule; their count where there is none.
+pub fn first_name(s: &[u8], k: u32) -> u32
+    requires { ⌜ countAt (now s) k ≤ 512 ⌝ }
+    ensures { λ r. ⌜ r ≡ first (wrongName (now (s .entry)) k) (countAt (now (s .entry)) k) ⌝ }
+{
+    let n = fields::count(s, k);
+    let hs = hashes(s, k, n);
+    let mut r: u32 = 0;
+    while r < n {
+        if bad_name(s, k, r) {
+            return r;
+        }
+        if name_taken(s, k, r, &hs) {
+            return r;
+        }
+        r += 1;
+    }
+    n
+}
+
+// The earlier of two places.
+pub fn earlier(a: u32, b: u32) -> u32
+    ensures { λ r. ⌜ r ≡ earlierOf a b ⌝ }
+{
+    if a < b { a } else { b }
+}

@@ -1,0 +1,2 @@
+-- What the records of the image are as values of the code.
+pub mod Expr

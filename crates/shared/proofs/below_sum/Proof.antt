@@ -1,0 +1,16 @@
+-- `shared::below_sum` meets its contract. Assumes nothing.
+use Rattle.shared.proofs.below_sum.Statement.{statement}
+use Rattle.shared.proofs.below_sum.Tie as tie
+use mathlib.Core.Path.{refl}
+use borrow.Author.Needs.{needs}
+use Rattle.rules.specs.Rules.{_<?_}
+
+add-result : tie.Need-add-result
+add-result c = search needs
+
+returns : tie.Need-returns
+unfolding _<?_
+returns c = refl
+
+pub below-sum-spec : {M : Type 1} → statement M
+below-sum-spec = tie.close (tie.spec add-result returns)

@@ -1,0 +1,16 @@
+-- `shared::no_expr` meets its contract. Assumes nothing.
+use Rattle.shared.proofs.no_expr.Statement.{statement}
+use Rattle.shared.proofs.no_expr.Tie as tie
+use borrow.Author.Needs.{needs}
+use Rattle.meaning.specs.Checks.{noExpr}
+use Rattle.shared.specs.Tests.{le-not}
+
+count-requires : tie.Need-count-requires
+count-requires c κs = search needs
+
+returns : tie.Need-returns
+unfolding noExpr
+returns c = rw (c .count .ensures) (le-not _ _)
+
+pub no-expr-spec : {M : Type 1} → statement M
+no-expr-spec = tie.close (tie.spec count-requires returns)

@@ -1,0 +1,16 @@
+-- `shared::no_signal` meets its contract. Assumes nothing.
+use Rattle.shared.proofs.no_signal.Statement.{statement}
+use Rattle.shared.proofs.no_signal.Tie as tie
+use borrow.Author.Needs.{needs}
+use Rattle.meaning.specs.Checks.{noSignal}
+use Rattle.shared.specs.Tests.{le-not}
+
+count-requires : tie.Need-count-requires
+count-requires c κs = search needs
+
+returns : tie.Need-returns
+unfolding noSignal
+returns c = rw (c .count .ensures) (le-not _ _)
+
+pub no-signal-spec : {M : Type 1} → statement M
+no-signal-spec = tie.close (tie.spec count-requires returns)

@@ -1,0 +1,2 @@
+-- The rules of signal records.
+pub mod Signals

@@ -1,0 +1,65 @@
+-- `struo::numbers` meets its contract. Assumes nothing.
+use borrow.Author.Needs.{needs}
+use Rattle.struo.proofs.numbers.Statement.{statement}
+use Rattle.struo.proofs.numbers.Tie as tie
+use Rattle.checks.specs.Checked.{answerOf}
+use Rattle.struo.specs.Numbers.{numbersOf}
+
+enum-told : tie.Need-enum-told
+enum-told c = search needs
+
+enum-told-2 : tie.Need-enum-told-2
+enum-told-2 c = search needs
+
+enum-told-3 : tie.Need-enum-told-3
+enum-told-3 c = search needs
+
+enum-known-c : tie.Need-enum-known-c
+enum-known-c c = search needs
+
+enum-known-c-2 : tie.Need-enum-known-c-2
+enum-known-c-2 c = search needs
+
+enum-told-4 : tie.Need-enum-told-4
+enum-told-4 c = search needs
+
+returns : tie.Need-returns
+unfolding numbersOf answerOf
+returns c = rw (c .enum-told .given .1)
+
+returns-2 : tie.Need-returns-2
+unfolding numbersOf answerOf
+returns-2 c = rw (c .enum-told2 .given .1)
+
+returns-3 : tie.Need-returns-3
+unfolding numbersOf answerOf
+returns-3 c = rw (c .enum-told3 .given .1)
+
+returns-4 : tie.Need-returns-4
+unfolding numbersOf answerOf
+returns-4 c = rw (c .before .c .given .1)
+
+returns-5 : tie.Need-returns-5
+unfolding numbersOf answerOf
+returns-5 c = rw (c .before .c2 .given .1)
+
+returns-6 : tie.Need-returns-6
+unfolding numbersOf answerOf
+returns-6 c = rw (c .enum-told4 .given .1)
+
+pub numbers-spec : {M : Type 1} → statement M
+numbers-spec =
+    tie.close
+    (tie.spec
+    enum-told
+    enum-told-2
+    enum-told-3
+    enum-known-c
+    enum-known-c-2
+    enum-told-4
+    returns
+    returns-2
+    returns-3
+    returns-4
+    returns-5
+    returns-6)

@@ -1,0 +1,18 @@
+-- `struo::struo_check` meets its contract. Assumes nothing.
+use borrow.Author.Needs.{needs}
+use Rattle.struo.proofs.struo_check.Statement.{statement}
+use Rattle.struo.proofs.struo_check.Tie as tie
+use mathlib.Core.Path.{ap, _∙_}
+use Rattle.struo.specs.Numbers.{numbersOf}
+
+check-requires : tie.Need-check-requires
+check-requires c κs = search needs
+
+numbers-requires : tie.Need-numbers-requires
+numbers-requires c κs = search needs
+
+returns : tie.Need-returns
+returns c = c .numbers .ensures ∙ ap numbersOf (c .before .check .ensures)
+
+pub struo-check-spec : {M : Type 1} → statement M
+struo-check-spec = tie.close (tie.spec check-requires numbers-requires returns)

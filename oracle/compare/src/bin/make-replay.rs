@@ -1,0 +1,61 @@
+//! Makes the replay list, or describes one.
+
+use compare::args::{parse_number, Words};
+use compare::replay::{make, read, write, Entry};
+use std::process::ExitCode;
+
+const USAGE: &str = "usage: make-replay SEED COUNT -o FILE
+       make-replay describe FILE";
+
+fn main() -> ExitCode {
+    let words: Vec<String> = std::iter::from_fn({
+        let mut words = Words::of_process();
+        move || words.next()
+    })
+    .collect();
+    let words: Vec<&str> = words.iter().map(String::as_str).collect();
+    match driver::with_big_stack(|| execute(&words)) {
+        Ok(text) => {
+            print!("{text}");
+            ExitCode::SUCCESS
+        }
+        Err(error) => {
+            eprintln!("make-replay: {error}");
+            ExitCode::FAILURE
+        }
+    }
+}
+
+fn execute(words: &[&str]) -> Result<String, String> {
+    match words {
+        ["describe", file] => {
+            let bytes = std::fs::read(file).map_err(|error| format!("{file}: {error}"))?;
+            let entries = read(&bytes).map_err(|error| format!("{file}: {error}"))?;
+            Ok(describe(&entries, bytes.len()))
+        }
+        [seed, count, "-o", file] => {
+            let seed = parse_number("SEED", seed)?;
+            let count = parse_number("COUNT", count)?;
+            let count = u32::try_from(count).map_err(|_| format!("COUNT {count} is too large"))?;
+            let entries = make(seed, count as usize)?;
+            let bytes = write(&entries);
+            std::fs::write(file, &bytes).map_err(|error| format!("{file}: {error}"))?;
+            Ok(describe(&entries, bytes.len()))
+        }
+        _ => Err(format!("bad words\n{USAGE}")),
+    }
+}
+
+/// Counts by the checks' and the call's answer, and the largest sizes.
+fn describe(entries: &[Entry], bytes: usize) -> String {
+    let count = |number: u32| entries.iter().filter(|entry| entry.answer[0] == number).count();
+    let largest = |size: fn(&Entry) -> usize| entries.iter().map(size).max().unwrap_or(0);
+    let mut text = format!("{} entries, {bytes} bytes\naccepted: {}\n", entries.len(), count(0));
+    for number in 1..=10 {
+        text += &format!("refused {number}: {}\n", count(number));
+    }
+    text += &format!("largest image: {} bytes\n", largest(|entry| entry.image.len()));
+    text += &format!("largest netlist buffer: {} words\n", largest(|entry| entry.limits.netlist_words));
+    text += &format!("largest scratch: {} words\n", largest(|entry| entry.limits.scratch_words));
+    text
+}

@@ -1,0 +1,111 @@
+//! Subjects with a deliberate fault, for the self-test.
+
+use crate::limits::Limits;
+use crate::subject::{Subject, Witness};
+use crate::{Answer, ACCEPTED};
+
+/// What is wrong with a subject.
+#[derive(Clone, Copy, Debug, PartialEq, Eq)]
+pub enum Fault {
+    /// A bad expression is blamed on the next record.
+    ExpressionPlace,
+    /// Names that do not end at the total are blamed on field 15.
+    NamesEndPlace,
+    /// A scratch one word short is taken.
+    ShortScratch,
+    /// The net limit 65,536 is taken.
+    NetLimit,
+    /// A combinational loop is answered as an undriven bit.
+    LoopAsUndriven,
+    /// A Mux node's sides are exchanged.
+    MuxSides,
+    /// A memory record's depth is one too large.
+    MemoryDepth,
+    /// The scratch's last required word is left as it was.
+    DirtyScratch,
+    /// The word beyond the netlist's required ones is cleared.
+    WordBeyond,
+    /// The netlist is cleared before a refusal by 5.
+    EarlyClear,
+    /// A refusal by 9 leaves the netlist as it was.
+    UnclearedNetlist,
+}
+
+pub const CHECK_FAULTS: [Fault; 4] = [Fault::ExpressionPlace, Fault::NamesEndPlace, Fault::ShortScratch, Fault::NetLimit];
+
+pub const LOWER_FAULTS: [Fault; 7] = [
+    Fault::LoopAsUndriven,
+    Fault::MuxSides,
+    Fault::MemoryDepth,
+    Fault::DirtyScratch,
+    Fault::WordBeyond,
+    Fault::EarlyClear,
+    Fault::UnclearedNetlist,
+];
+
+/// The reference with a fault.
+pub struct Faulty(pub Fault);
+
+impl Subject for Faulty {
+    fn check(&self, image: &[u8], limits: &Limits) -> Answer {
+        let mut limits = *limits;
+        match self.0 {
+            Fault::ShortScratch => limits.scratch_words += 1,
+            Fault::NetLimit if limits.n == 65_536 => limits.n = 65_535,
+            _ => {}
+        }
+        let answer = Witness.check(image, &limits);
+        match (self.0, answer) {
+            (Fault::ExpressionPlace, [4, 1, record]) => [4, 1, record + 1],
+            (Fault::NamesEndPlace, [3, 14, 0]) => [3, 15, 0],
+            _ => answer,
+        }
+    }
+
+    fn lower(&self, image: &[u8], n: u32, p: u32, netlist: &mut [u32], scratch: &mut [u32]) -> Answer {
+        let before = netlist.to_vec();
+        let last_scratch = reference::scratch_words(image, n).map(|required| required - 1);
+        let dirt = last_scratch.and_then(|last| scratch.get(last).copied());
+        let answer = Witness.lower(image, n, p, netlist, scratch);
+        match (self.0, answer) {
+            (Fault::LoopAsUndriven, [7, signal, bit]) => return [6, signal, bit],
+            (Fault::MuxSides, ACCEPTED) => exchange_mux_sides(netlist),
+            (Fault::MemoryDepth, ACCEPTED) => enlarge_memory(netlist),
+            (Fault::DirtyScratch, ACCEPTED) => scratch[last_scratch.unwrap()] = dirt.unwrap(),
+            (Fault::WordBeyond, ACCEPTED) => netlist[reference::netlist_words(n, p)..].iter_mut().take(1).for_each(|word| *word = 0),
+            (Fault::EarlyClear, [5, 0, 0]) => netlist[0] = 0,
+            (Fault::UnclearedNetlist, [9, 0, 0]) => netlist.copy_from_slice(&before),
+            _ => {}
+        }
+        answer
+    }
+}
+
+const MUX: u32 = 6;
+const MEMORY: u32 = 2;
+
+fn exchange_mux_sides(netlist: &mut [u32]) {
+    let nets = netlist[1] as usize;
+    let nodes = netlist[16..].chunks_exact_mut(6).take(nets);
+    if let Some(mux) = nodes.into_iter().find(|node| node[0] == MUX) {
+        mux.swap(4, 5);
+    }
+}
+
+/// Adds 1 to the depth in the first memory record.
+fn enlarge_memory(netlist: &mut [u32]) {
+    let (used, mut at) = (netlist[3] as usize, netlist[4] as usize);
+    let end = at + used;
+    while at < end {
+        if netlist[at] == MEMORY {
+            netlist[at + 2] += 1;
+            return;
+        }
+        at += match netlist[at] {
+            0 => 3 + netlist[at + 2] as usize,
+            1 => 13,
+            3 => 4 + 3 * netlist[at + 2] as usize,
+            _ => 4 + 2 * netlist[at + 2] as usize,
+        };
+    }
+}

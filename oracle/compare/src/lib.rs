@@ -1,0 +1,19 @@
+//! Comparing the port with document 01: cases, limits, the call with guarded
+//! buffers, what must be in them afterwards, shrinking, and the replay list.
+
+pub mod args;
+pub mod call;
+pub mod cases;
+pub mod expect;
+pub mod faults;
+pub mod limits;
+pub mod replay;
+pub mod run;
+pub mod selftest;
+pub mod shrink;
+pub mod subject;
+
+/// Number and two places; all 0 for acceptance.
+pub type Answer = [u32; 3];
+
+pub const ACCEPTED: Answer = [0, 0, 0];

@@ -1,0 +1,139 @@
+//! Runs the comparison over many images and stops at the first difference.
+
+use crate::call::{compare, Difference, What};
+use crate::cases::{case, Case, Origin, SizeChoice};
+use crate::expect::hex;
+use crate::limits::{for_check, for_lower, Recipe, Taken};
+use crate::shrink::shrink;
+use crate::subject::Subject;
+use crate::Answer;
+use image::{disassemble, Image, Random};
+use std::fmt;
+
+/// Which images are compared.
+#[derive(Clone, Copy, Debug)]
+pub struct Plan {
+    pub seed: u64,
+    pub first: u64,
+    pub images: u64,
+    pub size: SizeChoice,
+}
+
+/// What was compared: images, and calls by outcome (0 accepted, 1 to 10).
+#[derive(Clone, Debug, Default, PartialEq, Eq)]
+pub struct Tally {
+    pub images: u64,
+    pub outcomes: [u64; 11],
+}
+
+impl Tally {
+    fn count(&mut self, answer: Answer) {
+        self.outcomes[answer[0] as usize] += 1;
+    }
+
+    pub fn calls(&self) -> u64 {
+        self.outcomes.iter().sum()
+    }
+}
+
+impl fmt::Display for Tally {
+    fn fmt(&self, f: &mut fmt::Formatter) -> fmt::Result {
+        write!(f, "{} images, {} calls: accepted {}", self.images, self.calls(), self.outcomes[0])?;
+        for (number, count) in self.outcomes.iter().enumerate().skip(1) {
+            write!(f, ", refused {number}: {count}")?;
+        }
+        Ok(())
+    }
+}
+
+/// A difference, with its image before and after shrinking.
+pub struct Failure {
+    pub what: What,
+    pub number: u64,
+    pub origin: Origin,
+    pub image: Vec<u8>,
+    pub difference: Difference,
+    pub small: Vec<u8>,
+    pub small_difference: Difference,
+}
+
+impl fmt::Display for Failure {
+    fn fmt(&self, f: &mut fmt::Formatter) -> fmt::Result {
+        writeln!(f, "DIFFERENCE in {:?} at image {} ({}), {} bytes", self.what, self.number, self.origin, self.image.len())?;
+        writeln!(f, "{}", self.difference)?;
+        writeln!(f, "smallest image found, {} bytes:", self.small.len())?;
+        match Image::decode(&self.small) {
+            Some(image) => write!(f, "{}", disassemble(&image))?,
+            None => writeln!(f, "(its header is wrong: no text)")?,
+        }
+        writeln!(f, "hex {}", hex(&self.small))?;
+        write!(f, "{}", self.small_difference)
+    }
+}
+
+/// Compares every image of the plan, or stops at the first difference.
+pub fn run(subject: &dyn Subject, what: What, plan: &Plan) -> Result<Tally, Box<Failure>> {
+    let mut tally = Tally::default();
+    for number in plan.first..plan.first + plan.images {
+        let mut random = Random::new(plan.seed ^ number.wrapping_mul(0xd134_2543_de82_ef95));
+        let case = case(&mut random, number, what, plan.size);
+        let taken = taken(what, &case.image);
+        tally.images += 1;
+        for recipe in recipes(what, &case, &mut random) {
+            let trial = Trial { subject, what, recipe, junk: random.next() };
+            let (answer, difference) = trial.compare(&case.image, taken);
+            tally.count(answer);
+            if let Some(difference) = difference {
+                return Err(Box::new(trial.failure(number, case, difference)));
+            }
+        }
+    }
+    Ok(tally)
+}
+
+fn recipes(what: What, case: &Case, random: &mut Random) -> Vec<Recipe> {
+    let mut recipes = match what {
+        What::Check => for_check(random),
+        What::Lower => for_lower(random),
+    };
+    // The walk does not begin on an image that is refused by 3 or 4.
+    if what == What::Lower && reference::scratch_words(&case.image, 1).is_none() {
+        recipes.drain(1..recipes.len() - 1);
+    }
+    recipes.extend(case.limits.as_ref().map(Recipe::given));
+    recipes
+}
+
+/// One way to call the subject, for the image found and those shrunk from it.
+struct Trial<'a> {
+    subject: &'a dyn Subject,
+    what: What,
+    recipe: Recipe,
+    junk: u64,
+}
+
+impl Trial<'_> {
+    fn compare(&self, image: &[u8], taken: Taken) -> (Answer, Option<Difference>) {
+        let limits = self.recipe.limits(image, taken);
+        compare(self.subject, self.what, image, &limits, self.junk)
+    }
+
+    fn difference(&self, image: &[u8]) -> Option<Difference> {
+        self.compare(image, taken(self.what, image)).1
+    }
+
+    fn failure(&self, number: u64, case: Case, difference: Difference) -> Failure {
+        let Case { image, origin, .. } = case;
+        let small = shrink(&image, &mut |candidate| self.difference(candidate).is_some());
+        let small_difference = self.difference(&small).expect("the difference persists");
+        Failure { what: self.what, number, origin, image, difference, small, small_difference }
+    }
+}
+
+/// What the limits go by. The checks do not lower, so they have nothing.
+fn taken(what: What, image: &[u8]) -> Taken {
+    match what {
+        What::Check => Taken::NOTHING,
+        What::Lower => Taken::by(image),
+    }
+}

@@ -1,0 +1,53 @@
+//! The self-test: each deliberate fault must be found and shrunk, and a subject
+//! without fault must pass.
+
+use crate::call::What;
+use crate::faults::{Fault, Faulty, CHECK_FAULTS, LOWER_FAULTS};
+use crate::run::{run, Plan};
+use crate::subject::Witness;
+
+/// A shrunk image larger than this was not shrunk well.
+const MOST_SMALL_BYTES: usize = 450;
+
+/// Prints a line for each fault; whether all is as it must be.
+pub fn self_test(plan: &Plan) -> bool {
+    let faults = CHECK_FAULTS.map(|fault| (What::Check, fault)).into_iter().chain(LOWER_FAULTS.map(|fault| (What::Lower, fault)));
+    let mut good = true;
+    for (what, fault) in faults {
+        good &= fault_is_found(what, fault, plan);
+    }
+    for what in [What::Check, What::Lower] {
+        good &= witness_passes(what, plan);
+    }
+    good
+}
+
+fn fault_is_found(what: What, fault: Fault, plan: &Plan) -> bool {
+    match run(&Faulty(fault), what, plan) {
+        Ok(tally) => {
+            println!("self-test: {fault:?} NOT FOUND in {tally}");
+            false
+        }
+        Err(failure) => {
+            let good = failure.small.len() <= MOST_SMALL_BYTES;
+            let verdict = if good { "found" } else { "found but NOT SHRUNK WELL" };
+            let (from, to) = (failure.image.len(), failure.small.len());
+            println!("self-test: {fault:?} {verdict} at image {}, {from} bytes shrunk to {to}", failure.number);
+            println!("{failure}");
+            good
+        }
+    }
+}
+
+fn witness_passes(what: What, plan: &Plan) -> bool {
+    match run(&Witness, what, plan) {
+        Ok(tally) => {
+            println!("self-test: {what:?} without fault passes: {tally}");
+            true
+        }
+        Err(failure) => {
+            println!("self-test: {what:?} without fault is BLAMED: {failure}");
+            false
+        }
+    }
+}

@@ -1,0 +1,113 @@
+//! The oracle: runs struo's own lowering on module images and gives its answers
+//! in the form of document 01 (netlist images, refusals, the listing's text).
+//! Also holds two simulators that follow the step rule, one for modules and one
+//! for netlists.
+
+mod big_stack;
+mod listing;
+mod module_image;
+mod module_sim;
+mod netlist_sim;
+mod rtl;
+mod simulation;
+mod words;
+
+// Two copies of the lowering: `plain` (unchanged) and `limited` (limits.patch).
+include!(concat!(env!("OUT_DIR"), "/copies.rs"));
+
+use std::any::Any;
+use std::panic::{AssertUnwindSafe, catch_unwind};
+
+pub use big_stack::with_big_stack;
+pub use listing::{Check, LISTING_LIMITS, listing};
+pub use module_sim::ModuleSim;
+pub use netlist_sim::NetlistSim;
+pub use simulation::{Contents, NoRun, Observation, Setting};
+pub use words::words;
+
+use module_image::ModuleImage;
+
+/// Marks an absent number in both images.
+pub const ABSENT: u32 = u32::MAX;
+
+/// What a lowering ends with.
+#[derive(Clone, Debug, Eq, PartialEq)]
+pub enum Answer {
+    /// Accepted: the nodes, and the list records in the order pushed.
+    Netlist {
+        /// Kind, owner or value, bit, three inputs.
+        nodes: Vec<[u32; 6]>,
+        /// Each record's words.
+        records: Vec<Vec<u32>>,
+    },
+    /// Refused by 6 to 10: the number and the place.
+    Refused([u32; 3]),
+    /// The Rust panicked, or the image could not be read. Never a refusal.
+    Crash(String),
+}
+
+/// Lowers an image that passes checks 3 and 4 with the unchanged Rust.
+/// `observable` is the value of `resolve_observable_dependencies`.
+#[must_use]
+pub fn lower(image: &[u8], observable: bool) -> Answer {
+    guarded(|| lower_plain(image, observable))
+}
+
+/// As [`lower`], with `n` nets and `p` list words at most: 9 when net `n + 1`
+/// would be made, 10 when a record would pass `p` list words.
+#[must_use]
+pub fn lower_limited(image: &[u8], n: u32, p: u32, observable: bool) -> Answer {
+    guarded(|| lower_patched(image, n, p, observable))
+}
+
+fn lower_plain(image: &[u8], observable: bool) -> Result<Answer, String> {
+    use plain::inside;
+    let image = ModuleImage::decode(image)?;
+    let module = rtl::module(&image)?;
+    match inside::run(&module, observable, |_| ()) {
+        Ok(netlist) => {
+            let stateless = rtl::stateless_module(&image)?;
+            let order = inside::record_order(&module, &stateless, observable, &netlist);
+            Ok(inside::encode(&image, &netlist, &order))
+        }
+        Err(error) => inside::refusal(&image, &error).map(Answer::Refused),
+    }
+}
+
+fn lower_patched(image: &[u8], n: u32, p: u32, observable: bool) -> Result<Answer, String> {
+    use limited::inside;
+    let image = ModuleImage::decode(image)?;
+    let module = rtl::module(&image)?;
+    match inside::run(&module, observable, |netlist| {
+        netlist.set_limits(n, p as usize)
+    }) {
+        Ok(netlist) => {
+            let order: Vec<usize> = netlist.pushed().iter().map(|&sort| sort as usize).collect();
+            Ok(inside::encode(&image, &netlist, &order))
+        }
+        Err(error) => inside::refusal(&image, &error).map(Answer::Refused),
+    }
+}
+
+/// Runs a lowering on a big stack and sorts out how it ended.
+fn guarded(lowering: impl FnOnce() -> Result<Answer, String> + Send) -> Answer {
+    let result = with_big_stack(|| catch_unwind(AssertUnwindSafe(lowering)));
+    match result {
+        Ok(Ok(answer)) => answer,
+        Ok(Err(text)) => Answer::Crash(text),
+        Err(payload) => unwound(payload.as_ref()),
+    }
+}
+
+/// An unwinding is a limit met or a panic.
+fn unwound(payload: &(dyn Any + Send)) -> Answer {
+    if let Some(limit) = payload.downcast_ref::<limited_ir::LimitMet>() {
+        Answer::Refused([limit.0, 0, 0])
+    } else if let Some(text) = payload.downcast_ref::<String>() {
+        Answer::Crash(text.clone())
+    } else if let Some(text) = payload.downcast_ref::<&str>() {
+        Answer::Crash((*text).to_string())
+    } else {
+        Answer::Crash("panic without a text".to_string())
+    }
+}

@@ -1,0 +1,22 @@
+//! Verilog and pictures of module images and netlist images, and a witness that
+//! holds them to simulators and provers that are not ours. All of this stands
+//! outside the proof: nothing here is proved, and no proof rests on it.
+
+pub mod bench;
+pub mod cli;
+mod clocked;
+pub mod dot;
+mod module_verilog;
+mod names;
+mod needed;
+pub mod netlist;
+mod netlist_verilog;
+pub mod opened;
+pub mod tools;
+mod verilog;
+pub mod witness;
+
+pub use module_verilog::module_verilog;
+pub use netlist::Netlist;
+pub use netlist_verilog::netlist_verilog;
+pub use verilog::{Event, Style, Verilog};

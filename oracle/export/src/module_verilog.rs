@@ -1,0 +1,363 @@
+//! Behavioural Verilog of a module image. Every expression is a wire of its own
+//! width, so each operator stands alone and IEEE 1800 says what it gives:
+//! operand and result widths are the declared ones, nothing is widened.
+
+use std::collections::{BTreeMap, BTreeSet};
+
+use image::{ABSENT, Image, constant_words, kind};
+
+use crate::clocked;
+use crate::names::Names;
+use crate::needed::{needed_assignments, ports};
+use crate::verilog::{Event, Style, Verilog, literal, module_head, range, select};
+
+const INPUT: u32 = 1;
+const OUTPUT: u32 = 2;
+
+/// The Verilog of an image that passes checks 3 and 4.
+///
+/// # Errors
+///
+/// With [`Style::Step`], says which clock or reset is no input.
+pub fn module_verilog(image: &Image, module: &str, style: Style) -> Result<Verilog, String> {
+    Writer::new(image, style)?.write(module)
+}
+
+struct Writer<'a> {
+    image: &'a Image,
+    names: Names,
+    signals: Vec<String>,
+    expressions: Vec<String>,
+    /// Whether a signal holds contents: a register target or read data.
+    variables: Vec<bool>,
+    events: Vec<Event>,
+    event_port: Option<String>,
+}
+
+impl<'a> Writer<'a> {
+    fn new(image: &'a Image, style: Style) -> Result<Self, String> {
+        let mut names = Names::default();
+        let signals = image.signals.iter();
+        let signals = signals.map(|signal| names.escaped(&name(image, signal[0], signal[1])));
+        let signals: Vec<String> = signals.collect();
+        let numbers = 0..image.expressions.len();
+        let expressions = numbers
+            .map(|number| names.plain(&format!("e{number}")))
+            .collect();
+        let mut writer = Writer {
+            image,
+            names,
+            signals,
+            expressions,
+            variables: variables(image),
+            events: Vec::new(),
+            event_port: None,
+        };
+        if style == Style::Step {
+            writer.make_event_port()?;
+        }
+        Ok(writer)
+    }
+
+    fn make_event_port(&mut self) -> Result<(), String> {
+        self.events = events(self.image)?;
+        if !self.events.is_empty() {
+            self.event_port = Some(self.names.plain("events"));
+        }
+        Ok(())
+    }
+
+    fn write(mut self, module: &str) -> Result<Verilog, String> {
+        let mut text = module_head(module, &self.port_declarations());
+        text += &self.inner_declarations();
+        for number in 0..self.image.expressions.len() {
+            text += &self.expression_line(number);
+        }
+        text += &self.assignments();
+        for register in &self.image.registers {
+            text += &self.register(register);
+        }
+        let mut memories = Vec::new();
+        for memory in &self.image.memories {
+            let name = self.names.escaped(&name(self.image, memory[0], memory[1]));
+            text += &self.memory(memory, &name);
+            memories.push(name);
+        }
+        text += "endmodule\n";
+        Ok(self.finished(text, memories))
+    }
+
+    fn finished(self, text: String, memories: Vec<String>) -> Verilog {
+        let signal = |number: u32| self.signals[number as usize].clone();
+        let read_data = |memory| ports(memory).map(|port| signal(port[1])).collect();
+        let numbers = (0..).zip(&self.image.signals);
+        let ports_of = numbers.filter(|(_, record)| record[3] != 0);
+        Verilog {
+            text,
+            ports: ports_of.map(|(number, _)| number).collect(),
+            registers: self.image.registers.iter().map(|r| signal(r[2])).collect(),
+            read_data: self.image.memories.iter().map(read_data).collect(),
+            memories,
+            event_port: self.event_port,
+            events: self.events,
+        }
+    }
+
+    fn port_declarations(&self) -> Vec<String> {
+        let signals = self
+            .image
+            .signals
+            .iter()
+            .zip(&self.signals)
+            .zip(&self.variables);
+        let ports = signals.filter_map(|((signal, name), variable)| {
+            let sort = match (signal[3], variable) {
+                (INPUT, _) => "input wire",
+                (OUTPUT, false) => "output wire",
+                (OUTPUT, true) => "output reg",
+                _ => return None,
+            };
+            Some(format!("{sort} {}{name}", range(signal[2])))
+        });
+        let mut ports: Vec<String> = ports.collect();
+        if let Some(port) = &self.event_port {
+            ports.push(format!("input wire [{}:0] {port}", self.events.len() - 1));
+        }
+        ports
+    }
+
+    fn inner_declarations(&self) -> String {
+        let signals = self
+            .image
+            .signals
+            .iter()
+            .zip(&self.signals)
+            .zip(&self.variables);
+        let inner = signals.filter(|((signal, _), _)| signal[3] == 0);
+        inner
+            .map(|((signal, name), variable)| {
+                let sort = if *variable { "reg" } else { "wire" };
+                format!("  {sort} {}{name};\n", range(signal[2]))
+            })
+            .collect()
+    }
+
+    fn expression_line(&self, number: usize) -> String {
+        let record = &self.image.expressions[number];
+        let (width, name) = (range(record[1]), &self.expressions[number]);
+        format!("  wire {width}{name} = {};\n", self.expression(record))
+    }
+
+    fn expression(&self, record: &[u32; 5]) -> String {
+        let &[kind, width, first, second, third] = record;
+        let name = |number: u32| &self.expressions[number as usize];
+        match kind {
+            kind::SIGNAL => self.signal_range(first, second, width),
+            kind::CONSTANT => literal(&self.constant_bits(width, first)),
+            kind::UNARY => unary(first, name(second)),
+            kind::BINARY => binary(first, name(second), name(third)),
+            kind::MUX => format!("{} ? {} : {}", name(first), name(second), name(third)),
+            kind::CONCAT => self.concat(first, second),
+            _ => select(
+                name(first),
+                self.image.expressions[first as usize][1],
+                second,
+                width,
+            ),
+        }
+    }
+
+    fn signal_range(&self, signal: u32, lsb: u32, width: u32) -> String {
+        let (name, record) = (
+            &self.signals[signal as usize],
+            &self.image.signals[signal as usize],
+        );
+        select(name, record[2], lsb, width)
+    }
+
+    fn constant_bits(&self, width: u32, start: u32) -> Vec<bool> {
+        let start = start as usize;
+        let words = &self.image.list[start..start + constant_words(width)];
+        let bits = 0..width as usize;
+        bits.map(|bit| words[bit / 32] >> (bit % 32) & 1 == 1)
+            .collect()
+    }
+
+    fn concat(&self, start: u32, count: u32) -> String {
+        let parts = &self.image.list[start as usize..(start + count) as usize];
+        let parts = parts
+            .iter()
+            .map(|part| self.expressions[*part as usize].as_str());
+        format!("{{{}}}", parts.collect::<Vec<_>>().join(", "))
+    }
+
+    fn assignments(&self) -> String {
+        let needed = needed_assignments(self.image);
+        let lines = self
+            .image
+            .assignments
+            .iter()
+            .zip(needed)
+            .map(|(record, needed)| {
+                let &[signal, lsb, width, value] = record;
+                let (target, value) = (
+                    self.signal_range(signal, lsb, width),
+                    &self.expressions[value as usize],
+                );
+                let mark = if needed { "" } else { "// not needed: " };
+                format!("  {mark}assign {target} = {value};\n")
+            });
+        lines.collect()
+    }
+
+    fn register(&self, record: &[u32; 12]) -> String {
+        let reset = (record[8] != ABSENT).then(|| clocked::Reset {
+            level: self.reset_level(record),
+            asynchronous: record[10] == 1,
+            value: self.expressions[record[11] as usize].clone(),
+        });
+        let name = name(self.image, record[0], record[1]);
+        let block = clocked::register(&clocked::Register {
+            target: self.signals[record[2] as usize].clone(),
+            next: self.expressions[record[3] as usize].clone(),
+            clock: self.clock(record[4], record[5]),
+            enable: self.level(record[6], record[7]),
+            reset,
+        });
+        format!("  // register {name}\n{block}")
+    }
+
+    fn reset_level(&self, record: &[u32; 12]) -> clocked::Level {
+        let (signal, low) = (record[8], record[9] == 1);
+        let wire = if record[10] == 1 {
+            self.event(Event::Reset { signal, low }, signal)
+        } else {
+            self.signals[signal as usize].clone()
+        };
+        clocked::Level { wire, low }
+    }
+
+    fn level(&self, signal: u32, polarity: u32) -> Option<clocked::Level> {
+        (signal != ABSENT).then(|| clocked::Level {
+            wire: self.signals[signal as usize].clone(),
+            low: polarity == 1,
+        })
+    }
+
+    fn clock(&self, signal: u32, edge: u32) -> clocked::Clock {
+        let wire = self.event(Event::Clock { signal }, signal);
+        clocked::Clock {
+            wire,
+            falling: edge == 1,
+        }
+    }
+
+    /// The event's bit of the event port, or the signal where there is none.
+    fn event(&self, event: Event, signal: u32) -> String {
+        let place = self.events.iter().position(|known| *known == event);
+        match (&self.event_port, place) {
+            (Some(port), Some(place)) => format!("{port}[{place}]"),
+            _ => self.signals[signal as usize].clone(),
+        }
+    }
+
+    fn memory(&mut self, record: &[u32; 26], name: &str) -> String {
+        let memory = clocked::Memory {
+            name: name.to_string(),
+            width: self.image.signals[record[6] as usize][2],
+            depth: record[2],
+            ports: ports(record).map(|port| self.memory_port(port)).collect(),
+        };
+        clocked::memory(&memory, &mut self.names)
+    }
+
+    fn memory_port(&self, port: &[u32]) -> clocked::Port {
+        let expression = |number: u32| self.expressions[number as usize].clone();
+        clocked::Port {
+            read_address: expression(port[0]),
+            read_data: self.signals[port[1] as usize].clone(),
+            read_enable: self.level(port[2], port[3]),
+            write_address: expression(port[4]),
+            write_data: expression(port[5]),
+            write_enable: self
+                .level(port[6], port[7])
+                .expect("check 4 asks for a write enable"),
+            clock: self.clock(port[8], port[9]),
+        }
+    }
+}
+
+fn unary(operator: u32, input: &str) -> String {
+    let operator = ["~", "!", "|", "&", "^"][operator as usize];
+    format!("{operator}{input}")
+}
+
+fn binary(operator: u32, lhs: &str, rhs: &str) -> String {
+    let symbols = [
+        "&", "|", "^", "+", "-", "*", "==", "!=", "<", "<", "<=", "<=", ">", ">", ">=", ">=", "<<",
+        ">>", ">>>",
+    ];
+    let symbol = symbols[operator as usize];
+    match operator {
+        9 | 11 | 13 | 15 => format!("$signed({lhs}) {symbol} $signed({rhs})"),
+        18 => format!("$signed({lhs}) {symbol} {rhs}"),
+        _ => format!("{lhs} {symbol} {rhs}"),
+    }
+}
+
+fn variables(image: &Image) -> Vec<bool> {
+    let mut variables = vec![false; image.signals.len()];
+    for register in &image.registers {
+        variables[register[2] as usize] = true;
+    }
+    for port in image.memories.iter().flat_map(ports) {
+        variables[port[1] as usize] = true;
+    }
+    variables
+}
+
+/// Clocks and asynchronous resets, each once; all must be inputs.
+fn events(image: &Image) -> Result<Vec<Event>, String> {
+    let mut events = BTreeSet::new();
+    for register in &image.registers {
+        events.insert(Event::Clock {
+            signal: register[4],
+        });
+        if register[8] != ABSENT && register[10] == 1 {
+            events.insert(Event::Reset {
+                signal: register[8],
+                low: register[9] == 1,
+            });
+        }
+    }
+    for port in image.memories.iter().flat_map(ports) {
+        events.insert(Event::Clock { signal: port[8] });
+    }
+    let signal = |event: &Event| match *event {
+        Event::Clock { signal } | Event::Reset { signal, .. } => signal,
+    };
+    match events
+        .iter()
+        .map(signal)
+        .find(|&s| image.signals[s as usize][3] != INPUT)
+    {
+        Some(signal) => Err(format!(
+            "signal {signal} is a clock or asynchronous reset and no input"
+        )),
+        None => Ok(events.into_iter().collect()),
+    }
+}
+
+/// A name of the image.
+pub fn name(image: &Image, offset: u32, length: u32) -> String {
+    let (offset, length) = (offset as usize, length as usize);
+    String::from_utf8_lossy(&image.names[offset..offset + length]).into_owned()
+}
+
+/// Names of all signals, by number.
+pub fn signal_names(image: &Image) -> BTreeMap<u32, String> {
+    let signals = (0..).zip(&image.signals);
+    signals
+        .map(|(number, signal)| (number, name(image, signal[0], signal[1])))
+        .collect()
+}

@@ -1,0 +1,421 @@
+//! Structural Verilog of a netlist: a wire for each net, gates as assigns,
+//! cells as operators on concatenations, always blocks for the records.
+
+use std::collections::{BTreeMap, BTreeSet};
+
+use image::Image;
+
+use crate::clocked;
+use crate::module_verilog::{name, signal_names};
+use crate::names::Names;
+use crate::netlist::{
+    Arithmetic, Comparison, Control, Memory, MemoryPort, Net, Netlist, Node, RegisterBit,
+};
+use crate::verilog::{Event, Style, Verilog, module_head, range, select};
+
+/// The Verilog of a netlist; names come from the module image if it is given.
+///
+/// # Errors
+///
+/// Says where image and netlist do not fit, or, with [`Style::Step`], which
+/// clock or reset is no input.
+pub fn netlist_verilog(
+    netlist: &Netlist,
+    image: Option<&Image>,
+    module: &str,
+    style: Style,
+) -> Result<Verilog, String> {
+    if let Some(image) = image {
+        netlist.check_fit(image)?;
+    }
+    Writer::new(netlist, image, style)?.write(module)
+}
+
+struct Writer<'a> {
+    netlist: &'a Netlist,
+    names: Names,
+    ports: BTreeMap<u32, String>,
+    nets: Vec<String>,
+    registers: Vec<String>,
+    memories: Vec<String>,
+    read_data: Vec<Vec<String>>,
+    arithmetic: Vec<String>,
+    events: Vec<Event>,
+    event_port: Option<String>,
+}
+
+impl<'a> Writer<'a> {
+    fn new(netlist: &'a Netlist, image: Option<&Image>, style: Style) -> Result<Self, String> {
+        let mut names = Names::default();
+        let signals = image.map(signal_names).unwrap_or_default();
+        let named = |names: &mut Names, signal: u32| match signals.get(&signal) {
+            Some(name) => names.escaped(name),
+            None => names.plain(&format!("s{signal}")),
+        };
+        let ports = netlist
+            .ports
+            .iter()
+            .map(|port| (port.signal, named(&mut names, port.signal)));
+        let ports = ports.collect();
+        let mut writer = Writer {
+            netlist,
+            nets: numbered(&mut names, "n", netlist.nodes.len()),
+            registers: register_names(&mut names, netlist, image),
+            memories: memory_names(&mut names, netlist, image),
+            read_data: read_data_names(&mut names, netlist),
+            arithmetic: numbered(&mut names, "cell", netlist.arithmetic.len()),
+            names,
+            ports,
+            events: Vec::new(),
+            event_port: None,
+        };
+        if style == Style::Step {
+            writer.make_event_port()?;
+        }
+        Ok(writer)
+    }
+
+    fn make_event_port(&mut self) -> Result<(), String> {
+        self.events = events(self.netlist)?;
+        if !self.events.is_empty() {
+            self.event_port = Some(self.names.plain("events"));
+        }
+        Ok(())
+    }
+
+    fn write(mut self, module: &str) -> Result<Verilog, String> {
+        let mut text = module_head(module, &self.port_declarations());
+        text += &self.declarations();
+        for (node, net) in self.netlist.nodes.iter().zip(&self.nets) {
+            text += &format!("  assign {net} = {};\n", self.value(node));
+        }
+        text += &self.output_lines();
+        for (cell, name) in self.netlist.arithmetic.iter().zip(&self.arithmetic) {
+            text += &format!("  assign {name} = {};\n", self.arithmetic_value(cell));
+        }
+        for record in &self.netlist.registers {
+            text += &self.register(record);
+        }
+        for number in 0..self.netlist.memories.len() {
+            text += &self.memory(number);
+        }
+        text += "endmodule\n";
+        Ok(Verilog {
+            text,
+            ports: self.netlist.ports.iter().map(|port| port.signal).collect(),
+            event_port: self.event_port,
+            events: self.events,
+            registers: self.registers,
+            read_data: self.read_data,
+            memories: self.memories,
+        })
+    }
+
+    fn port_declarations(&self) -> Vec<String> {
+        let ports = self.netlist.ports.iter().map(|port| {
+            let direction = if port.input { "input" } else { "output" };
+            let width = range(port.nets.len() as u32);
+            format!("{direction} wire {width}{}", self.ports[&port.signal])
+        });
+        let mut ports: Vec<String> = ports.collect();
+        if let Some(port) = &self.event_port {
+            ports.push(format!("input wire [{}:0] {port}", self.events.len() - 1));
+        }
+        ports
+    }
+
+    fn declarations(&self) -> String {
+        let mut text: String = self
+            .nets
+            .chunks(16)
+            .map(|nets| format!("  wire {};\n", nets.join(", ")))
+            .collect();
+        for (name, cell) in self.arithmetic.iter().zip(&self.netlist.arithmetic) {
+            text += &format!("  wire {}{name};\n", range(cell.lhs.len() as u32));
+        }
+        for (name, width) in self.registers.iter().zip(self.netlist.register_widths()) {
+            text += &format!("  reg {}{name};\n", range(width));
+        }
+        for (names, memory) in self.read_data.iter().zip(&self.netlist.memories) {
+            for name in names {
+                text += &format!(
+                    "  reg {}{name};\n",
+                    range(memory.ports[0].read_data.len() as u32)
+                );
+            }
+        }
+        text
+    }
+
+    fn net(&self, net: Net) -> &str {
+        &self.nets[net as usize]
+    }
+
+    fn value(&self, node: &Node) -> String {
+        match *node {
+            Node::Input { signal, bit } => {
+                select(&self.ports[&signal], self.port_width(signal), bit, 1)
+            }
+            Node::Constant(value) => format!("1'b{}", u32::from(value)),
+            Node::And(a, b) => format!("{} & {}", self.net(a), self.net(b)),
+            Node::Or(a, b) => format!("{} | {}", self.net(a), self.net(b)),
+            Node::Xor(a, b) => format!("{} ^ {}", self.net(a), self.net(b)),
+            Node::Not(a) => format!("~{}", self.net(a)),
+            Node::Mux {
+                condition,
+                then,
+                otherwise,
+            } => {
+                format!(
+                    "{} ? {} : {}",
+                    self.net(condition),
+                    self.net(then),
+                    self.net(otherwise)
+                )
+            }
+            Node::Output { input, .. } => self.net(input).to_string(),
+            Node::RegisterOutput { register, bit } => {
+                let register = register as usize;
+                select(
+                    &self.registers[register],
+                    self.netlist.register_widths()[register],
+                    bit,
+                    1,
+                )
+            }
+            Node::MemoryOutput { memory, bit } => self.memory_output(memory as usize, bit),
+            Node::ArithmeticOutput { cell, bit } => {
+                let width = self.netlist.arithmetic[cell as usize].lhs.len() as u32;
+                select(&self.arithmetic[cell as usize], width, bit, 1)
+            }
+            Node::ComparisonOutput { cell } => {
+                self.comparison_value(&self.netlist.comparisons[cell as usize])
+            }
+        }
+    }
+
+    fn port_width(&self, signal: u32) -> u32 {
+        let port = self.netlist.ports.iter().find(|port| port.signal == signal);
+        port.map_or(1, |port| port.nets.len() as u32)
+    }
+
+    /// A second port's bits number on.
+    fn memory_output(&self, memory: usize, bit: u32) -> String {
+        let width = self.netlist.memories[memory].ports[0].read_data.len() as u32;
+        select(
+            &self.read_data[memory][(bit / width) as usize],
+            width,
+            bit % width,
+            1,
+        )
+    }
+
+    fn output_lines(&self) -> String {
+        let outputs = self.netlist.ports.iter().filter(|port| !port.input);
+        let line = |port: &crate::netlist::Port| {
+            format!(
+                "  assign {} = {};\n",
+                self.ports[&port.signal],
+                self.joined(&port.nets)
+            )
+        };
+        outputs.map(line).collect()
+    }
+
+    /// A list of nets as one word; the list has bit 0 first.
+    fn joined(&self, nets: &[Net]) -> String {
+        let parts: Vec<&str> = nets.iter().rev().map(|&net| self.net(net)).collect();
+        format!("{{{}}}", parts.join(", "))
+    }
+
+    fn arithmetic_value(&self, cell: &Arithmetic) -> String {
+        let symbol = ["+", "-", "*"][cell.operation as usize];
+        let carry = cell
+            .carry
+            .map(|net| format!(" + {}", self.net(net)))
+            .unwrap_or_default();
+        format!(
+            "{} {symbol} {}{carry}",
+            self.joined(&cell.lhs),
+            self.joined(&cell.rhs)
+        )
+    }
+
+    fn comparison_value(&self, cell: &Comparison) -> String {
+        let (lhs, rhs) = (self.joined(&cell.lhs), self.joined(&cell.rhs));
+        match cell.operation {
+            0 => format!("{lhs} < {rhs}"),
+            1 => format!("{lhs} <= {rhs}"),
+            2 => format!("$signed({lhs}) < $signed({rhs})"),
+            _ => format!("$signed({lhs}) <= $signed({rhs})"),
+        }
+    }
+
+    fn register(&self, record: &RegisterBit) -> String {
+        let width = self.netlist.register_widths()[record.register as usize];
+        let reset = record.reset.map(|control| clocked::Reset {
+            level: self.reset_level(control, record.asynchronous),
+            asynchronous: record.asynchronous,
+            value: format!("1'b{}", u32::from(record.value)),
+        });
+        clocked::register(&clocked::Register {
+            target: select(
+                &self.registers[record.register as usize],
+                width,
+                record.bit,
+                1,
+            ),
+            next: self.net(record.data).to_string(),
+            clock: self.clock(record.clock, record.falling),
+            enable: record.enable.map(|control| self.level(control)),
+            reset,
+        })
+    }
+
+    fn level(&self, control: Control) -> clocked::Level {
+        clocked::Level {
+            wire: self.net(control.net).to_string(),
+            low: control.low,
+        }
+    }
+
+    fn reset_level(&self, control: Control, asynchronous: bool) -> clocked::Level {
+        let low = control.low;
+        match self.netlist.nodes[control.net as usize] {
+            Node::Input { signal, .. } if asynchronous => {
+                let wire = self.event(Event::Reset { signal, low }, control.net);
+                clocked::Level { wire, low }
+            }
+            _ => self.level(control),
+        }
+    }
+
+    fn clock(&self, net: Net, falling: bool) -> clocked::Clock {
+        let wire = match self.netlist.nodes[net as usize] {
+            Node::Input { signal, .. } => self.event(Event::Clock { signal }, net),
+            _ => self.net(net).to_string(),
+        };
+        clocked::Clock { wire, falling }
+    }
+
+    /// The event's bit of the event port, or the net where there is none.
+    fn event(&self, event: Event, net: Net) -> String {
+        let place = self.events.iter().position(|known| *known == event);
+        match (&self.event_port, place) {
+            (Some(port), Some(place)) => format!("{port}[{place}]"),
+            _ => self.net(net).to_string(),
+        }
+    }
+
+    fn memory(&mut self, number: usize) -> String {
+        let record: &Memory = &self.netlist.memories[number];
+        let mut text = String::new();
+        let mut ports = Vec::new();
+        for (place, port) in record.ports.iter().enumerate() {
+            let [read, write] = ["read", "write"].map(|sort| {
+                let letter = ["a", "b"][place];
+                self.names
+                    .plain(&format!("m{number}_{sort}_address_{letter}"))
+            });
+            for (name, nets) in [(&read, &port.read_address), (&write, &port.write_address)] {
+                text += &format!(
+                    "  wire {}{name} = {};\n",
+                    range(nets.len() as u32),
+                    self.joined(nets)
+                );
+            }
+            ports.push(self.memory_port(port, read, write, self.read_data[number][place].clone()));
+        }
+        let memory = clocked::Memory {
+            name: self.memories[number].clone(),
+            width: record.ports[0].read_data.len() as u32,
+            depth: record.depth,
+            ports,
+        };
+        text + &clocked::memory(&memory, &mut self.names)
+    }
+
+    fn memory_port(
+        &self,
+        port: &MemoryPort,
+        read: String,
+        write: String,
+        data: String,
+    ) -> clocked::Port {
+        clocked::Port {
+            read_address: read,
+            read_data: data,
+            read_enable: port.read_enable.map(|control| self.level(control)),
+            write_address: write,
+            write_data: self.joined(&port.write_data),
+            write_enable: self.level(port.write_enable),
+            clock: self.clock(port.clock, port.falling),
+        }
+    }
+}
+
+fn numbered(names: &mut Names, prefix: &str, count: usize) -> Vec<String> {
+    (0..count)
+        .map(|number| names.plain(&format!("{prefix}{number}")))
+        .collect()
+}
+
+fn register_names(names: &mut Names, netlist: &Netlist, image: Option<&Image>) -> Vec<String> {
+    match image {
+        Some(image) => image
+            .registers
+            .iter()
+            .map(|r| names.escaped(&name(image, r[0], r[1])))
+            .collect(),
+        None => numbered(names, "r", netlist.register_widths().len()),
+    }
+}
+
+fn memory_names(names: &mut Names, netlist: &Netlist, image: Option<&Image>) -> Vec<String> {
+    match image {
+        Some(image) => image
+            .memories
+            .iter()
+            .map(|m| names.escaped(&name(image, m[0], m[1])))
+            .collect(),
+        None => numbered(names, "m", netlist.memories.len()),
+    }
+}
+
+fn read_data_names(names: &mut Names, netlist: &Netlist) -> Vec<Vec<String>> {
+    let of_memory = |(number, memory): (usize, &Memory)| {
+        let letters = ["a", "b"].into_iter().take(memory.ports.len());
+        letters
+            .map(|letter| names.plain(&format!("m{number}_read_{letter}")))
+            .collect()
+    };
+    netlist.memories.iter().enumerate().map(of_memory).collect()
+}
+
+/// Clocks and asynchronous resets, each once; all must be inputs.
+fn events(netlist: &Netlist) -> Result<Vec<Event>, String> {
+    let signal = |net: Net| match netlist.nodes[net as usize] {
+        Node::Input { signal, .. } => Ok(signal),
+        _ => Err(format!(
+            "net {net} is a clock or asynchronous reset and no input"
+        )),
+    };
+    let mut events = BTreeSet::new();
+    for record in &netlist.registers {
+        events.insert(Event::Clock {
+            signal: signal(record.clock)?,
+        });
+        if let (Some(reset), true) = (record.reset, record.asynchronous) {
+            events.insert(Event::Reset {
+                signal: signal(reset.net)?,
+                low: reset.low,
+            });
+        }
+    }
+    for port in netlist.memories.iter().flat_map(|memory| &memory.ports) {
+        events.insert(Event::Clock {
+            signal: signal(port.clock)?,
+        });
+    }
+    Ok(events.into_iter().collect())
+}

@@ -1,0 +1,91 @@
+//! What both Verilog writers share: how clocks reach a module, the identifiers
+//! a bench needs, and small pieces of text.
+
+/// How clocks and asynchronous resets reach the always blocks.
+#[derive(Clone, Copy, PartialEq, Eq, Debug)]
+pub enum Style {
+    /// By the signals themselves, as usual.
+    Plain,
+    /// By one more port with a bit for each [`Event`], so that all of them
+    /// change at once while every input still has its value before the step.
+    Step,
+}
+
+/// A bit of the event port.
+#[derive(Clone, Copy, PartialEq, Eq, PartialOrd, Ord, Debug)]
+pub enum Event {
+    /// A clock input.
+    Clock { signal: u32 },
+    /// An asynchronous reset input as registers of this polarity see it.
+    Reset { signal: u32, low: bool },
+}
+
+/// A Verilog module, and what its parts are called in it.
+pub struct Verilog {
+    /// The whole text.
+    pub text: String,
+    /// The signals that are ports, in the order declared.
+    pub ports: Vec<u32>,
+    /// The event port, if there is one, declared last.
+    pub event_port: Option<String>,
+    /// Its bits, bit 0 first.
+    pub events: Vec<Event>,
+    /// Variables with the register contents, by register.
+    pub registers: Vec<String>,
+    /// Variables with the read data, by memory and port.
+    pub read_data: Vec<Vec<String>>,
+    /// The memories.
+    pub memories: Vec<String>,
+}
+
+/// The range in a declaration; nothing for one bit.
+pub fn range(width: u32) -> String {
+    if width == 1 {
+        String::new()
+    } else {
+        format!("[{}:0] ", width - 1)
+    }
+}
+
+/// Bits `lsb` to `lsb + width - 1` of a word of `whole` bits.
+pub fn select(word: &str, whole: u32, lsb: u32, width: u32) -> String {
+    if width == whole {
+        word.to_string()
+    } else if width == 1 {
+        format!("{word}[{lsb}]")
+    } else {
+        format!("{word}[{}:{lsb}]", lsb + width - 1)
+    }
+}
+
+/// A binary literal; bits with bit 0 first.
+pub fn literal(bits: &[bool]) -> String {
+    format!("{}'b{}", bits.len(), digits(bits))
+}
+
+/// The bits as digits, the most significant first.
+pub fn digits(bits: &[bool]) -> String {
+    let digits = bits.iter().rev();
+    digits.map(|bit| if *bit { '1' } else { '0' }).collect()
+}
+
+/// The head of a module with these port declarations.
+pub fn module_head(name: &str, ports: &[String]) -> String {
+    if ports.is_empty() {
+        return format!("module {name} ();\n");
+    }
+    format!("module {name} (\n  {}\n);\n", ports.join(",\n  "))
+}
+
+#[cfg(test)]
+mod tests {
+    use super::{literal, select};
+
+    #[test]
+    fn pieces_of_text() {
+        assert_eq!(select("e1", 4, 0, 4), "e1");
+        assert_eq!(select("e1", 4, 2, 1), "e1[2]");
+        assert_eq!(select("e1", 4, 1, 3), "e1[3:1]");
+        assert_eq!(literal(&[true, false, false]), "3'b001");
+    }
+}

@@ -1,0 +1,259 @@
+//! Small images through Icarus and Yosys, and the witness's own alarms. Each
+//! test says so and passes where the tools are not installed.
+
+use export::bench::{Run, bench};
+use export::tools::{Proof, Workplace, is_installed, prove_equal, simulate};
+use export::witness::{Counts, Effort, witness};
+use export::{Netlist, Style, module_verilog, netlist_verilog};
+use image::{BINARY_OPS, Builder, Image, Random, UNARY_OPS, assemble};
+
+const EFFORT: Effort = Effort {
+    settings: 40,
+    proof_seconds: 20,
+};
+
+fn installed(tools: &[&str]) -> bool {
+    let missing: Vec<&&str> = tools.iter().filter(|tool| !is_installed(tool)).collect();
+    if !missing.is_empty() {
+        println!("SKIPPED: not installed: {missing:?}");
+    }
+    missing.is_empty()
+}
+
+fn image(text: &str) -> Image {
+    let bytes = assemble(text).unwrap_or_else(|error| panic!("{error}"));
+    Image::decode(&bytes).expect("a whole image")
+}
+
+/// Runs and proves one image; it must not be left out of either.
+fn hold(image: &Image) {
+    let mut counts = Counts::default();
+    let result = witness(image, &mut Random::new(7), EFFORT, &mut counts);
+    result.unwrap_or_else(|difference| panic!("{difference}"));
+    assert_eq!(
+        (counts.simulated, counts.proved + counts.proved_opened),
+        (1, 1),
+        "{counts:?}"
+    );
+}
+
+/// One output for each width of a binary operator.
+fn binary_image(op: u32, widths: &[(u32, u32)]) -> Image {
+    let mut builder = Builder::new();
+    for (number, &(left, right)) in widths.iter().enumerate() {
+        let [a, b] = [("a", left), ("b", right)]
+            .map(|(name, width)| builder.input(&format!("{name}{number}"), width));
+        let (a, b) = (builder.read(a), builder.read(b));
+        let value = builder.binary(op, a, b);
+        let width = builder.width(value);
+        let y = builder.output(&format!("y{number}"), width);
+        builder.assign(y, value);
+    }
+    builder.finish()
+}
+
+#[test]
+fn every_unary_operator() {
+    if !installed(&["iverilog", "vvp", "yosys"]) {
+        return;
+    }
+    for op in 0..UNARY_OPS.len() as u32 {
+        let mut builder = Builder::new();
+        for width in [1, 2, 5, 65] {
+            let a = builder.input(&format!("a{width}"), width);
+            let a = builder.read(a);
+            let value = builder.unary(op, a);
+            let y = builder.output(&format!("y{width}"), if op == 0 { width } else { 1 });
+            builder.assign(y, value);
+        }
+        hold(&builder.finish());
+    }
+}
+
+#[test]
+fn every_binary_operator() {
+    if !installed(&["iverilog", "vvp", "yosys"]) {
+        return;
+    }
+    for op in 0..BINARY_OPS.len() as u32 {
+        let widths: &[(u32, u32)] = match op {
+            5 => &[(1, 1), (3, 3), (6, 6)],
+            16.. => &[(1, 1), (1, 3), (5, 2), (8, 4), (8, 8), (33, 70)],
+            _ => &[(1, 1), (2, 2), (7, 7), (65, 65)],
+        };
+        hold(&binary_image(op, widths));
+    }
+}
+
+#[test]
+fn wide_products_by_simulation() {
+    if !installed(&["iverilog", "vvp", "yosys"]) {
+        return;
+    }
+    let mut counts = Counts::default();
+    let image = binary_image(5, &[(33, 33), (64, 64), (130, 130)]); // too wide for a proof
+    witness(&image, &mut Random::new(3), EFFORT, &mut counts)
+        .unwrap_or_else(|difference| panic!("{difference}"));
+    assert_eq!((counts.simulated, counts.proof_left_out), (1, 1));
+}
+
+#[test]
+fn mux_concat_and_slices() {
+    if !installed(&["iverilog", "vvp", "yosys"]) {
+        return;
+    }
+    hold(&image(
+        "input c 1\ninput a 4\ninput b 4\noutput y 4\noutput z 9\noutput w 2\n\
+         assign y = mux c a b\nassign z = concat a c b\nassign w = (add a b)[2:1]\n",
+    ));
+}
+
+/// Clocks that are data, resets of both levels, two ports on two clocks.
+const CLOCKED: &str = "input c 1\ninput d 1\ninput r 1\ninput x 3\noutput q 3\noutput p 1\noutput m 3\noutput n 3\n\
+    register q target q next x clock c falling enable d low reset r high async value 3'd5\n\
+    register p target p next c clock c reset r low async value 1'd1\n\
+    memory m depth 3 port raddr x[1:0] rdata m renable r waddr q[1:0] wdata x wenable p clock c \
+    port raddr q[1:0] rdata n waddr q[1:0] wdata (not x) wenable r low clock d falling\n";
+
+#[test]
+fn registers_and_memories() {
+    if !installed(&["iverilog", "vvp", "yosys"]) {
+        return;
+    }
+    hold(&image(CLOCKED));
+}
+
+/// Two ports that write one word, each on one of these clocks.
+fn collision(first: &str, second: &str) -> Image {
+    image(&format!(
+        "input c 1\ninput d 1\ninput x 3\ninput y 3\noutput m 3\noutput n 3\ninput on 1\n\
+         memory m depth 1 port raddr on rdata m waddr 1'd0 wdata x wenable on clock {first} \
+         port raddr on rdata n waddr 1'd0 wdata y wenable on clock {second}\n"
+    ))
+}
+
+#[test]
+fn the_second_port_s_word_stays() {
+    if !installed(&["iverilog", "vvp", "yosys"]) {
+        return;
+    }
+    for [first, second] in [
+        ["c", "c"],
+        ["c", "d"],
+        ["d", "c"],
+        ["c falling", "d"],
+        ["c", "c falling"],
+    ] {
+        hold(&collision(first, second));
+    }
+}
+
+/// A register beside the settings it sees and what it must hold after each.
+fn run_register(text: &str, settings: &[&[(u32, bool)]], held: &[bool]) {
+    let image = image(text);
+    let words = driver::words(&driver::lower(&image.encode(), false), 100, 200);
+    let sim = driver::ModuleSim::new(&image.encode()).expect("a module");
+    let settings = settings
+        .iter()
+        .map(|setting| setting.iter().map(|&(s, value)| (s, vec![value])).collect());
+    let settings: Vec<driver::Setting> = settings.collect();
+    let first = sim.zero_contents();
+    let observations = sim.run(&first, &settings).expect("a run");
+    let seen: Vec<bool> = observations
+        .iter()
+        .map(|seen| seen.contents.registers[0][0])
+        .collect();
+    assert_eq!(seen, held);
+    let rtl = module_verilog(&image, "rtl", Style::Step).expect("a module");
+    let netlist = Netlist::decode(&words).expect("a netlist");
+    let netlist =
+        netlist_verilog(&netlist, Some(&image), "netlist", Style::Step).expect("a netlist");
+    let bench = bench(
+        &image,
+        [&rtl, &netlist],
+        &Run {
+            first,
+            settings,
+            observations,
+        },
+    );
+    let place = Workplace::new().expect("a directory");
+    let printed = simulate(&place, &rtl.text, &netlist.text, &bench)
+        .unwrap_or_else(|problem| panic!("{problem}"));
+    assert_eq!(printed, bench.expected);
+}
+
+#[test]
+fn the_step_rule_by_hand() {
+    if !installed(&["iverilog", "vvp"]) {
+        return;
+    }
+    // The data changes with the edge and the value before counts; the clock as
+    // data is 0 before its rising edge.
+    let text = "input c 1\ninput d 1\noutput q 1\nregister r target q next (or d c) clock c\n";
+    let settings: [&[(u32, bool)]; 4] = [
+        &[(0, false), (1, true)],
+        &[(0, true), (1, false)],
+        &[(0, false), (1, false)],
+        &[(0, true), (1, true)],
+    ];
+    run_register(text, &settings, &[false, true, true, false]);
+    // The reset is active from the start: it acts at the first step, without an
+    // edge of its own; let go in the step of a clock edge, next is taken.
+    let text = "input c 1\ninput r 1\noutput q 1\nregister r target q next 1'd0 clock c reset r async value 1'd1\n";
+    let settings: [&[(u32, bool)]; 3] = [
+        &[(0, false), (1, true)],
+        &[(0, false), (1, true)],
+        &[(0, true), (1, false)],
+    ];
+    run_register(text, &settings, &[false, true, false]);
+}
+
+#[test]
+fn icarus_shows_a_wrong_netlist() {
+    if !installed(&["iverilog", "vvp"]) {
+        return;
+    }
+    let image = image("input a 2\noutput y 2\nassign y = not a\n");
+    let sim = driver::ModuleSim::new(&image.encode()).expect("a module");
+    let first = sim.zero_contents();
+    let settings: Vec<driver::Setting> = vec![[(0, vec![true, false])].into_iter().collect()];
+    let observations = sim.run(&first, &settings).expect("a run");
+    let rtl = module_verilog(&image, "rtl", Style::Step).expect("a module");
+    let bench = bench(
+        &image,
+        [&rtl, &rtl],
+        &Run {
+            first,
+            settings,
+            observations,
+        },
+    );
+    let place = Workplace::new().expect("a directory");
+    let wrong = rtl
+        .text
+        .replace("module rtl", "module netlist")
+        .replace('~', "");
+    let printed = simulate(&place, &rtl.text, &wrong, &bench).expect("a run");
+    assert_eq!(bench.expected, "module output 1 10\nnetlist output 1 10\n");
+    assert_eq!(printed, "module output 1 10\nnetlist output 1 01\n");
+}
+
+#[test]
+fn yosys_tells_equal_from_different() {
+    if !installed(&["yosys"]) {
+        return;
+    }
+    let place = Workplace::new().expect("a directory");
+    let module = |name: &str, value: &str| {
+        format!(
+            "module {name} (input [3:0] a, input [3:0] b, output [3:0] y);\n  assign y = {value};\nendmodule\n"
+        )
+    };
+    let sum = module("rtl", "a + b");
+    assert_eq!(
+        prove_equal(&place, &sum, &module("netlist", "b - ~a - 4'd1"), 20),
+        Ok(Proof::Equal)
+    );
+    assert!(prove_equal(&place, &sum, &module("netlist", "a | b"), 20).is_err());
+}

@@ -1,0 +1,153 @@
+//! The texts that are written for small images.
+
+use export::{Netlist, Style, dot::dot, module_verilog, netlist_verilog};
+use image::{Image, assemble};
+
+const LIMIT: u32 = 1_024;
+
+/// The listing example of document 01.
+const LISTING: &str = "input a 1\noutput y 1\nassign y = not a\n";
+
+fn image(text: &str) -> Image {
+    let bytes = assemble(text).unwrap_or_else(|error| panic!("{error}"));
+    Image::decode(&bytes).expect("a whole image")
+}
+
+fn words(image: &Image) -> Vec<u32> {
+    driver::words(&driver::lower(&image.encode(), false), LIMIT, LIMIT)
+}
+
+fn netlist(image: &Image) -> Netlist {
+    Netlist::decode(&words(image)).expect("a netlist")
+}
+
+fn module_text(text: &str, style: Style) -> String {
+    module_verilog(&image(text), "rtl", style)
+        .expect("a module")
+        .text
+}
+
+fn netlist_text(text: &str, style: Style) -> String {
+    let image = image(text);
+    netlist_verilog(&netlist(&image), Some(&image), "netlist", style)
+        .expect("a netlist")
+        .text
+}
+
+#[test]
+fn module_of_the_listing_example() {
+    let expected = "module rtl (\n  input wire \\a ,\n  output wire \\y \n);\n  wire e0 = \\a ;\n  wire e1 = ~e0;\n  \
+                    assign \\y  = e1;\nendmodule\n";
+    assert_eq!(module_text(LISTING, Style::Plain), expected);
+    assert_eq!(module_text(LISTING, Style::Step), expected);
+}
+
+#[test]
+fn netlist_of_the_listing_example() {
+    let expected = "module netlist (\n  input wire \\a ,\n  output wire \\y \n);\n  wire n0, n1, n2;\n  \
+                    assign n0 = \\a ;\n  assign n1 = ~n0;\n  assign n2 = n1;\n  assign \\y  = {n2};\nendmodule\n";
+    assert_eq!(netlist_text(LISTING, Style::Plain), expected);
+}
+
+#[test]
+fn netlist_without_an_image_has_numbers_for_names() {
+    let text = netlist_verilog(&netlist(&image(LISTING)), None, "netlist", Style::Plain)
+        .expect("a netlist")
+        .text;
+    assert!(
+        text.contains("input wire s0,") && text.contains("assign s1 = {n2};"),
+        "{text}"
+    );
+}
+
+#[test]
+fn picture_of_the_listing_example() {
+    let image = image(LISTING);
+    let text = dot(&netlist(&image), Some(&image)).expect("a picture");
+    for line in [
+        "s0 [label=\"{a|{<b0> 0}}\"",
+        "n1 [label=\"not\\n1\"",
+        "s0:b0:e -> n1;",
+        "n1 -> s1:b0:w;",
+    ] {
+        assert!(text.contains(line), "{line} is not in\n{text}");
+    }
+}
+
+const REGISTER: &str = "input clk 1\ninput en 1\ninput rst 1\ninput d 2\noutput q 2\n\
+    register r target q next d clock clk falling enable en low reset rst high async value 2'd1\n";
+
+#[test]
+fn a_register_with_all_controls() {
+    let text = module_text(REGISTER, Style::Plain);
+    let block = "  always @(negedge \\clk  or posedge \\rst )\n    if (\\rst ) \\q  <= e1;\n    \
+                 else if (!\\en ) \\q  <= e0;\n";
+    assert!(text.contains(block), "{text}");
+    let text = netlist_text(REGISTER, Style::Step);
+    let block = "  always @(negedge events[0] or posedge events[1])\n    if (events[1]) \\r [0] <= 1'b1;\n    \
+                 else if (!n1) \\r [0] <= n3;\n";
+    assert!(text.contains(block), "{text}");
+}
+
+#[test]
+fn step_style_asks_for_input_clocks() {
+    let text =
+        "input a 1\noutput q 1\nwire c 1\nassign c = not a\nregister r target q next a clock c\n";
+    let image = image(text);
+    assert!(module_verilog(&image, "rtl", Style::Step).is_err());
+    assert!(netlist_verilog(&netlist(&image), Some(&image), "netlist", Style::Step).is_err());
+    assert!(module_text(text, Style::Plain).contains("always @(posedge \\c )"));
+}
+
+#[test]
+fn assignments_that_nothing_needs_are_comments() {
+    // The loop on w[1] is read nowhere; w[0] is.
+    let text = "input a 1\noutput y 1\nwire w 2\nassign w[0] = a\nassign w[1] = not w[1]\nassign y = (signal w)[0]\n";
+    let text = module_text(text, Style::Plain);
+    assert!(
+        text.contains("  assign \\w [0] = ") && text.contains("  // not needed: assign \\w [1] = "),
+        "{text}"
+    );
+}
+
+#[test]
+fn words_that_are_no_netlist_are_refused() {
+    let image = image(
+        "input a 2\ninput b 2\noutput y 2\noutput z 1\nassign y = add a b\nassign z = ltu a b\n",
+    );
+    let good = words(&image);
+    assert!(Netlist::decode(&good).is_ok());
+    let refused = |place: usize, value: u32| {
+        let mut words = good.clone();
+        words[place] = value;
+        Netlist::decode(&words)
+            .err()
+            .unwrap_or_else(|| panic!("word {place} = {value} passed"))
+    };
+    let list = good[4] as usize;
+    assert!(refused(0, 2).contains("edition"));
+    assert!(refused(4, list as u32 + 1).contains("list offset"));
+    assert!(refused(3, u32::MAX).contains("list words"));
+    assert!(refused(5, 9).contains("header counts"));
+    assert!(refused(16, 12).contains("kind 12"));
+    assert!(refused(16 + 2, 1).contains("net 0"), "bit of an input");
+    assert!(refused(list, 7).contains("sort 7"));
+    assert!(refused(list + 3, 999).contains("net 999"));
+    assert!(Netlist::decode(&good[..10]).is_err());
+    assert!(Netlist::from_bytes(&[1, 2, 3]).is_err());
+    // Any single word made wild is refused or still gives a netlist; nothing panics.
+    for place in 0..list + good[3] as usize {
+        let mut words = good.clone();
+        words[place] = 0x8000_0001;
+        let _ = Netlist::decode(&words)
+            .map(|netlist| netlist_verilog(&netlist, None, "netlist", Style::Plain).is_ok());
+    }
+}
+
+#[test]
+fn an_image_of_another_netlist_is_refused() {
+    let other = image("input a 2\noutput y 1\nassign y = ror a\n");
+    let netlist = netlist(&image(LISTING));
+    assert!(netlist_verilog(&netlist, Some(&other), "netlist", Style::Plain).is_err());
+    assert!(dot(&netlist, Some(&other)).is_err());
+}

@@ -1,0 +1,81 @@
+//! gen: writes made images: random valid ones, damaged ones, the border
+//! cases and the deepest chain.
+
+use image::{Image, Size};
+use std::fs;
+use std::path::Path;
+use std::process::ExitCode;
+
+const HELP: &str = "usage: gen SEED SIZE -o IMAGE
+       gen mutate SEED IMAGE -o IMAGE
+       gen deepest WIDTH LENGTH -o IMAGE
+       gen borders -o DIRECTORY
+
+SEED SIZE writes the random valid image of that seed; SIZE is tiny, small,
+medium or large. mutate damages an image. deepest writes a signal of WIDTH
+bits, each hanging on the one below through LENGTH inversions. borders writes
+one file for each border case and a table cases.txt: file, net limit, list
+limit, netlist words, scratch words, description.";
+
+fn main() -> ExitCode {
+    let arguments: Vec<String> = std::env::args().skip(1).collect();
+    let words: Vec<&str> = arguments.iter().map(String::as_str).collect();
+    match run(&words) {
+        Ok(()) => ExitCode::SUCCESS,
+        Err(message) => {
+            eprintln!("{message}");
+            ExitCode::FAILURE
+        }
+    }
+}
+
+fn run(words: &[&str]) -> Result<(), String> {
+    match words {
+        ["--help" | "-h"] => {
+            println!("{HELP}");
+            Ok(())
+        }
+        ["mutate", seed, source, "-o", target] => {
+            let bytes = fs::read(source).map_err(|error| format!("{source}: {error}"))?;
+            write(target, &image::mutate(number(seed)?, &bytes))
+        }
+        ["deepest", width, length, "-o", target] => {
+            write(target, &deepest(number(width)?, number(length)?)?.encode())
+        }
+        ["borders", "-o", directory] => write_borders(Path::new(directory)),
+        [seed, size, "-o", target] => {
+            let size: Size = size.parse()?;
+            write(target, &image::generate(number(seed)?, size).encode())
+        }
+        _ => Err(HELP.to_string()),
+    }
+}
+
+fn number(text: &str) -> Result<u64, String> {
+    text.parse()
+        .map_err(|_| format!("'{text}' is not a number"))
+}
+
+fn deepest(width: u64, length: u64) -> Result<Image, String> {
+    if (1..=1024).contains(&width) && length <= 2046 {
+        Ok(image::deepest(width as u32, length as u32))
+    } else {
+        Err("WIDTH is 1 to 1024, LENGTH at most 2046".to_string())
+    }
+}
+
+fn write(target: &str, bytes: &[u8]) -> Result<(), String> {
+    fs::write(target, bytes).map_err(|error| format!("{target}: {error}"))
+}
+
+fn write_borders(directory: &Path) -> Result<(), String> {
+    fs::create_dir_all(directory).map_err(|error| error.to_string())?;
+    let mut table = String::new();
+    for (number, (name, bytes, n, p, netlist, scratch)) in image::borders().into_iter().enumerate()
+    {
+        let file = format!("{number:05}.img");
+        fs::write(directory.join(&file), bytes).map_err(|error| error.to_string())?;
+        table += &format!("{file} {n} {p} {netlist} {scratch} {name}\n");
+    }
+    fs::write(directory.join("cases.txt"), table).map_err(|error| error.to_string())
+}

@@ -1,0 +1,161 @@
+//! Memories: depth, address and data widths, latency, ports.
+
+use super::Cases;
+use crate::builder::{Builder, Control, Expr, Memory, Port, Signal};
+use crate::format::*;
+
+/// A plain port: one signal is clock and write enable, one expression both
+/// addresses.
+pub fn port(address: Expr, read_data: Signal, write_data: Expr, clock: Signal) -> Port {
+    Port {
+        read_address: address,
+        read_data,
+        read_enable: None,
+        write_address: address,
+        write_data,
+        write_enable: Control {
+            signal: clock,
+            low: false,
+        },
+        clock,
+        falling: false,
+    }
+}
+
+pub fn add(cases: &mut Cases) {
+    for depth in [0, 1, 2, 65_535, 65_536, 65_537, ABSENT] {
+        changed(cases, format!("depth {depth}"), |memory| memory[2] = depth);
+    }
+    for latency in [0, 1, 2, 256, 257, ABSENT] {
+        changed(cases, format!("latency {latency}"), |memory| {
+            memory[4] = latency
+        });
+    }
+    for style in [0, 1, 2, 3, ABSENT] {
+        changed(cases, format!("style {style}"), |memory| memory[3] = style);
+    }
+    addresses(cases);
+    data(cases);
+    absent(cases);
+    second_port(cases);
+}
+
+/// Expressions 0 and 1 are one bit and eight bits; 2 on are addresses of
+/// the widths given.
+fn two_ports(addresses: [u32; 4], read: [u32; 2], write: [u32; 2]) -> Image {
+    let mut builder = Builder::new();
+    let clock = builder.input("clk", 1);
+    let data: Vec<Signal> = (0..2)
+        .map(|port| builder.output(&format!("d{port}"), read[port]))
+        .collect();
+    let mut port_of = |number: usize| {
+        let read_address = builder.constant_limbs(addresses[2 * number], &[1]);
+        let write_address = builder.constant_limbs(addresses[2 * number + 1], &[1]);
+        let write_data = builder.constant_limbs(write[number], &[3]);
+        Port {
+            write_address,
+            ..port(read_address, data[number], write_data, clock)
+        }
+    };
+    let first = port_of(0);
+    let second = Some(port_of(1));
+    builder.memory(
+        "m",
+        Memory {
+            depth: 4,
+            style: 0,
+            first,
+            second,
+        },
+    );
+    builder.finish()
+}
+
+fn plain() -> Image {
+    two_ports([2; 4], [8; 2], [8; 2])
+}
+
+fn changed(cases: &mut Cases, name: String, change: impl Fn(&mut [u32; 26])) {
+    let mut image = plain();
+    change(&mut image.memories[0]);
+    cases.image(format!("memory, {name}"), &image);
+}
+
+fn addresses(cases: &mut Cases) {
+    for place in 0..4 {
+        for width in [1, 2, 17, 31, 32, 33, 64, 1024] {
+            let mut widths = [2; 4];
+            widths[place] = width;
+            let image = two_ports(widths, [8; 2], [8; 2]);
+            cases.image(format!("memory, address {place} of width {width}"), &image);
+        }
+    }
+}
+
+fn data(cases: &mut Cases) {
+    for place in 0..4 {
+        for width in [1, 7, 8, 9, 1024] {
+            let mut widths = [8; 4];
+            widths[place] = width;
+            let image = two_ports([2; 4], [widths[0], widths[1]], [widths[2], widths[3]]);
+            cases.image(format!("memory, data {place} of width {width}"), &image);
+        }
+    }
+    for width in [1, 64, 65, 1024] {
+        let image = two_ports([2; 4], [width; 2], [width; 2]);
+        cases.image(format!("memory, words of width {width}"), &image);
+    }
+}
+
+/// Absent in every field, and what must be 0 beside an absent control.
+fn absent(cases: &mut Cases) {
+    for field in 0..26 {
+        changed(cases, format!("field {field} absent"), |memory| {
+            memory[field] = ABSENT
+        });
+    }
+    for (enable, level) in [(7, 8), (18, 19)] {
+        for value in [0, 1, 2, ABSENT] {
+            changed(
+                cases,
+                format!("field {enable} absent and field {level} is {value}"),
+                |memory| {
+                    memory[enable] = ABSENT;
+                    memory[level] = value;
+                },
+            );
+            changed(
+                cases,
+                format!("field {enable} present and field {level} is {value}"),
+                |memory| {
+                    memory[enable] = 0;
+                    memory[level] = value;
+                },
+            );
+        }
+    }
+}
+
+/// The second port's flag, and its fields where there is none.
+fn second_port(cases: &mut Cases) {
+    for present in [0, 1, 2, ABSENT] {
+        changed(cases, format!("second port is {present}"), |memory| {
+            memory[15] = present
+        });
+    }
+    changed(cases, "no second port".to_string(), |memory| {
+        memory[15..].fill(0)
+    });
+    for field in 16..26 {
+        for value in [1, 2, ABSENT] {
+            changed(
+                cases,
+                format!("no second port but field {field} is {value}"),
+                |memory| {
+                    memory[15..].fill(0);
+                    memory[field] = value;
+                },
+            );
+        }
+    }
+}

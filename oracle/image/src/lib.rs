@@ -1,0 +1,24 @@
+//! Module images of edition 1: the records, their bytes, and tools to make,
+//! write, read and damage them. Nothing here judges an image.
+
+mod assemble;
+mod borders;
+mod builder;
+mod chain;
+mod disassemble;
+mod format;
+mod generate;
+mod mutate;
+mod random;
+mod shapes;
+mod text;
+
+pub use assemble::{assemble, AsmError};
+pub use borders::{borders, Border};
+pub use builder::{Builder, Control, Expr, Memory, Port, Register, Reset, Signal};
+pub use chain::deepest;
+pub use disassemble::disassemble;
+pub use format::*;
+pub use generate::{generate, Size};
+pub use mutate::mutate;
+pub use random::Random;
