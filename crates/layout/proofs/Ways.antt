@@ -116,8 +116,8 @@ starts-turn s n w w′ e at x h st u p q =
       long = length-set w′ at x ∙ st .long;
       starts = λ e′ v. ⊎-elim
           (λ (z : e′ ≡ e).
-            let m : exprAt s n e′ 0 ≡ at = omega arith in
-            ap (λ (j : ℕ). getD (set w′ at x) j 0) m ∙ getD-set-same w′ at x 0 room ∙ q ∙ ap (sumTo (exprWidth s)) (sym z))
+          let m : exprAt s n e′ 0 ≡ at = omega arith in
+          ap (λ (j : ℕ). getD (set w′ at x) j 0) m ∙ getD-set-same w′ at x 0 room ∙ q ∙ ap (sumTo (exprWidth s)) (sym z))
           (λ (z : e′ < e). getD-set-other w′ at (exprAt s n e′ 0) x 0 (λ y. absurd (omega arith)) ∙ st .starts e′ z)
           (eq-or-lt-of-le {n = e′} {m = e} (omega arith));
       other = λ j o. getD-set-other w′ at j x 0 (λ y. o e (omega arith) (y ∙ p)) ∙ st .other j (λ e′ v y. o e′ (omega arith) y);
@@ -214,12 +214,12 @@ module _ (s : List ℕ) (n : ℕ) (w w₁ w′ : List ℕ) (a : ℕ) (u : a < co
       ap (λ (j : ℕ). getD w′ j 0) m ∙ st .inside i (omega (arith, c .1 .0, c .1 .1))
   here p b x y false e =
       st .other _ (λ i v z. ⊎-elim
-        (λ (q : p ≡ field s 3 a 0).
-          let f : sumTo (signalWidth s) p ≡ sumTo (signalWidth s) (field s 3 a 0) = ap (sumTo (signalWidth s)) q in
-          let m : b ≡ field s 3 a 1 + i = omega arith in
-          true≢false (sym (covers-yes s a p b (sym q) (omega arith) (omega arith)) ∙ e))
-        (λ (q : p ≡ field s 3 a 0 → ⊥). stretch-apart (signalWidth s) (field s 3 a 0) (field s 3 a 1 + i) p b (omega (arith, ix .firsts .headed .image .drives a u .inside)) y q (omega arith))
-        (same-or p (field s 3 a 0)))
+      (λ (q : p ≡ field s 3 a 0).
+      let f : sumTo (signalWidth s) p ≡ sumTo (signalWidth s) (field s 3 a 0) = ap (sumTo (signalWidth s)) q in
+      let m : b ≡ field s 3 a 1 + i = omega arith in
+      true≢false (sym (covers-yes s a p b (sym q) (omega arith) (omega arith)) ∙ e))
+      (λ (q : p ≡ field s 3 a 0 → ⊥). stretch-apart (signalWidth s) (field s 3 a 0) (field s 3 a 1 + i) p b (omega (arith, ix .firsts .headed .image .drives a u .inside)) y q (omega arith))
+      (same-or p (field s 3 a 0)))
       ∙ ix .drivers p b x y
 
   elsewhere : (j : ℕ) → ((i : ℕ) → i < signalBits s → j ≡ signalColumn n + signalBits s + i → ⊥) → getD w′ j 0 ≡ getD w₁ j 0
@@ -333,15 +333,17 @@ after-firsts s n ob w w′ h st₀ =
 pub after-starts : (s : List ℕ) (n : ℕ) (ob : Bool) (w w′ : List ℕ) → Laying s n ob w → Starts s (limitOf w) w w′ → Laying s n ob w′ × Starts s n w w′
 after-starts s n ob w w′ h st₀ =
     let st : Starts s n w w′ = subst (λ (m : ℕ). Starts s m w w′) (h .firsts .headed .limit) st₀ in
-    let few = signals-few s (h .firsts .headed .image) in
-    (record {
-      firsts = record {
-        headed = headed-kept s n w w′ (h .firsts .headed) (st .long) (λ j u. st .other j (λ e v z. absurd (omega arith)));
-        firsts = λ p u. st .other _ (λ e v z. absurd (omega arith)) ∙ h .firsts .firsts p u;
-      };
-      flag = ap isSet (st .other 4 (λ e v z. absurd (omega arith))) ∙ h .flag;
-      zero = λ j u o q. st .other j q ∙ h .zero j u o q;
-    }, st)
+    let few = signals-few s (h .firsts .headed .image) in (
+      record {
+        firsts = record {
+          headed = headed-kept s n w w′ (h .firsts .headed) (st .long) (λ j u. st .other j (λ e v z. absurd (omega arith)));
+          firsts = λ p u. st .other _ (λ e v z. absurd (omega arith)) ∙ h .firsts .firsts p u;
+        };
+        flag = ap isSet (st .other 4 (λ e v z. absurd (omega arith))) ∙ h .flag;
+        zero = λ j u o q. st .other j q ∙ h .zero j u o q;
+      },
+      st,
+    )
 
 pub column-zero : (s : List ℕ) (n : ℕ) (ob : Bool) (w : List ℕ) → Laying s n ob w → (i : ℕ) → i < signalBits s → getD w (signalColumn (limitOf w) + signalBits s + i) 0 ≡ 0
 column-zero s n ob w h i u =
@@ -396,7 +398,7 @@ module _ (s : List ℕ) (n : ℕ) (ob : Bool) (w₀ w w′ : List ℕ) (h : Layi
   unfolding rows decode signalAt
   none-rows a g z =
       listOf-agree (countAt s 0) (λ i. listOf (signalWidth s i) (λ j. g (sumTo (signalWidth s) i + j))) (λ i. replicate (signalWidth s i) a)
-        (λ i u. listOf-agree (signalWidth s i) (λ j. g (sumTo (signalWidth s) i + j)) (λ j. a) (λ j v. z _ (signal-inside s i j u v)) ∙ sym (replicate-listOf (signalWidth s i) a))
+      (λ i u. listOf-agree (signalWidth s i) (λ j. g (sumTo (signalWidth s) i + j)) (λ j. a) (λ j v. z _ (signal-inside s i j u v)) ∙ sym (replicate-listOf (signalWidth s i) a))
       ∙ sym (map-listOf (λ x. replicate (x .width) a) (countAt s 0) (signalAt s))
 
   wholes-none : listOf (countAt s 1) (wholeAt s n w′) ≡ map (λ x. none) (decode s .exprs)
@@ -407,17 +409,17 @@ module _ (s : List ℕ) (n : ℕ) (ob : Bool) (w₀ w w′ : List ℕ) (h : Layi
   unfolding decode I.exprAt
   ranges-none =
       listOf-agree (countAt s 1) (rangesAt s n w′) (λ e. replicate (exprWidth s e) none)
-        (λ e u. ranges-there s n w′ e (not-whole e u)
-          ∙ listOf-agree (exprWidth s e) (λ b. known (getD w′ (bitAt s n e b) 0)) (λ b. none) (λ b v. known-none _ (bits-none _))
-          ∙ sym (replicate-listOf (exprWidth s e) none))
+      (λ e u. ranges-there s n w′ e (not-whole e u)
+      ∙ listOf-agree (exprWidth s e) (λ b. known (getD w′ (bitAt s n e b) 0)) (λ b. none) (λ b v. known-none _ (bits-none _))
+      ∙ sym (replicate-listOf (exprWidth s e) none))
       ∙ sym (map-listOf (λ x. replicate (x .width) none) (countAt s 1) (I.exprAt s))
 
   state-at : (p : ℕ) → stateAt s n (record { maxNets = n; maxList = p; nodes = []; records = [] }) w′ ≡ M.start (decode s) n p
   unfolding M.start
   state-at p = λ j. M.state (record { maxNets = n; maxList = p; nodes = []; records = [] })
-    (none-rows none (λ i. known (getD w′ (signalColumn n + i) 0)) (λ i u. known-none _ (nets-none i u)) j)
-    (none-rows false (λ i. isSet (getD w′ (signalColumn n + 2 * signalBits s + i) 0)) (λ i u. isSet-no _ (marks-none i u)) j)
-    (wholes-none j) (ranges-none j)
+      (none-rows none (λ i. known (getD w′ (signalColumn n + i) 0)) (λ i u. known-none _ (nets-none i u)) j)
+      (none-rows false (λ i. isSet (getD w′ (signalColumn n + 2 * signalBits s + i) 0)) (λ i u. isSet-no _ (marks-none i u)) j)
+      (wholes-none j) (ranges-none j)
 
   pub ready-way : Ready s n ob w′
   ready-way =

@@ -109,7 +109,12 @@ fn index_assignment(image: &[u8], scr: &mut [u32], a: u32)
     let column = 64 + 4 * (scr[0] as usize);
     let bits = scr[1] as usize;
     let first = scr[column + 3 * bits + p as usize] as usize;
-    put_drivers(scr, column + bits + (first + lsb as usize), n, (e + 1) * 1024);
+    put_drivers(
+        scr,
+        column + bits + (first + lsb as usize),
+        n,
+        (e + 1) * 1024,
+    );
 }
 
 // The drivers of all signal bits; of two assignments to a bit the first would drive it.

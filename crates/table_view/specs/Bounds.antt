@@ -36,6 +36,7 @@ all-words f k e i x = subst (λ (j : ℕ). 0 < f j) (zero-add i) (go 0 k e i x)
     first : (y : ℕ) (os : List (Option ℕ)) → M.allSome (known y ∷ os) ≡ true → (0 < y) × (M.allSome os ≡ true)
     first zero os e = absurd (true≢false (sym e))
     first (suc y) os e = (omega arith, e)
+
     go : (b k : ℕ) → M.allSome (each (λ j. known (f j)) b k) ≡ true → (i : ℕ) → i < k → 0 < f (b + i)
     go b zero e i x = absurd (omega arith)
     go b (suc k) e zero x = let m : b ≡ b + 0 = omega arith in subst (λ (j : ℕ). 0 < f j) m (first (f b) (each (λ j. known (f j)) (suc b) k) e .0)
@@ -55,8 +56,8 @@ module _ (s w : List ℕ) (l : Netlist) (e : ℕ) (h : Laid s w) (u : e < countA
       let n = limitOf w in
       let m : bitAt s n e 0 + i ≡ bitAt s n e i = omega arith in
       let y : getD (M.wholeNets (stateOf s l w) e) i 0 ≡ netWord (getD w (bitAt s n e i) 0) =
-          ap (λ (xs : List ℕ). getD xs i 0) (whole-nets s n l w e u q) ∙ at-listOf (exprWidth s e) (λ j. netWord (getD w (bitAt s n e 0 + j) 0)) i 0 v
-          ∙ ap (λ (j : ℕ). netWord (getD w j 0)) m in
+      ap (λ (xs : List ℕ). getD xs i 0) (whole-nets s n l w e u q) ∙ at-listOf (exprWidth s e) (λ j. netWord (getD w (bitAt s n e 0 + j) 0)) i 0 v
+      ∙ ap (λ (j : ℕ). netWord (getD w j 0)) m in
       omega (arith, word-small i v (h .wholes e i u v q))
 
   -- every bit of a known range has a word
@@ -74,7 +75,7 @@ module _ (s w : List ℕ) (l : Netlist) (e : ℕ) (h : Laid s w) (u : e < countA
       let n = limitOf w in
       let m : bitAt s n e lsb + i ≡ bitAt s n e (lsb + i) = omega arith in
       let y : getD (M.rangeNets (stateOf s l w) e lsb k) i 0 ≡ netWord (getD w (bitAt s n e (lsb + i)) 0) =
-          ap (λ (xs : List ℕ). getD xs i 0) (read-range s n l w e u lsb k v) ∙ at-listOf k (λ j. netWord (getD w (bitAt s n e lsb + j) 0)) i 0 x ∙ ap (λ (j : ℕ). netWord (getD w j 0)) m in
+      ap (λ (xs : List ℕ). getD xs i 0) (read-range s n l w e u lsb k v) ∙ at-listOf k (λ j. netWord (getD w (bitAt s n e lsb + j) 0)) i 0 x ∙ ap (λ (j : ℕ). netWord (getD w j 0)) m in
       omega (arith, word-small (lsb + i) (omega arith) (subst (λ (j : ℕ). 0 < getD w j 0) m (known-words lsb k v q i x)))
 
   -- whole or not, in the model's words

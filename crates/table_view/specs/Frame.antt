@@ -55,10 +55,10 @@ module _ (s : List ℕ) (n : ℕ) (w w′ : List ℕ) (h : LaidAt s n w) (q : Sa
 
   same-state : (l : Netlist) → stateAt s n l w′ ≡ stateAt s n l w
   same-state l = λ j. state l
-    (signals-stay s n w w′ (λ i u. q .signals i (omega arith)) j)
-    (marks-stay s n w w′ (λ i u. column (2 * signalBits s) i (omega arith)) j)
-    (wholes-stay s n w w′ expr-same j)
-    (rangeses-stay s n w w′ expr-same j)
+      (signals-stay s n w w′ (λ i u. q .signals i (omega arith)) j)
+      (marks-stay s n w w′ (λ i u. column (2 * signalBits s) i (omega arith)) j)
+      (wholes-stay s n w w′ expr-same j)
+      (rangeses-stay s n w w′ expr-same j)
 
   same-free : freeAt s n w′ ≡ freeAt s n w
   same-free = free-stays s n w w′ (λ i u. column (2 * signalBits s) i (omega arith))
@@ -80,10 +80,10 @@ index-stays s w w′ h l t d =
     let n = limitOf w in
     let low : (j : ℕ) → j < 64 → getD w′ j 0 ≡ getD w j 0 = λ j u. sym (getD-take 64 w′ j 0 u) ∙ ap (λ (x : List ℕ). getD x j 0) t ∙ getD-take 64 w j 0 u in
     let high : (j : ℕ) → getD w′ (signalColumn n + j) 0 ≡ getD w (signalColumn n + j) 0 =
-        λ j. sym (getD-drop (signalColumn n) w′ j 0) ∙ ap (λ (x : List ℕ). getD x j 0) d ∙ getD-drop (signalColumn n) w j 0 in
+    λ j. sym (getD-drop (signalColumn n) w′ j 0) ∙ ap (λ (x : List ℕ). getD x j 0) d ∙ getD-drop (signalColumn n) w j 0 in
     let up : (j : ℕ) → signalColumn n ≤ j → getD w′ j 0 ≡ getD w j 0 =
-        λ j u. (let m : j ≡ signalColumn n + (j - signalColumn n) = omega arith in
-          ap (λ (i : ℕ). getD w′ i 0) m ∙ high (j - signalColumn n) ∙ ap (λ (i : ℕ). getD w i 0) (sym m)) in
+    λ j u. (let m : j ≡ signalColumn n + (j - signalColumn n) = omega arith in
+    ap (λ (i : ℕ). getD w′ i 0) m ∙ high (j - signalColumn n) ∙ ap (λ (i : ℕ). getD w i 0) (sym m)) in
     stays s w w′ h
     (record {
       long = l;

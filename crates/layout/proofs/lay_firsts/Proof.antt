@@ -113,10 +113,11 @@ loop-again c =
     let l = c .before .before .loop in
     let w = s .args .scr .now in
     let i = s .args .image .now in
-    let u : l .p < countAt i 0 = omega arith in
-    (omega (arith, sum-more (signalWidth i) (l .p), c .signal-width .ensures, l .inv .0),
-    paste-turn w (64 + 4 * getD w 0 0 + 3 * getD w 1 0) (listOf (countAt i 0) (sumTo (signalWidth i))) (countAt i 0) (l .scr) (l .p) (l .sum) (l .inv .1) u
-    (omega (arith, signals-few i (s .pre .image), s .pre .long, s .pre .bits)) (omega (arith, length-listOf (countAt i 0) (sumTo (signalWidth i)))) (l .inv .0 ∙ sym (at-listOf (countAt i 0) (sumTo (signalWidth i)) (l .p) 0 u)))
+    let u : l .p < countAt i 0 = omega arith in (
+      omega (arith, sum-more (signalWidth i) (l .p), c .signal-width .ensures, l .inv .0),
+      paste-turn w (64 + 4 * getD w 0 0 + 3 * getD w 1 0) (listOf (countAt i 0) (sumTo (signalWidth i))) (countAt i 0) (l .scr) (l .p) (l .sum) (l .inv .1) u
+          (omega (arith, signals-few i (s .pre .image), s .pre .long, s .pre .bits)) (omega (arith, length-listOf (countAt i 0) (sumTo (signalWidth i)))) (l .inv .0 ∙ sym (at-listOf (countAt i 0) (sumTo (signalWidth i)) (l .p) 0 u)),
+    )
 
 -- src/lib.rt:57:1
 same-length : tie.Need-same-length Inv-loop μ-loop
