@@ -1,90 +1,57 @@
 -- What acceptance tells of an expression, by its kind as the code reads it: `expr-fits`.
 use Prim.Native.Nat.{ℕ, zero, suc, _+_, _≤_, _<_}
 use mathlib.Core.List.{List}
-use mathlib.Core.Path.{_≡_, refl}
+use mathlib.Core.Path.{_≡_, refl, sym}
 use native.Mathlib.Omega.{arith}
 use Rattle.rules.specs.Rules.{_≡?_, pick, sumTo}
 use Rattle.meaning.specs.Image.{countAt, field, listWord, signalWidth, exprWidth, constantWords}
 use Rattle.fields.specs.Fields.{fieldIn}
-use Rattle.records.specs.declared.UnaryOp.{UnaryOp}
-use Rattle.records.specs.declared.UnaryOp.the-variants as U
-use Rattle.records.specs.declared.BinaryOp.{BinaryOp}
-use Rattle.records.specs.declared.BinaryOp.the-variants as B
 use Rattle.records.specs.declared.ExprKind.{ExprKind}
 use Rattle.records.specs.declared.ExprKind.the-variants.{Signal, Constant, Unary, Binary, Mux, Concat, Slice}
-use Rattle.records.specs.Expr.{unaryOf, binaryOf, kindOf, expressionIn, expressionOf}
+use Rattle.records.specs.Expr.{unaryOf, unaryMeans, binaryOf, binaryMeans, kindOf, expressionIn, expressionOf}
+use Rattle.word_laws.specs.Widths.{UnWidth, BinWidth}
 use Rattle.exprs.specs.Good.{GoodUnary, GoodBinary, GoodKind}
 use Rattle.checks.specs.Accepted.{Accepted}
-
--- operator, width, width of the operand
-abbrev pub unaryFits : UnaryOp → ℕ → ℕ → Type 0
-unaryFits U.BitNot w x = x ≡ w
-unaryFits U.LogicNot w x = w ≡ 1
-unaryFits U.ReduceOr w x = w ≡ 1
-unaryFits U.ReduceAnd w x = w ≡ 1
-unaryFits U.ReduceXor w x = w ≡ 1
-
--- operator, width, widths of the operands
-abbrev pub binaryFits : BinaryOp → ℕ → ℕ → ℕ → Type 0
-binaryFits B.And w x y = (x ≡ w) × (y ≡ w)
-binaryFits B.Or w x y = (x ≡ w) × (y ≡ w)
-binaryFits B.Xor w x y = (x ≡ w) × (y ≡ w)
-binaryFits B.Add w x y = (x ≡ w) × (y ≡ w)
-binaryFits B.Sub w x y = (x ≡ w) × (y ≡ w)
-binaryFits B.Mul w x y = (x ≡ w) × (y ≡ w)
-binaryFits B.Equal w x y = (w ≡ 1) × (x ≡ y)
-binaryFits B.NotEqual w x y = (w ≡ 1) × (x ≡ y)
-binaryFits B.LessThanUnsigned w x y = (w ≡ 1) × (x ≡ y)
-binaryFits B.LessThanSigned w x y = (w ≡ 1) × (x ≡ y)
-binaryFits B.LessOrEqualUnsigned w x y = (w ≡ 1) × (x ≡ y)
-binaryFits B.LessOrEqualSigned w x y = (w ≡ 1) × (x ≡ y)
-binaryFits B.GreaterThanUnsigned w x y = (w ≡ 1) × (x ≡ y)
-binaryFits B.GreaterThanSigned w x y = (w ≡ 1) × (x ≡ y)
-binaryFits B.GreaterOrEqualUnsigned w x y = (w ≡ 1) × (x ≡ y)
-binaryFits B.GreaterOrEqualSigned w x y = (w ≡ 1) × (x ≡ y)
-binaryFits B.ShiftLeft w x y = x ≡ w
-binaryFits B.ShiftRightLogical w x y = x ≡ w
-binaryFits B.ShiftRightArithmetic w x y = x ≡ w
 
 -- image, record, width, kind
 abbrev pub kindFits : List ℕ → ℕ → ℕ → ExprKind → Type 0
 kindFits s e w (Signal p lsb) = (p < countAt s 0) × (lsb + w ≤ signalWidth s p)
 kindFits s e w (Constant start) = start + constantWords w ≤ countAt s 2
-kindFits s e w (Unary op a) = (a < e) × unaryFits op w (exprWidth s a)
-kindFits s e w (Binary op a b) = (a < e) × (b < e) × binaryFits op w (exprWidth s a) (exprWidth s b)
+kindFits s e w (Unary op a) = (a < e) × UnWidth (unaryMeans op) w (exprWidth s a)
+kindFits s e w (Binary op a b) = (a < e) × (b < e) × BinWidth (binaryMeans op) w (exprWidth s a) (exprWidth s b)
 kindFits s e w (Mux c t f) = (c < e) × (t < e) × (f < e) × (exprWidth s c ≡ 1) × (exprWidth s t ≡ w) × (exprWidth s f ≡ w)
 kindFits s e w (Concat start n) =
     (1 ≤ n) × (start + n ≤ countAt s 2) × ((i : ℕ) → i < n → listWord s (start + i) < e)
     × (sumTo (λ i. exprWidth s (listWord s (start + i))) n ≡ w)
 kindFits s e w (Slice a lsb) = (a < e) × (lsb + w ≤ exprWidth s a)
 
-unary-fits : (s : List ℕ) (e w a b c : ℕ) → GoodUnary s e w a b c → unaryFits (unaryOf a) w (exprWidth s b)
-unfolding unaryOf
+unary-fits : (s : List ℕ) (e w a b c : ℕ) → GoodUnary s e w a b c → UnWidth (unaryMeans (unaryOf a)) w (exprWidth s b)
+unfolding unaryOf unaryMeans
 unary-fits s e w zero b c g = g .same refl
-unary-fits s e w (suc zero) b c g = g .one (omega arith)
-unary-fits s e w (suc (suc zero)) b c g = g .one (omega arith)
-unary-fits s e w (suc (suc (suc zero))) b c g = g .one (omega arith)
-unary-fits s e w (suc (suc (suc (suc zero)))) b c g = g .one (omega arith)
+unary-fits s e w (suc zero) b c g = sym (g .one (omega arith))
+unary-fits s e w (suc (suc zero)) b c g = sym (g .one (omega arith))
+unary-fits s e w (suc (suc (suc zero))) b c g = sym (g .one (omega arith))
+unary-fits s e w (suc (suc (suc (suc zero)))) b c g = sym (g .one (omega arith))
 unary-fits s e w (suc (suc (suc (suc (suc a))))) b c g = absurd (omega arith)
 
-binary-fits : (s : List ℕ) (e w a b c : ℕ) → GoodBinary s e w a b c → binaryFits (binaryOf a) w (exprWidth s b) (exprWidth s c)
-unfolding binaryOf
+binary-fits : (s : List ℕ) (e w a b c : ℕ) → GoodBinary s e w a b c → BinWidth (binaryMeans (binaryOf a)) w (exprWidth s b) (exprWidth s c)
+unfolding binaryOf binaryMeans
 binary-fits s e w zero b c g = g .same (omega arith)
 binary-fits s e w (suc zero) b c g = g .same (omega arith)
 binary-fits s e w (suc (suc zero)) b c g = g .same (omega arith)
 binary-fits s e w (suc (suc (suc zero))) b c g = g .same (omega arith)
 binary-fits s e w (suc (suc (suc (suc zero)))) b c g = g .same (omega arith)
 binary-fits s e w (suc (suc (suc (suc (suc zero))))) b c g = g .same (omega arith)
-binary-fits s e w (suc (suc (suc (suc (suc (suc zero)))))) b c g = g .compared (omega arith) (omega arith)
-binary-fits s e w (suc (suc (suc (suc (suc (suc (suc zero))))))) b c g = g .compared (omega arith) (omega arith)
-binary-fits s e w (suc (suc (suc (suc (suc (suc (suc (suc zero)))))))) b c g = g .compared (omega arith) (omega arith)
-binary-fits s e w (suc (suc (suc (suc (suc (suc (suc (suc (suc zero))))))))) b c g = g .compared (omega arith) (omega arith)
-binary-fits s e w (suc (suc (suc (suc (suc (suc (suc (suc (suc (suc zero)))))))))) b c g = g .compared (omega arith) (omega arith)
-binary-fits s e w (suc (suc (suc (suc (suc (suc (suc (suc (suc (suc (suc zero))))))))))) b c g = g .compared (omega arith) (omega arith)
-binary-fits s e w (suc (suc (suc (suc (suc (suc (suc (suc (suc (suc (suc (suc zero)))))))))))) b c g = g .compared (omega arith) (omega arith)
-binary-fits s e w (suc (suc (suc (suc (suc (suc (suc (suc (suc (suc (suc (suc (suc zero))))))))))))) b c g = g .compared (omega arith) (omega arith)
-binary-fits s e w (suc (suc (suc (suc (suc (suc (suc (suc (suc (suc (suc (suc (suc (suc zero)))))))))))))) b c g = g .compared (omega arith) (omega arith)
-binary-fits s e w (suc (suc (suc (suc (suc (suc (suc (suc (suc (suc (suc (suc (suc (suc (suc zero))))))))))))))) b c g = g .compared (omega arith) (omega arith)
+binary-fits s e w (suc (suc (suc (suc (suc (suc zero)))))) b c g = let h = g .compared (omega arith) (omega arith) in (sym (h .0), h .1)
+binary-fits s e w (suc (suc (suc (suc (suc (suc (suc zero))))))) b c g = let h = g .compared (omega arith) (omega arith) in (sym (h .0), h .1)
+binary-fits s e w (suc (suc (suc (suc (suc (suc (suc (suc zero)))))))) b c g = let h = g .compared (omega arith) (omega arith) in (sym (h .0), h .1)
+binary-fits s e w (suc (suc (suc (suc (suc (suc (suc (suc (suc zero))))))))) b c g = let h = g .compared (omega arith) (omega arith) in (sym (h .0), h .1)
+binary-fits s e w (suc (suc (suc (suc (suc (suc (suc (suc (suc (suc zero)))))))))) b c g = let h = g .compared (omega arith) (omega arith) in (sym (h .0), h .1)
+binary-fits s e w (suc (suc (suc (suc (suc (suc (suc (suc (suc (suc (suc zero))))))))))) b c g = let h = g .compared (omega arith) (omega arith) in (sym (h .0), h .1)
+binary-fits s e w (suc (suc (suc (suc (suc (suc (suc (suc (suc (suc (suc (suc zero)))))))))))) b c g = let h = g .compared (omega arith) (omega arith) in (sym (h .0), h .1)
+binary-fits s e w (suc (suc (suc (suc (suc (suc (suc (suc (suc (suc (suc (suc (suc zero))))))))))))) b c g = let h = g .compared (omega arith) (omega arith) in (sym (h .0), h .1)
+binary-fits s e w (suc (suc (suc (suc (suc (suc (suc (suc (suc (suc (suc (suc (suc (suc zero)))))))))))))) b c g = let h = g .compared (omega arith) (omega arith) in (sym (h .0), h .1)
+binary-fits s e w (suc (suc (suc (suc (suc (suc (suc (suc (suc (suc (suc (suc (suc (suc (suc zero))))))))))))))) b c g = let h = g .compared (omega arith) (omega arith) in (sym (h .0), h .1)
 binary-fits s e w (suc (suc (suc (suc (suc (suc (suc (suc (suc (suc (suc (suc (suc (suc (suc (suc zero)))))))))))))))) b c g = g .shifted (omega arith)
 binary-fits s e w (suc (suc (suc (suc (suc (suc (suc (suc (suc (suc (suc (suc (suc (suc (suc (suc (suc zero))))))))))))))))) b c g = g .shifted (omega arith)
 binary-fits s e w (suc (suc (suc (suc (suc (suc (suc (suc (suc (suc (suc (suc (suc (suc (suc (suc (suc (suc zero)))))))))))))))))) b c g = g .shifted (omega arith)

@@ -1,4 +1,6 @@
--- Laws of accepted images: expressions by kind, names, and the decoded module's records.
+-- Laws of accepted images: expressions by kind, names, the decoded module's records, that its expressions are well-formed, and sizes.
 pub mod Fits
 pub mod Name
 pub mod Decode
+pub mod Formed
+pub mod Sized

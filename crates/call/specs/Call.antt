@@ -33,9 +33,9 @@ abbrev pub Lowered : List ℕ → ℕ → ℕ → List ℕ → List ℕ → Answ
 Lowered s N P buffer scratch a buffer′ scratch′ = Promise.Promise lower outcome imageOf s N P buffer scratch a buffer′ scratch′
 
 -- document 01's three numbers of an answer: the refusal's number and its two place numbers, all 0 for acceptance
-abbrev pub numbers : Answer → List ℕ
-numbers Fine = 0 ∷ 0 ∷ 0 ∷ []
-numbers (Refused n a b) = n ∷ a ∷ b ∷ []
+unfoldable pub numbersOf : Answer → List ℕ
+numbersOf Fine = 0 ∷ 0 ∷ 0 ∷ []
+numbersOf (Refused n a b) = n ∷ a ∷ b ∷ []
 
 -- what the listing program writes for an input
 abbrev pub program : List ℕ → List ℕ

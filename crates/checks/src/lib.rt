@@ -1,7 +1,6 @@
 // The check of an image: refusals 1 to 5, in their order.
 ghost use mathlib.Core.Path.{_≡_};
 ghost use Prim.Native.Nat.{_≤_};
-ghost use Rattle.rules.specs.Rules.{Answer};
 ghost use Rattle.meaning.specs.Checks as rule;
 ghost use Rattle.checks.specs.Accepted.{Counts};
 ghost use Rattle.checks.specs.Checked.{answerOf, driversThen, recordsThen};

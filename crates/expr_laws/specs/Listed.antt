@@ -1,7 +1,9 @@
 -- Lists made by `listOf`: their length and their elements. Assumes nothing.
 use mathlib.Core.Path.{_≡_, refl, ap, _∙_}
 use mathlib.Core.List.{List, [], _∷_}
-use Prim.Native.Nat.{ℕ, zero, suc, _+_, _<_}
+use Prim.Native.Nat.{ℕ, zero, suc, _+_, _-_, _≤_, _<_}
+use native.Mathlib.Numerals.{add-one}
+use native.Mathlib.Omega.{arith}
 use native.Mathlib.Nat.{not-suc-le-zero, le-of-suc-le-suc, add-zero, add-suc, suc-add, zero-add}
 use lib.ListN.{length, getD}
 use Rattle.rules.specs.Rules.{each, listOf}
@@ -36,3 +38,22 @@ pub below-listOf : (x n : ℕ) (f : ℕ → ℕ) (i : ℕ) → AllBelow x (listO
 below-listOf x n f i b h =
     let g = below-at x (listOf n f) i 0 b (rw (length-listOf n f) h) in
     rw (getD-listOf n f i 0 h) at g
+
+-- ---- the elements from one on ----
+
+abbrev pub onward : (ℕ → ℕ) → ℕ → ℕ → List ℕ
+onward f n i = each f i (n - i)
+
+pub onward-all : (f : ℕ → ℕ) (n : ℕ) → listOf n f ≡ onward f n 0
+unfolding listOf
+onward-all f n = ap (each f 0) (omega arith)
+
+pub onward-cons : (f : ℕ → ℕ) (n i : ℕ) → i < n → onward f n i ≡ f i ∷ onward f n (i + 1)
+unfolding each
+onward-cons f n i h =
+    let a : n - i ≡ suc (n - (i + 1)) = omega arith in
+    rw (a, add-one i)
+
+pub onward-none : (f : ℕ → ℕ) (n i : ℕ) → n ≤ i → onward f n i ≡ []
+unfolding each
+onward-none f n i h = let a : n - i ≡ 0 = omega arith in rw a

@@ -1,7 +1,7 @@
 // Total readers of the module image: past the end a byte reads as 0, so no reader asks anything of its caller.
 ghost use mathlib.Core.Path.{_≡_};
-ghost use Prim.Native.Nat.{_+_, _*_, _≤_, _<_};
-ghost use lib.ListN.{length, take, drop, getD};
+ghost use Prim.Native.Nat.{_+_, _≤_, _<_};
+ghost use lib.ListN.{take, drop, getD};
 ghost use Rattle.rules.specs.Rules.{outside};
 ghost use Rattle.meaning.specs.Image as image;
 ghost use Rattle.fields.specs.Fields.{fieldIn};

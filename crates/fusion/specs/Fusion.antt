@@ -1,11 +1,10 @@
 -- What the answers of the fusion stand for, and the laws of each function by the way it returns. Assumes nothing.
-use mathlib.Core.Path.{_≡_, refl, sym, ap, _∙_}
+use mathlib.Core.Path.{_≡_, refl, sym, _∙_}
 use mathlib.Core.Bool.{Bool, true, false, not, cond}
 use mathlib.Core.List.{List, [], _∷_}
 use mathlib.Core.Option.{Option, none, some}
-use Prim.Native.Nat.{ℕ, suc, _+_, _-_, _^_, _%_, _≤_, _<_, min}
+use Prim.Native.Nat.{ℕ, _+_, _^_, _%_, _≤_, _<_, min}
 use native.Mathlib.Nat.{mod-mod}
-use native.Mathlib.Numerals.{add-one}
 use native.Mathlib.Omega.{arith}
 use lib.Dec.{T, ltb, lt→ltb}
 use lib.Arith.{le→nltb}
@@ -24,7 +23,7 @@ use Rattle.word_laws.specs.Shift.{T-true, T-false}
 use Rattle.word_laws.specs.Tree.{eqb-no}
 use Rattle.range_laws.specs.Carry.{zero-is}
 use Rattle.op_class.specs.OpClass.{opClassOf, addsOf, add-class}
-use Rattle.expr_laws.specs.Listed.{below-listOf}
+use Rattle.expr_laws.specs.Listed.{below-listOf, onward, onward-all, onward-cons, onward-none}
 use Rattle.expr_laws.specs.Exprs.{exprsOf, Readable, in-exprs, width-at, width-least, width-read, kind-read, low-read, listed-read}
 use Rattle.fusion.specs.declared.ZeroTest.{ZeroTest}
 use Rattle.fusion.specs.declared.ZeroTest.the-variants.{Zero, NotZero, Parts}
@@ -250,21 +249,16 @@ not-false false e = sym e
 -- ---- parts from one on ----
 
 abbrev pub from : List ℕ → ℕ → ℕ → ℕ → List ℕ
-from s start n i = each (λ j. listWord s (start + j)) i (n - i)
+from s start n i = onward (λ j. listWord s (start + j)) n i
 
 from-all : (s : List ℕ) (start n : ℕ) → partsOf s start n ≡ from s start n 0
-unfolding listOf
-from-all s start n = ap (each (λ j. listWord s (start + j)) 0) (omega arith)
+from-all s start n = onward-all (λ j. listWord s (start + j)) n
 
 from-cons : (s : List ℕ) (start n i : ℕ) → i < n → from s start n i ≡ listWord s (start + i) ∷ from s start n (i + 1)
-unfolding each
-from-cons s start n i h =
-    let a : n - i ≡ suc (n - (i + 1)) = omega arith in
-    rw (a, add-one i)
+from-cons s start n i h = onward-cons (λ j. listWord s (start + j)) n i h
 
 from-none : (s : List ℕ) (start n i : ℕ) → n ≤ i → from s start n i ≡ []
-unfolding each
-from-none s start n i h = let a : n - i ≡ 0 = omega arith in rw a
+from-none s start n i h = onward-none (λ j. listWord s (start + j)) n i h
 
 -- the answer for e is that of the parts from i on
 abbrev pub ZeroFrom : List ℕ → ℕ → ℕ → ℕ → ℕ → Type 0

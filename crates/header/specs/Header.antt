@@ -3,7 +3,6 @@ use Prim.Native.Nat.{ℕ, _<_, _≤_, _+_, _-_, _*_, _/_}
 use mathlib.Core.List.{List}
 use mathlib.Core.Bool.{Bool, true, false}
 use mathlib.Core.Path.{_≡_, refl, ap, _∙_}
-use native.Mathlib.Nat.{mul-le-mul, le-of-lt}
 use native.Mathlib.Omega.{arith}
 use lib.ListN.{length}
 use Rattle.rules.specs.Rules.{_<?_, _≢?_, pick, first, Fine, Refused}
@@ -75,7 +74,3 @@ unfolding header
 header-tells s e =
     let h = no-field s (no-lt _ _ (not-refused _ _ _ _ e)) in
     passed-header s (h .0) (none (wrongField s) 16 (omega (arith, first-most (wrongField s) 16)))
-
--- a count times a size
-pub room : (a b : ℕ) → a < 4294967296 → b ≤ 104 → a * b ≤ 446676598784
-room a b ha hb = mul-le-mul (le-of-lt ha) hb

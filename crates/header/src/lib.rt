@@ -1,6 +1,6 @@
 // The check of the header, refusal 3, and of the caller's limits and buffers, refusals 1, 2 and 5.
 ghost use mathlib.Core.Path.{_≡_};
-ghost use Prim.Native.Nat.{_+_, _*_, _≤_, _<_};
+ghost use Prim.Native.Nat.{_≤_, _<_};
 ghost use Rattle.rules.specs.Rules.{_<?_, _or_, outside, sumTo};
 ghost use Rattle.meaning.specs.Image.{mostOf, countAt, startOf};
 ghost use Rattle.meaning.specs.Checks.{wrongCount, wrongField, firstField, netlistNeed, scratchNeed, signalBits, exprBits};

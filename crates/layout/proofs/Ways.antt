@@ -1,21 +1,20 @@
 -- The steps in which the scratch is laid out: their loops, and what they come to. Assumes nothing.
-use mathlib.Core.Path.{_≡_, refl, sym, ap, ap₂, _∙_, subst}
+use mathlib.Core.Path.{_≡_, refl, sym, ap, _∙_, subst}
 use mathlib.Core.Bool.{Bool, true, false, cond, true≢false}
 use mathlib.Core.List.{List, [], _∷_, _++_, map, append-nil}
 use mathlib.Core.Logic.{⊎-elim, _⊎_}
-use mathlib.Core.Option.{Option, none, some}
+use mathlib.Core.Option.{Option, none}
 use Prim.Native.Nat.{ℕ, zero, suc, _+_, _*_, _-_, _≤_, _<_}
 use native.Mathlib.Nat.{sub-self, sub-zero, eq-or-lt-of-le}
-use native.Mathlib.Numerals.{add-one}
 use native.Mathlib.Omega.{arith}
-use lib.ListN.{length, getD, set, drop, replicate, length-set, getD-replicate, drop-of-length-le, List·getD-eq-default, length-replicate}
+use lib.ListN.{length, getD, set, drop, replicate, length-set, drop-of-length-le, length-replicate}
 use lib.Seq.{getD-set-same, getD-set-other, paste}
 use Rattle.rules.specs.Rules.{each, listOf, sumTo}
 use Rattle.rtl.specs.Rtl as R
 use Rattle.rtl.specs.Rtl.{byAssign}
 use Rattle.meaning.specs.Image as I
 use Rattle.meaning.specs.Image.{countAt, field, signalWidth, exprWidth, assignAt, signalAt, decode}
-use Rattle.meaning.specs.Checks.{signalBits, exprBits, scratchNeed}
+use Rattle.meaning.specs.Checks.{signalBits, scratchNeed}
 use Rattle.model.specs.Lowering as M
 use Rattle.model.specs.Lowering.{exprDriver, driverOf}
 use Rattle.table_view.specs.Rows.{listOf-agree, at-listOf, length-listOf, map-listOf, replicate-listOf, same-or, stretch-apart, rows}

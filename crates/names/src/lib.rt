@@ -3,7 +3,7 @@ ghost use mathlib.Core.Path.{_≡_};
 ghost use Prim.Native.Nat.{ℕ, _≤_, _<_};
 ghost use lib.ListN.{getD};
 ghost use Rattle.rules.specs.Rules.{first, any, sameText};
-ghost use Rattle.meaning.specs.Image.{countAt, field, nameOf};
+ghost use Rattle.meaning.specs.Image.{countAt};
 ghost use Rattle.meaning.specs.Checks.{badName, nameTaken};
 ghost use Rattle.names.specs.Earlier.{earlierOf};
 ghost use Rattle.names.specs.Names.{badByte, sameName, wrongName, mixed, hashFrom, hashAt};

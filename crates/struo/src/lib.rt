@@ -2,7 +2,7 @@
 ghost use mathlib.Core.Path.{_≡_};
 ghost use Rattle.meaning.specs.Checks.{checked};
 ghost use Rattle.checks.specs.Checked.{answerOf};
-ghost use Rattle.struo.specs.Numbers.{numbersOf};
+ghost use Rattle.call.specs.Call.{numbersOf};
 use checks::Checked;
 
 // The three numbers of an answer.

@@ -1,9 +1,9 @@
 -- Nets in the tables are numbers of nets, and the sizes of the image are those of its module. Assumes nothing.
 use mathlib.Core.Path.{_≡_, refl, sym, ap, _∙_, subst}
 use mathlib.Core.Bool.{Bool, true, false, true≢false}
-use mathlib.Core.List.{List, [], _∷_}
+use mathlib.Core.List.{List, _∷_}
 use mathlib.Core.Option.{Option, none, some}
-use Prim.Native.Nat.{ℕ, zero, suc, _+_, _*_, _-_, _≤_, _<_}
+use Prim.Native.Nat.{ℕ, zero, suc, _+_, _-_, _≤_, _<_}
 use native.Mathlib.Nat.{zero-add}
 use native.Mathlib.Omega.{arith}
 use lib.ListN.{length, getD}
@@ -12,14 +12,14 @@ use Rattle.rules.specs.Laws.{sum-none}
 use Rattle.rtl.specs.Rtl as R
 use Rattle.meaning.specs.Image as I
 use Rattle.meaning.specs.Image.{countAt, signalWidth, exprWidth, decode}
-use Rattle.meaning.specs.Checks.{signalBits, exprBits}
+use Rattle.meaning.specs.Checks.{signalBits}
 use Rattle.model.specs.Words.{Netlist}
 use Rattle.model.specs.Lowering as M
 use Rattle.model.specs.Ranges.{widthAt}
 use Rattle.table_view.specs.Rows.{at-listOf, length-listOf, sum-suc}
-use Rattle.table_view.specs.View.{limitOf, bitColumn, signalBit, exprBit, netAt, bitAt, known, netWord, isWhole, stateOf, Laid}
+use Rattle.table_view.specs.View.{limitOf, signalBit, exprBit, netAt, bitAt, known, netWord, isWhole, stateOf, Laid}
 use Rattle.table_view.specs.Laws.{netWord-some, signal-inside, expr-ends, read-whole, whole-none, whole-some, bits-are}
-use Rattle.table_view.specs.Reads.{read-signal, read-range, whole-nets, known-range}
+use Rattle.table_view.specs.Reads.{read-signal, read-signals, read-range, whole-nets, known-range}
 
 -- ---- nets ----
 
@@ -87,6 +87,26 @@ module _ (s w : List ℕ) (l : Netlist) (e : ℕ) (h : Laid s w) (u : e < countA
 
   pub not-whole : isWhole s (limitOf w) w e ≡ false → M.whole (stateOf s l w) e ≡ none
   not-whole q = read-whole s (limitOf w) l w e u ∙ whole-none s (limitOf w) w e q
+
+  pub whole-told : (ns : List ℕ) → M.whole (stateOf s l w) e ≡ some ns → isWhole s (limitOf w) w e ≡ true
+  whole-told ns q = go (isWhole s (limitOf w) w e) refl
+    where
+      go : (t : Bool) → isWhole s (limitOf w) w e ≡ t → t ≡ true
+      go true z = refl
+      go false z = let x = not-whole z in let y : _≡_ {A = ℕ} 0 1 = cc in absurd (omega arith)
+
+  -- a whole expression is the range of all its bits
+  pub whole-range : isWhole s (limitOf w) w e ≡ true → M.wholeNets (stateOf s l w) e ≡ M.rangeNets (stateOf s l w) e 0 (exprWidth s e)
+  whole-range q = whole-nets s (limitOf w) l w e u q ∙ sym (read-range s (limitOf w) l w e u 0 (exprWidth s e) (omega arith))
+
+  pub range-long : (lsb k : ℕ) → lsb + k ≤ exprWidth s e → length (M.rangeNets (stateOf s l w) e lsb k) ≡ k
+  range-long lsb k v = ap length (read-range s (limitOf w) l w e u lsb k v) ∙ length-listOf k (λ i. netWord (getD w (bitAt s (limitOf w) e lsb + i) 0))
+
+  pub whole-long : isWhole s (limitOf w) w e ≡ true → length (M.wholeNets (stateOf s l w) e) ≡ exprWidth s e
+  whole-long q = ap length (whole-range q) ∙ range-long 0 (exprWidth s e) (omega arith)
+
+pub signals-long : (s w : List ℕ) (l : Netlist) (p lsb k : ℕ) → p < countAt s 0 → lsb + k ≤ signalWidth s p → length (M.signalNets (stateOf s l w) p lsb k) ≡ k
+signals-long s w l p lsb k u v = ap length (read-signals s (limitOf w) l w p lsb k u v) ∙ length-listOf k (λ i. netWord (getD w (netAt s (limitOf w) p lsb + i) 0))
 
 -- ---- sizes ----
 

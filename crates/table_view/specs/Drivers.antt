@@ -1,16 +1,16 @@
 -- Drivers of signal bits, as words of the scratch. Assumes nothing.
-use mathlib.Core.Path.{_≡_, refl, sym, ap, _∙_, subst}
+use mathlib.Core.Path.{_≡_, refl, sym}
 use mathlib.Core.Bool.{Bool, true, false, cond, _&&_, true≢false}
-use mathlib.Core.List.{List, [], _∷_}
+use mathlib.Core.List.{List}
 use mathlib.Core.Option.{Option, none, some}
-use Prim.Native.Nat.{ℕ, zero, suc, _+_, _*_, _-_, _/_, _%_, _≤_, _<_}
+use Prim.Native.Nat.{ℕ, zero, suc, _+_, _-_, _/_, _%_, _≤_, _<_}
 use native.Mathlib.Omega.{arith}
 use lib.Dec.{eqb, leb, ltb}
 use borrow.Author.Tests.{eqb-true, leb-true, ltb-true, eq-eqb, le-leb, lt-ltb}
 use Rattle.rules.specs.Rules.{each, listOf}
 use Rattle.rtl.specs.Rtl as R
-use Rattle.rtl.specs.Rtl.{Assign, byAssign}
-use Rattle.meaning.specs.Image.{countAt, field, signalWidth, exprWidth, assignAt, decode}
+use Rattle.rtl.specs.Rtl.{byAssign}
+use Rattle.meaning.specs.Image.{countAt, field, exprWidth, assignAt, decode}
 use Rattle.model.specs.Lowering.{driverOf, exprDriver}
 use Rattle.table_view.specs.View.{Drives, Sized, driverWord}
 

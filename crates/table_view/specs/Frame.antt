@@ -1,17 +1,17 @@
 -- What others write into the scratch leaves the tables as they are: the index of gates and cells, and the six other words of each
 -- expression. Assumes nothing.
-use mathlib.Core.Path.{_≡_, refl, sym, ap, _∙_, subst}
+use mathlib.Core.Path.{_≡_, sym, ap, _∙_, subst}
 use mathlib.Core.List.{List}
-use Prim.Native.Nat.{ℕ, zero, suc, _+_, _*_, _-_, _≤_, _<_}
+use Prim.Native.Nat.{ℕ, _+_, _*_, _-_, _≤_, _<_}
 use native.Mathlib.Omega.{arith}
 use lib.ListN.{length, getD, set, take, drop, length-set}
 use lib.Seq.{getD-set-other, getD-take, getD-drop}
-use Rattle.meaning.specs.Image.{countAt, exprWidth}
+use Rattle.meaning.specs.Image.{countAt}
 use Rattle.meaning.specs.Checks.{signalBits, exprBits}
 use Rattle.model.specs.Words.{Netlist}
 use Rattle.model.specs.Lowering.{state}
-use Rattle.table_view.specs.View.{limitOf, signalColumn, exprColumn, bitColumn, signalBit, exprBit, exprAt, bitAt, stateAt, stateOf, freeAt, free, LaidAt, Laid}
-use Rattle.table_view.specs.Laws.{Kept, kept-laid, ExprSame, signals-few, signal-inside, expr-ends, still-whole, signals-stay, marks-stay, free-stays, wholes-stay, rangeses-stay}
+use Rattle.table_view.specs.View.{limitOf, signalColumn, bitColumn, signalBit, exprBit, exprAt, stateAt, stateOf, freeAt, free, LaidAt, Laid}
+use Rattle.table_view.specs.Laws.{ExprSame, signals-few, signal-inside, expr-ends, still-whole, signals-stay, marks-stay, free-stays, wholes-stay, rangeses-stay}
 
 pub record Stays (s w w′ : List ℕ) : Type 0 where
   pub says : (l : Netlist) → stateOf s l w′ ≡ stateOf s l w

@@ -5,18 +5,17 @@ use mathlib.Core.List.{List, [], _∷_, _++_, map}
 use mathlib.Core.Logic.{⊎-elim, inl, inr, _⊎_}
 use mathlib.Core.Option.{Option, none, some}
 use Prim.Native.Nat.{ℕ, zero, suc, _+_, _*_, _-_, _≤_, _<_, min}
-use native.Mathlib.Nat.{sub-zero}
 use native.Mathlib.Omega.{arith}
-use lib.ListN.{length, getD, set, take, drop, length-set, length-append, length-take, length-drop, List·getD-append, List·getD-eq-default}
+use lib.ListN.{length, getD, set, take, drop, length-set, length-append, length-take, List·getD-append}
 use lib.Seq.{ext-getD, getD-set-same, getD-set-other, getD-take, getD-drop, getD-append-add, paste, length-paste, set-getD, take-all}
 use Rattle.rules.specs.Rules.{listOf, sumTo}
-use Rattle.meaning.specs.Image.{countAt, signalWidth, exprWidth, decode}
+use Rattle.meaning.specs.Image.{countAt, signalWidth, exprWidth}
 use Rattle.meaning.specs.Checks.{signalBits, exprBits, scratchNeed}
 use Rattle.model.specs.Words.{Netlist, absent}
 use Rattle.model.specs.Lowering as M
-use Rattle.model.specs.Lowering.{State, state, netOf, cell, put}
-use Rattle.table_view.specs.Rows.{listOf-agree, at-listOf, is-listOf, set-listOf, map-listOf, part-listOf, length-listOf, sum-agree, sum-falls, stretch-before, stretch-apart, sum-most, same-or, rows-agree, set-rows, put-rows, cell-rows}
-use Rattle.table_view.specs.View.{limitOf, signalColumn, exprColumn, bitColumn, signalBit, exprBit, netAt, driverAt, markAt, firstAt, exprAt, bitAt, known, netWord, isSet, wholeOf, rangesOf, isWhole, signalRows, markRows, wholeAt, rangesAt, stateAt, stateOf, unset, freeAt, free, Sized, LaidAt, Laid, Writes, Marks}
+use Rattle.model.specs.Lowering.{State, state, netOf, cell}
+use Rattle.table_view.specs.Rows.{listOf-agree, at-listOf, is-listOf, set-listOf, map-listOf, length-listOf, sum-agree, sum-falls, stretch-before, stretch-apart, sum-most, same-or, rows-agree, set-rows, put-rows, cell-rows}
+use Rattle.table_view.specs.View.{limitOf, signalColumn, exprColumn, bitColumn, signalBit, exprBit, netAt, markAt, exprAt, bitAt, known, netWord, isSet, wholeOf, rangesOf, isWhole, signalRows, markRows, wholeAt, rangesAt, stateAt, unset, freeAt, Sized, LaidAt, Laid, Writes, Marks}
 
 -- ---- words ----
 
@@ -466,9 +465,6 @@ module _ (s w w′ ns : List ℕ) (e lsb k f : ℕ) (h : Laid s w) (u : e < coun
     (flag : getD w′ (exprAt s (limitOf w) e 1) 0 ≡ f)
     (other : (j : ℕ) → (j ≡ exprAt s (limitOf w) e 1 → ⊥) → ((i : ℕ) → i < k → j ≡ bitAt s (limitOf w) e lsb + i → ⊥) → getD w′ j 0 ≡ getD w j 0)
     (full : (b : ℕ) → b < exprWidth s e → isWhole s (limitOf w) w′ e ≡ true → 0 < getD w′ (bitAt s (limitOf w) e b) 0) where
-  here-expr : exprBit s e (exprWidth s e) ≤ exprBits s
-  here-expr = expr-ends s e u
-
   low : (j : ℕ) → j < exprColumn s (limitOf w) → getD w′ j 0 ≡ getD w j 0
   low j a = other j (λ z. absurd (omega arith)) (λ i c z. absurd (omega arith))
 

@@ -7,3 +7,4 @@ pub mod Drivers
 pub mod Copies
 pub mod Frame
 pub mod Bounds
+pub mod Checked

@@ -1,21 +1,20 @@
 -- What the tables of the scratch read as in the lowering model's state. Assumes nothing.
-use mathlib.Core.Path.{_≡_, refl, sym, ap, ap₂, _∙_}
+use mathlib.Core.Path.{_≡_, refl, ap, ap₂, _∙_}
 use mathlib.Core.Bool.{Bool, true, false}
-use mathlib.Core.List.{List, [], _∷_, map}
-use mathlib.Core.Option.{Option, none, some}
+use mathlib.Core.List.{List, _∷_, map}
+use mathlib.Core.Option.{Option, none}
 use Prim.Native.Nat.{ℕ, zero, suc, _+_, _*_, _≤_, _<_}
-use native.Mathlib.Nat.{zero-add}
 use native.Mathlib.Omega.{arith}
-use lib.ListN.{length, getD, take, drop}
-use Rattle.rules.specs.Rules.{each, listOf, sumTo}
+use lib.ListN.{getD, take, drop}
+use Rattle.rules.specs.Rules.{each, listOf}
 use Rattle.meaning.specs.Image.{countAt, signalWidth, exprWidth}
 use Rattle.meaning.specs.Checks.{signalBits}
 use Rattle.model.specs.Words.{Netlist, absent}
 use Rattle.model.specs.Builder.{from}
 use Rattle.model.specs.Lowering as M
 use Rattle.model.specs.Lowering.{netOf, cell}
-use Rattle.table_view.specs.Rows.{each-at, length-each, listOf-agree, at-listOf, is-listOf, map-listOf, part-listOf, length-listOf, cell-rows}
-use Rattle.table_view.specs.View.{signalColumn, netAt, markAt, bitAt, known, netWord, isSet, isWhole, signalRows, markRows, wholeAt, rangesAt, stateAt}
+use Rattle.table_view.specs.Rows.{each-at, length-each, listOf-agree, at-listOf, is-listOf, map-listOf, part-listOf, cell-rows}
+use Rattle.table_view.specs.View.{signalColumn, netAt, markAt, bitAt, known, netWord, isSet, isWhole, stateAt}
 use Rattle.table_view.specs.Laws.{read-whole, read-ranges, whole-none, whole-some, ranges-there}
 
 -- ---- signals ----

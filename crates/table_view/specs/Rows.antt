@@ -1,15 +1,14 @@
 -- Lists and rows that are given by a function of the index, and a flat column cut into rows by their widths. Assumes nothing.
-use Prim.Native.Nat.{ℕ, zero, suc, _+_, _-_, _≤_, _<_, min}
+use Prim.Native.Nat.{ℕ, zero, suc, _+_, _-_, _≤_, _<_}
 use mathlib.Core.Bool.{Bool, true, false}
-use mathlib.Core.List.{List, [], _∷_, _++_, map}
+use mathlib.Core.List.{List, [], _∷_, map}
 use mathlib.Core.Logic.{⊎-elim, inl, inr, _⊎_}
 use mathlib.Core.Path.{_≡_, refl, sym, ap, _∙_, subst}
 use native.Mathlib.Nat.{add-zero, zero-add, eq-or-lt-of-le}
-use native.Mathlib.Numerals.{add-one}
 use native.Mathlib.Omega.{arith}
 use lib.Dec.{eqb}
-use lib.ListN.{length, getD, set, take, drop, replicate, length-set, length-append, length-take, length-drop, length-replicate, getD-replicate, List·getD-append}
-use lib.Seq.{ext-getD, getD-set-same, getD-set-other, getD-take, getD-drop, getD-append-add}
+use lib.ListN.{length, getD, set, take, drop, replicate, length-set, length-take, length-drop, length-replicate, getD-replicate}
+use lib.Seq.{ext-getD, getD-set-same, getD-set-other, getD-take, getD-drop}
 use borrow.Author.Tests.{eqb-true, eqb-false}
 use Rattle.rules.specs.Rules.{each, listOf, sumTo}
 use Rattle.model.specs.Lowering.{cell, put}

@@ -2,7 +2,7 @@
 use mathlib.Core.Path.{_≡_, refl, sym, ap, _∙_, subst}
 use mathlib.Core.Bool.{Bool, true, false, not}
 use mathlib.Core.List.{List, [], _∷_, _++_, map, append-assoc, append-nil}
-use mathlib.Core.Option.{Option, none, some}
+use mathlib.Core.Option.{Option, some}
 use Prim.Native.Nat.{ℕ, zero, suc, _+_, _*_, _-_, _/_, _%_, _≤_, _<_}
 use native.Mathlib.Nat.{sub-zero, zero-add}
 use native.Mathlib.Numerals.{add-one}
@@ -14,21 +14,20 @@ use borrow.Rule.Slice.PartMut.{putMid}
 use borrow.Author.Tests.{eqb-true, eqb-false}
 use Rattle.rules.specs.Rules.{each, listOf, sumTo}
 use Rattle.meaning.specs.Image.{countAt, signalWidth, exprWidth, decode}
-use Rattle.meaning.specs.Checks.{signalBits, exprBits}
 use Rattle.model.specs.Words.{Netlist, absent}
 use Rattle.model.specs.Lowering as M
 use Rattle.model.specs.Lowering.{cell, driverOf}
-use Rattle.table_view.specs.View.{limitOf, signalBit, exprBit, netAt, driverAt, markAt, firstAt, exprAt, bitAt, known, netWord, isSet, isWhole, stateOf, driverWord, Laid, Writes, Marks}
-use Rattle.table_view.specs.Laws.{known-some, known-none, isSet-yes, isSet-no, signals-few, signal-ends, expr-ends, Stored, stored-one, stored-paste, store-net, store-mark, store-signal, store-whole, store-range}
+use Rattle.table_view.specs.View.{limitOf, signalBit, netAt, driverAt, markAt, firstAt, exprAt, bitAt, known, netWord, isSet, isWhole, stateOf, driverWord, Laid, Writes, Marks}
+use Rattle.table_view.specs.Laws.{known-some, known-none, isSet-yes, isSet-no, Stored, stored-one, stored-paste, store-net, store-mark, store-signal, store-whole, store-range}
 use Rattle.table_view.specs.Reads.{read-signal, read-mark, read-signals, read-range, whole-net, known-range}
 use Rattle.table_view.specs.Rows.{at-listOf}
 use Rattle.table_view.specs.Copies.{PastedAt, paste-turn}
 use Rattle.table_view.specs.Drivers.{driver-inside, inside-low, word-none, word-some}
 use Rattle.tables.specs.Answers.{SignalPlace, ExprPlace, ExprNet, Small, drivenBy}
-use Rattle.tables.specs.declared.Driver.the-variants.{Expr, Nothing}
+use Rattle.tables.specs.declared.Driver.the-variants.{Nothing}
 
 -- the code's test of a word
-test : (x : ℕ) → not (eqb x 0) ≡ isSet x
+pub test : (x : ℕ) → not (eqb x 0) ≡ isSet x
 test x = go (eqb x 0) refl
   where
     go : (t : Bool) → eqb x 0 ≡ t → not t ≡ isSet x

@@ -1,4 +1,4 @@
--- `checks::check` meets its contract. Assumes nothing.
+-- `checks::check` meets its contract. The checks that are passed are fine, the first that is not gives the answer. Assumes nothing.
 use borrow.Author.Needs.{needs}
 use Rattle.checks.proofs.check.Statement.{statement}
 use Rattle.checks.proofs.check.Tie as tie

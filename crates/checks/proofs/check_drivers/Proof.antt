@@ -1,4 +1,4 @@
--- `checks::check_drivers` meets its contract. Assumes nothing.
+-- `checks::check_drivers` meets its contract. Each section that is passed is fine, the first that is not gives the answer. Assumes nothing.
 use borrow.Author.Needs.{needs}
 use Rattle.checks.proofs.check_drivers.Statement.{statement}
 use Rattle.checks.proofs.check_drivers.Tie as tie

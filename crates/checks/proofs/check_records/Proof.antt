@@ -1,4 +1,4 @@
--- `checks::check_records` meets its contract. Assumes nothing.
+-- `checks::check_records` meets its contract. Each section that is passed is fine; their width sums bound the bits. Assumes nothing.
 use borrow.Author.Needs.{needs}
 use Rattle.checks.proofs.check_records.Statement.{statement}
 use Rattle.checks.proofs.check_records.Tie as tie

@@ -1,4 +1,4 @@
--- `header::field_sum` meets its contract. Assumes nothing.
+-- `header::field_sum` meets its contract. The loop's invariant: the sum is that of the fields below r, each below 2 ^ 32. Assumes nothing.
 use borrow.Author.Needs.{needs}
 use Rattle.header.proofs.field_sum.Statement.{statement}
 use Rattle.header.proofs.field_sum.Tie as tie

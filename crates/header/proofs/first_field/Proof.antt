@@ -1,4 +1,4 @@
--- `header::first_field` meets its contract. Assumes nothing.
+-- `header::first_field` meets its contract. The loop's invariant: no field below i is wrong. Assumes nothing.
 use borrow.Author.Needs.{needs}
 use Rattle.header.proofs.first_field.Statement.{statement}
 use Rattle.header.proofs.first_field.Tie as tie

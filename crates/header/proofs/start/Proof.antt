@@ -1,4 +1,4 @@
--- `header::start` meets its contract. Assumes nothing.
+-- `header::start` meets its contract. The loop's invariant: at is where section j has to start. Assumes nothing.
 use borrow.Author.Needs.{needs}
 use Rattle.header.proofs.start.Statement.{statement}
 use Rattle.header.proofs.start.Tie as tie
@@ -6,7 +6,8 @@ use Prim.Native.Nat.{_≤_, _-_, _+_, _*_}
 use mathlib.Core.Path.{_≡_, sym, ap, _∙_}
 use native.Mathlib.Omega.{arith}
 use Rattle.meaning.specs.Image.{startOf, bytesOf}
-use Rattle.header.specs.Header.{room, start-more, start-none}
+use Rattle.fields.specs.Fields.{scaled}
+use Rattle.header.specs.Header.{start-more, start-none}
 use denote.Ref.{now}
 
 abbrev Inv-loop : tie.InvT-loop
@@ -28,10 +29,10 @@ size-requires : tie.Need-size-requires Inv-loop μ-loop
 size-requires c κs = search needs
 
 mul-at : tie.Need-mul-at Inv-loop μ-loop
-mul-at c = omega (arith, room (c .before .count .result) (c .size .result) (omega arith) (c .size .ensures .1))
+mul-at c = omega (arith, scaled (c .before .count .result) (c .size .result) (omega arith) (c .size .ensures .1))
 
 add-at : tie.Need-add-at Inv-loop μ-loop
-add-at c = omega (arith, room (c .before .count .result) (c .size .result) (omega arith) (c .size .ensures .1))
+add-at c = omega (arith, scaled (c .before .count .result) (c .size .result) (omega arith) (c .size .ensures .1))
 
 add-j : tie.Need-add-j Inv-loop μ-loop
 add-j c = search needs
@@ -43,7 +44,7 @@ loop-again : tie.Need-loop-again Inv-loop μ-loop
 unfolding bytesOf
 loop-again c =
     let s = now (c .before .before .before .before .before .args .s) in
-    let r = room (c .before .count .result) (c .size .result) (omega arith) (c .size .ensures .1) in
+    let r = scaled (c .before .count .result) (c .size .result) (omega arith) (c .size .ensures .1) in
     let e : c .before .count .result * c .size .result ≡ bytesOf s (c .before .before .before .loop .j) = cc (c .size .ensures .0) in
     (omega arith, omega (arith, start-more s (c .before .before .before .loop .j)), omega arith)
 

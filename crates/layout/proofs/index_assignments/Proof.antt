@@ -1,13 +1,10 @@
-use Rattle.layout.proofs.index_assignments.Statement.{statement}
-use Rattle.layout.proofs.index_assignments.Tie as tie
-use Rattle.layout.proofs.index_assignments.Reads as reads
-use Rattle.layout.proofs.index_assignments.Lts as lts
-use Rattle.fields.proofs.count.Reads as count-reads
-use Rattle.layout.proofs.index_assignment.Reads as index-assignment-reads
-use borrow.Author.Needs.{needs}
+-- `layout::index_assignments` meets its contract: invariant: the drivers by the assignments from a on stand. Assumes nothing.
 use native.Mathlib.Omega.{arith}
+use borrow.Author.Needs.{needs}
 use Rattle.table_view.specs.View.{limitOf}
 use Rattle.layout.proofs.Ways.{IndexedAt, index-begin, index-step, index-end, firsts-own}
+use Rattle.layout.proofs.index_assignments.Statement.{statement}
+use Rattle.layout.proofs.index_assignments.Tie as tie
 
 abbrev Inv-loop : tie.InvT-loop
 Inv-loop image scr₀ a₀ scr a = IndexedAt image (limitOf scr₀) scr₀ scr a
@@ -15,32 +12,26 @@ Inv-loop image scr₀ a₀ scr a = IndexedAt image (limitOf scr₀) scr₀ scr a
 abbrev μ-loop : tie.MeasureT-loop
 μ-loop image scr₀ a₀ scr a = a
 
--- src/lib.rt:120:9
 count-requires : tie.Need-count-requires Inv-loop μ-loop
 count-requires c κs = search needs
 
--- src/lib.rt:121:5
 loop-holds : tie.Need-loop-holds Inv-loop μ-loop
 loop-holds c =
     let s = c .before .before .before in
     index-begin (s .args .image .now) (limitOf (s .args .scr .now)) (s .args .scr .now) (c .count .result) (c .count .ensures) (s .pre .0) (s .pre .1)
 
--- src/lib.rt:122:9
 sub-a : tie.Need-sub-a Inv-loop μ-loop
 sub-a c = search needs
 
--- src/lib.rt:123:9
 index-assignment-requires : tie.Need-index-assignment-requires Inv-loop μ-loop
 index-assignment-requires c κs =
     let s = c .before .before .before .before .before .before in
     let l = c .before .before .loop in
     (firsts-own (s .args .image .now) (limitOf (s .args .scr .now)) (l .scr) (l .inv .firsts), omega (arith, l .inv .below))
 
--- src/lib.rt:121:5
 loop-less : tie.Need-loop-less Inv-loop μ-loop
 loop-less c = search needs
 
--- src/lib.rt:121:5
 loop-again : tie.Need-loop-again Inv-loop μ-loop
 loop-again c =
     let s = c .before .before .before .before .before .before .before .before .before in
@@ -48,11 +39,9 @@ loop-again c =
     index-step (s .args .image .now) (limitOf (s .args .scr .now)) (s .args .scr .now) (l .scr) (c .before .before .index-assignment .last .1 .0) (l .a) (c .before .before .before .before .loop-test .taken) (l .inv)
     (c .before .before .index-assignment .ensures)
 
--- src/lib.rt:116:1
 same-length : tie.Need-same-length Inv-loop μ-loop
 same-length c = search needs
 
--- src/lib.rt:116:1
 returns : tie.Need-returns Inv-loop μ-loop
 returns c =
     let s = c .before .before .before .before .before in

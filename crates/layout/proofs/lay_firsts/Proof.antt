@@ -1,14 +1,9 @@
-use Rattle.layout.proofs.lay_firsts.Statement.{statement}
-use Rattle.layout.proofs.lay_firsts.Tie as tie
-use Rattle.layout.proofs.lay_firsts.Reads as reads
-use Rattle.layout.proofs.lay_firsts.Lts as lts
-use Rattle.fields.proofs.count.Reads as count-reads
-use Rattle.fields.proofs.signal_width.Reads as signal-width-reads
-use borrow.Author.Needs.{needs}
-use Prim.Native.Nat.{ℕ, _+_, _*_, _≤_, _<_, _-_}
-use mathlib.Core.Path.{_≡_, ap, sym, _∙_}
+-- `layout::lay_firsts` meets its contract: invariant: the first bits of the signals passed are pasted. Assumes nothing.
+use mathlib.Core.Path.{_≡_, sym, _∙_}
+use Prim.Native.Nat.{_+_, _*_, _<_, _-_}
 use native.Mathlib.Omega.{arith}
-use lib.ListN.{length, getD}
+use lib.ListN.{getD}
+use borrow.Author.Needs.{needs}
 use Rattle.rules.specs.Rules.{sumTo, listOf}
 use Rattle.rules.specs.Laws.{sum-none, sum-more}
 use Rattle.meaning.specs.Image.{countAt, signalWidth}
@@ -17,6 +12,8 @@ use Rattle.table_view.specs.Rows.{length-listOf, at-listOf}
 use Rattle.table_view.specs.Laws.{signal-ends, signals-few}
 use Rattle.table_view.specs.Copies.{PastedAt, paste-begins, paste-turn, paste-ends}
 use Rattle.layout.proofs.Ways.{firsts-end}
+use Rattle.layout.proofs.lay_firsts.Statement.{statement}
+use Rattle.layout.proofs.lay_firsts.Tie as tie
 
 abbrev Inv-loop : tie.InvT-loop
 Inv-loop image scr₀ count at sum₀ p₀ scr sum p = (sum ≡ sumTo (signalWidth image) p) × PastedAt scr₀ at (listOf (countAt image 0) (sumTo (signalWidth image))) (countAt image 0) scr p
@@ -24,89 +21,70 @@ Inv-loop image scr₀ count at sum₀ p₀ scr sum p = (sum ≡ sumTo (signalWid
 abbrev μ-loop : tie.MeasureT-loop
 μ-loop image scr₀ count at sum₀ p₀ scr sum p = count - p
 
--- src/lib.rt:61:9
 count-requires : tie.Need-count-requires Inv-loop μ-loop
 count-requires c κs = search needs
 
--- src/lib.rt:62:24
 slice-read-at : tie.Need-slice-read-at Inv-loop μ-loop
 slice-read-at c = search needs
 
--- src/lib.rt:62:24
 cast-at : tie.Need-cast-at Inv-loop μ-loop
 cast-at c = search needs
 
--- src/lib.rt:62:19
 mul-at : tie.Need-mul-at Inv-loop μ-loop
 mul-at c = search needs
 
--- src/lib.rt:62:14
 add-at : tie.Need-add-at Inv-loop μ-loop
 add-at c = search needs
 
--- src/lib.rt:62:48
 slice-read-at-2 : tie.Need-slice-read-at-2 Inv-loop μ-loop
 slice-read-at-2 c = search needs
 
--- src/lib.rt:62:48
 cast-at-2 : tie.Need-cast-at-2 Inv-loop μ-loop
 cast-at-2 c = search needs
 
--- src/lib.rt:62:43
 mul-at-2 : tie.Need-mul-at-2 Inv-loop μ-loop
 mul-at-2 c = search needs
 
--- src/lib.rt:62:14
 add-at-2 : tie.Need-add-at-2 Inv-loop μ-loop
 add-at-2 c = search needs
 
--- src/lib.rt:65:5
 loop-holds : tie.Need-loop-holds Inv-loop μ-loop
 loop-holds c =
     let a = c .before .before .before .before .before .args in
     let s = a .image .now in
     (sym (sum-none (signalWidth s)), paste-begins (a .scr .now) (64 + 4 * getD (a .scr .now) 0 0 + 3 * getD (a .scr .now) 1 0) (listOf (countAt s 0) (sumTo (signalWidth s))) (countAt s 0))
 
--- src/lib.rt:66:18
 cast-scr : tie.Need-cast-scr Inv-loop μ-loop
 cast-scr c = search needs
 
--- src/lib.rt:66:13
 add-scr : tie.Need-add-scr Inv-loop μ-loop
 add-scr c = search needs
 
--- src/lib.rt:66:9
 mul-scr : tie.Need-mul-scr Inv-loop μ-loop
 mul-scr c =
     let s = c .before .before .before .before .before .before .before in
     omega (arith, signals-few (s .args .image .now) (s .pre .image), s .pre .image .signalBits, s .pre .limited)
 
--- src/lib.rt:66:9
 slice-write-scr : tie.Need-slice-write-scr Inv-loop μ-loop
 slice-write-scr c =
     let s = c .before .before .before .before .before .before .before in
     omega (arith, signals-few (s .args .image .now) (s .pre .image), c .before .loop .inv .1 .long)
 
--- src/lib.rt:67:16
 signal-width-requires : tie.Need-signal-width-requires Inv-loop μ-loop
 signal-width-requires c κs = search needs
 
--- src/lib.rt:67:9
 add-sum : tie.Need-add-sum Inv-loop μ-loop
 add-sum c =
     let s = c .before .before .before .before .before .before .before .before in
     let u : c .before .before .loop .p < countAt (s .args .image .now) 0 = omega arith in
     omega (arith, signal-ends (s .args .image .now) (c .before .before .loop .p) u, s .pre .image .signalBits)
 
--- src/lib.rt:68:9
 add-p : tie.Need-add-p Inv-loop μ-loop
 add-p c = search needs
 
--- src/lib.rt:65:5
 loop-less : tie.Need-loop-less Inv-loop μ-loop
 loop-less c = search needs
 
--- src/lib.rt:65:5
 loop-again : tie.Need-loop-again Inv-loop μ-loop
 loop-again c =
     let s = c .before .before .before .before .before .before .before .before in
@@ -119,11 +97,9 @@ loop-again c =
           (omega (arith, signals-few i (s .pre .image), s .pre .long, s .pre .bits)) (omega (arith, length-listOf (countAt i 0) (sumTo (signalWidth i)))) (l .inv .0 ∙ sym (at-listOf (countAt i 0) (sumTo (signalWidth i)) (l .p) 0 u)),
     )
 
--- src/lib.rt:57:1
 same-length : tie.Need-same-length Inv-loop μ-loop
 same-length c = search needs
 
--- src/lib.rt:57:1
 returns : tie.Need-returns Inv-loop μ-loop
 returns c =
     let s = c .before .before .before .before .before .before .before in

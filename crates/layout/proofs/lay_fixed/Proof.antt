@@ -1,73 +1,55 @@
-use borrow.Author.Needs.{needs}
-use Rattle.layout.proofs.lay_fixed.Statement.{statement}
-use Rattle.layout.proofs.lay_fixed.Tie as tie
-use Rattle.layout.proofs.lay_fixed.Reads as reads
-use Rattle.layout.proofs.lay_fixed.Lts as lts
-use Rattle.fields.proofs.count.Reads as count-reads
-use Rattle.layout.proofs.signal_bits.Reads as signal-bits-reads
+-- `layout::lay_fixed` meets its contract: five stores. Assumes nothing.
+use Prim.Native.Nat.{_+_, _*_}
 use native.Mathlib.Omega.{arith}
 use lib.ListN.{length-set}
+use borrow.Author.Needs.{needs}
 use Rattle.table_view.specs.Laws.{need-is}
 use Rattle.layout.proofs.Ways.{fixed-on, fixed-off}
-use Prim.Native.Nat.{_+_, _*_}
+use Rattle.layout.proofs.lay_fixed.Statement.{statement}
+use Rattle.layout.proofs.lay_fixed.Tie as tie
 
--- src/lib.rt:44:9
 signal-bits-requires : tie.Need-signal-bits-requires
 signal-bits-requires c κs = search needs
 
--- src/lib.rt:45:22
 mul-exprs : tie.Need-mul-exprs
 mul-exprs c = search needs
 
--- src/lib.rt:45:17
 add-exprs : tie.Need-add-exprs
 add-exprs c = search needs
 
--- src/lib.rt:45:30
 mul-exprs-2 : tie.Need-mul-exprs-2
 mul-exprs-2 c = search needs
 
--- src/lib.rt:45:17
 add-exprs-2 : tie.Need-add-exprs-2
 add-exprs-2 c = search needs
 
--- src/lib.rt:46:28
 count-requires : tie.Need-count-requires
 count-requires c κs = search needs
 
--- src/lib.rt:46:24
 mul-nets : tie.Need-mul-nets
 mul-nets c = search needs
 
--- src/lib.rt:46:16
 add-nets : tie.Need-add-nets
 add-nets c = search needs
 
--- src/lib.rt:47:5
 slice-write-scr : tie.Need-slice-write-scr
 slice-write-scr c = let s = c .before .before .before .before in omega (arith, s .pre .2, need-is (s .args .image .now) (s .args .n))
 
--- src/lib.rt:48:5
 slice-write-scr-2 : tie.Need-slice-write-scr-2
 slice-write-scr-2 c = let s = c .before .before .before .before in simp length-set (omega (arith, s .pre .2, need-is (s .args .image .now) (s .args .n)))
 
--- src/lib.rt:49:5
 slice-write-scr-3 : tie.Need-slice-write-scr-3
 slice-write-scr-3 c = let s = c .before .before .before .before in simp length-set (omega (arith, s .pre .2, need-is (s .args .image .now) (s .args .n)))
 
--- src/lib.rt:50:5
 slice-write-scr-4 : tie.Need-slice-write-scr-4
 slice-write-scr-4 c = let s = c .before .before .before .before in simp length-set (omega (arith, s .pre .2, need-is (s .args .image .now) (s .args .n)))
 
--- src/lib.rt:52:9
 slice-write-scr-5 : tie.Need-slice-write-scr-5
 slice-write-scr-5 c = let s = c .before .before .before .before .before in simp length-set (omega (arith, s .pre .2, need-is (s .args .image .now) (s .args .n)))
 
--- src/lib.rt:40:1
 same-length : tie.Need-same-length
 same-length c = search needs
 
--- src/lib.rt:40:1
 returns : tie.Need-returns
 returns c =
     let s = c .before .before .before .before .before in
@@ -77,11 +59,9 @@ returns c =
     fixed-on (a .image .now) (a .n) (a .scr .now) (s .pre .0) (s .pre .1) (s .pre .2) (s .pre .3) b (64 + 4 * a .n + 4 * b) (64 + 4 * a .n + 4 * b + 8 * k) (c .before .before .signal-bits .ensures)
     (omega (arith, c .before .before .signal-bits .ensures)) (omega (arith, c .before .before .signal-bits .ensures, c .before .count .ensures)) (a .ob) (c .if1 .taken)
 
--- src/lib.rt:40:1
 same-length-2 : tie.Need-same-length-2
 same-length-2 c = search needs
 
--- src/lib.rt:40:1
 returns-2 : tie.Need-returns-2
 returns-2 c =
     let s = c .before .before .before .before .before in

@@ -1,20 +1,17 @@
-use Rattle.layout.proofs.lay_starts.Statement.{statement}
-use Rattle.layout.proofs.lay_starts.Tie as tie
-use Rattle.layout.proofs.lay_starts.Reads as reads
-use Rattle.layout.proofs.lay_starts.Lts as lts
-use Rattle.fields.proofs.count.Reads as count-reads
-use Rattle.fields.proofs.expr_width.Reads as expr-width-reads
-use borrow.Author.Needs.{needs}
-use Prim.Native.Nat.{ℕ, _+_, _*_, _≤_, _<_, _-_}
-use mathlib.Core.Path.{_≡_, ap, sym, _∙_}
+-- `layout::lay_starts` meets its contract: invariant: the first bits of the expressions passed stand. Assumes nothing.
+use mathlib.Core.Path.{_≡_, sym}
+use Prim.Native.Nat.{_+_, _*_, _<_, _-_}
 use native.Mathlib.Omega.{arith}
-use lib.ListN.{length, getD}
+use lib.ListN.{getD}
+use borrow.Author.Needs.{needs}
 use Rattle.rules.specs.Rules.{sumTo}
 use Rattle.rules.specs.Laws.{sum-none, sum-more}
 use Rattle.meaning.specs.Image.{countAt, exprWidth}
 use Rattle.table_view.specs.View.{limitOf, exprAt}
 use Rattle.table_view.specs.Laws.{expr-ends}
 use Rattle.layout.proofs.Ways.{StartsAt, starts-begin, starts-turn, starts-end}
+use Rattle.layout.proofs.lay_starts.Statement.{statement}
+use Rattle.layout.proofs.lay_starts.Tie as tie
 
 abbrev Inv-loop : tie.InvT-loop
 Inv-loop image scr₀ count at sum₀ e₀ scr sum e = (sum ≡ sumTo (exprWidth image) e) × StartsAt image (limitOf scr₀) scr₀ scr e
@@ -22,64 +19,50 @@ Inv-loop image scr₀ count at sum₀ e₀ scr sum e = (sum ≡ sumTo (exprWidth
 abbrev μ-loop : tie.MeasureT-loop
 μ-loop image scr₀ count at sum₀ e₀ scr sum e = count - e
 
--- src/lib.rt:77:9
 count-requires : tie.Need-count-requires Inv-loop μ-loop
 count-requires c κs = search needs
 
--- src/lib.rt:78:14
 slice-read-at : tie.Need-slice-read-at Inv-loop μ-loop
 slice-read-at c = search needs
 
--- src/lib.rt:78:14
 cast-at : tie.Need-cast-at Inv-loop μ-loop
 cast-at c = search needs
 
--- src/lib.rt:81:5
 loop-holds : tie.Need-loop-holds Inv-loop μ-loop
 loop-holds c =
     let a = c .before .before .before .before .args in
     (sym (sum-none (exprWidth (a .image .now))), starts-begin (a .image .now) (limitOf (a .scr .now)) (a .scr .now))
 
--- src/lib.rt:82:23
 cast-scr : tie.Need-cast-scr Inv-loop μ-loop
 cast-scr c = search needs
 
--- src/lib.rt:82:18
 mul-scr : tie.Need-mul-scr Inv-loop μ-loop
 mul-scr c = search needs
 
--- src/lib.rt:82:13
 add-scr : tie.Need-add-scr Inv-loop μ-loop
 add-scr c = search needs
 
--- src/lib.rt:82:9
 mul-scr-2 : tie.Need-mul-scr-2 Inv-loop μ-loop
 mul-scr-2 c = search needs
 
--- src/lib.rt:82:9
 slice-write-scr : tie.Need-slice-write-scr Inv-loop μ-loop
 slice-write-scr c = search needs
 
--- src/lib.rt:83:16
 expr-width-requires : tie.Need-expr-width-requires Inv-loop μ-loop
 expr-width-requires c κs = search needs
 
--- src/lib.rt:83:9
 add-sum : tie.Need-add-sum Inv-loop μ-loop
 add-sum c =
     let s = c .before .before .before .before .before .before .before in
     let u : c .before .before .loop .e < countAt (s .args .image .now) 1 = omega arith in
     omega (arith, expr-ends (s .args .image .now) (c .before .before .loop .e) u, s .pre .image .exprBits)
 
--- src/lib.rt:84:9
 add-e : tie.Need-add-e Inv-loop μ-loop
 add-e c = search needs
 
--- src/lib.rt:81:5
 loop-less : tie.Need-loop-less Inv-loop μ-loop
 loop-less c = search needs
 
--- src/lib.rt:81:5
 loop-again : tie.Need-loop-again Inv-loop μ-loop
 loop-again c =
     let s = c .before .before .before .before .before .before .before in
@@ -90,11 +73,9 @@ loop-again c =
     let p : getD w 2 0 + 8 * l .e ≡ exprAt i (limitOf w) (l .e) 0 = omega (arith, s .pre .exprs) in
     (omega (arith, sum-more (exprWidth i) (l .e), c .expr-width .ensures, l .inv .0), starts-turn i (limitOf w) w (l .scr) (l .e) (getD w 2 0 + 8 * l .e) (l .sum) (s .pre) (l .inv .1) u p (l .inv .0))
 
--- src/lib.rt:73:1
 same-length : tie.Need-same-length Inv-loop μ-loop
 same-length c = search needs
 
--- src/lib.rt:73:1
 returns : tie.Need-returns Inv-loop μ-loop
 returns c =
     let s = c .before .before .before .before .before .before in

@@ -1,14 +1,13 @@
-use Rattle.layout.proofs.put_drivers.Statement.{statement}
-use Rattle.layout.proofs.put_drivers.Tie as tie
-use Rattle.layout.proofs.put_drivers.Reads as reads
-use Rattle.layout.proofs.put_drivers.Lts as lts
-use borrow.Author.Needs.{needs}
+-- `layout::put_drivers` meets its contract: invariant: so many drivers are pasted. Assumes nothing.
 use mathlib.Core.Path.{sym}
 use Prim.Native.Nat.{_-_, _+_}
 use native.Mathlib.Omega.{arith}
+use borrow.Author.Needs.{needs}
 use Rattle.rules.specs.Rules.{listOf}
 use Rattle.table_view.specs.Rows.{length-listOf, at-listOf}
 use Rattle.table_view.specs.Copies.{PastedAt, paste-begins, paste-turn, paste-ends}
+use Rattle.layout.proofs.put_drivers.Statement.{statement}
+use Rattle.layout.proofs.put_drivers.Tie as tie
 
 abbrev Inv-loop : tie.InvT-loop
 Inv-loop scr₀ at n base i₀ scr i = PastedAt scr₀ at (listOf n (λ i. base + i)) n scr i
@@ -16,39 +15,30 @@ Inv-loop scr₀ at n base i₀ scr i = PastedAt scr₀ at (listOf n (λ i. base 
 abbrev μ-loop : tie.MeasureT-loop
 μ-loop scr₀ at n base i₀ scr i = n - i
 
--- src/lib.rt:94:5
 loop-holds : tie.Need-loop-holds Inv-loop μ-loop
 loop-holds c = paste-begins (c .args .scr .now) (c .args .at) (listOf (c .args .n) (λ i. c .args .base + i)) (c .args .n)
 
--- src/lib.rt:95:32
 add-scr : tie.Need-add-scr Inv-loop μ-loop
 add-scr c = search needs
 
--- src/lib.rt:95:18
 cast-scr : tie.Need-cast-scr Inv-loop μ-loop
 cast-scr c = search needs
 
--- src/lib.rt:95:13
 add-scr-2 : tie.Need-add-scr-2 Inv-loop μ-loop
 add-scr-2 c = search needs
 
--- src/lib.rt:95:9
 mul-scr : tie.Need-mul-scr Inv-loop μ-loop
 mul-scr c = search needs
 
--- src/lib.rt:95:9
 slice-write-scr : tie.Need-slice-write-scr Inv-loop μ-loop
 slice-write-scr c = search needs
 
--- src/lib.rt:96:9
 add-i : tie.Need-add-i Inv-loop μ-loop
 add-i c = search needs
 
--- src/lib.rt:94:5
 loop-less : tie.Need-loop-less Inv-loop μ-loop
 loop-less c = search needs
 
--- src/lib.rt:94:5
 loop-again : tie.Need-loop-again Inv-loop μ-loop
 loop-again c =
     let s = c .before .before in
@@ -57,11 +47,9 @@ loop-again c =
     paste-turn (a .scr .now) (a .at) (listOf (a .n) (λ i. a .base + i)) (a .n) (l .scr) (l .i) (a .base + l .i) (l .inv) (c .loop-test .taken) (s .pre .0)
     (omega (arith, length-listOf (a .n) (λ i. a .base + i))) (sym (at-listOf (a .n) (λ i. a .base + i) (l .i) 0 (c .loop-test .taken)))
 
--- src/lib.rt:89:1
 same-length : tie.Need-same-length Inv-loop μ-loop
 same-length c = search needs
 
--- src/lib.rt:89:1
 returns : tie.Need-returns Inv-loop μ-loop
 returns c =
     let a = c .before .before .args in

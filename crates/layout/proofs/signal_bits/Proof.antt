@@ -1,17 +1,14 @@
-use Rattle.layout.proofs.signal_bits.Statement.{statement}
-use Rattle.layout.proofs.signal_bits.Tie as tie
-use Rattle.layout.proofs.signal_bits.Reads as reads
-use Rattle.layout.proofs.signal_bits.Lts as lts
-use Rattle.fields.proofs.count.Reads as count-reads
-use Rattle.fields.proofs.signal_width.Reads as signal-width-reads
-use borrow.Author.Needs.{needs}
-use Prim.Native.Nat.{ℕ, _≤_, _<_, _-_}
+-- `layout::signal_bits` meets its contract: invariant: the sum of the widths passed. Assumes nothing.
 use mathlib.Core.Path.{_≡_, ap, sym, _∙_}
+use Prim.Native.Nat.{_≤_, _<_, _-_}
 use native.Mathlib.Omega.{arith}
+use borrow.Author.Needs.{needs}
 use Rattle.rules.specs.Rules.{sumTo}
 use Rattle.rules.specs.Laws.{sum-none, sum-more}
 use Rattle.meaning.specs.Image.{countAt, signalWidth}
 use Rattle.table_view.specs.Laws.{signal-ends, bits-are}
+use Rattle.layout.proofs.signal_bits.Statement.{statement}
+use Rattle.layout.proofs.signal_bits.Tie as tie
 
 abbrev Inv-loop : tie.InvT-loop
 Inv-loop image count sum₀ p₀ sum p = (p ≤ count) × (sum ≡ sumTo (signalWidth image) p)
@@ -19,40 +16,32 @@ Inv-loop image count sum₀ p₀ sum p = (p ≤ count) × (sum ≡ sumTo (signal
 abbrev μ-loop : tie.MeasureT-loop
 μ-loop image count sum₀ p₀ sum p = count - p
 
--- src/lib.rt:29:9
 count-requires : tie.Need-count-requires Inv-loop μ-loop
 count-requires c κs = search needs
 
--- src/lib.rt:32:5
 loop-holds : tie.Need-loop-holds Inv-loop μ-loop
 loop-holds c = (omega arith, sym (sum-none (signalWidth (c .before .before .args .image .now))))
 
--- src/lib.rt:33:16
 signal-width-requires : tie.Need-signal-width-requires Inv-loop μ-loop
 signal-width-requires c κs = search needs
 
--- src/lib.rt:33:9
 add-sum : tie.Need-add-sum Inv-loop μ-loop
 add-sum c =
     let s = c .before .before .before .before .before in
     let u : c .before .before .loop .p < countAt (s .args .image .now) 0 = omega arith in
     omega (arith, signal-ends (s .args .image .now) (c .before .before .loop .p) u, s .pre .signalBits)
 
--- src/lib.rt:34:9
 add-p : tie.Need-add-p Inv-loop μ-loop
 add-p c = search needs
 
--- src/lib.rt:32:5
 loop-less : tie.Need-loop-less Inv-loop μ-loop
 loop-less c = search needs
 
--- src/lib.rt:32:5
 loop-again : tie.Need-loop-again Inv-loop μ-loop
 loop-again c =
     let s = c .before .before .before .before .before in
     (omega arith, omega (arith, sum-more (signalWidth (s .args .image .now)) (c .before .before .loop .p), c .signal-width .ensures))
 
--- src/lib.rt:25:1
 returns : tie.Need-returns Inv-loop μ-loop
 returns c =
     let s = c .before .before .before .before in

@@ -1,4 +1,4 @@
--- `names::bad_bytes` meets its contract. Assumes nothing.
+-- `names::bad_bytes` meets its contract. The loop's invariant: no byte below i is bad. Assumes nothing.
 use borrow.Author.Needs.{needs}
 use Rattle.names.proofs.bad_bytes.Statement.{statement}
 use Rattle.names.proofs.bad_bytes.Tie as tie

@@ -1,4 +1,4 @@
--- `names::first_name` meets its contract. Assumes nothing.
+-- `names::first_name` meets its contract. The loop's invariant: no record below r has a wrong name. Assumes nothing.
 use borrow.Author.Needs.{needs}
 use Rattle.names.proofs.first_name.Statement.{statement}
 use Rattle.names.proofs.first_name.Tie as tie

@@ -1,4 +1,4 @@
--- `names::hash` meets its contract. Assumes nothing.
+-- `names::hash` meets its contract. The loop's invariant: the hash of what is left, begun at h, is that of the whole text. Assumes nothing.
 use borrow.Author.Needs.{needs}
 use Rattle.names.proofs.hash.Statement.{statement}
 use Rattle.names.proofs.hash.Tie as tie

@@ -1,4 +1,4 @@
--- `names::hashes` meets its contract. Assumes nothing.
+-- `names::hashes` meets its contract. The loop's invariant: the hashes below i are stored. Assumes nothing.
 use borrow.Author.Needs.{needs}
 use Rattle.names.proofs.hashes.Statement.{statement}
 use Rattle.names.proofs.hashes.Tie as tie

@@ -1,4 +1,4 @@
--- `names::name_taken` meets its contract. Assumes nothing.
+-- `names::name_taken` meets its contract. The loop's invariant: no record below j has the name of r. Assumes nothing.
 use borrow.Author.Needs.{needs}
 use Rattle.names.proofs.name_taken.Statement.{statement}
 use Rattle.names.proofs.name_taken.Tie as tie

@@ -1,4 +1,4 @@
--- `names::same_name` meets its contract. Assumes nothing.
+-- `names::same_name` meets its contract. Names with other hashes are not equal. Assumes nothing.
 use borrow.Author.Needs.{needs}
 use Rattle.names.proofs.same_name.Statement.{statement}
 use Rattle.names.proofs.same_name.Tie as tie

@@ -1,4 +1,4 @@
--- `names::same_text` meets its contract. Assumes nothing.
+-- `names::same_text` meets its contract. The loop's invariant: the texts are as long, and equal if what is left of them is. Assumes nothing.
 use borrow.Author.Needs.{needs}
 use Rattle.names.proofs.same_text.Statement.{statement}
 use Rattle.names.proofs.same_text.Tie as tie

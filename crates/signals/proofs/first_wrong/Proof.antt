@@ -1,4 +1,4 @@
--- `signals::first_wrong` meets its contract. Assumes nothing.
+-- `signals::first_wrong` meets its contract. The loop's invariant: no record below r breaks a rule, and the sum is that of the widths below r. Assumes nothing.
 use borrow.Author.Needs.{needs}
 use Rattle.signals.proofs.first_wrong.Statement.{statement}
 use Rattle.signals.proofs.first_wrong.Tie as tie

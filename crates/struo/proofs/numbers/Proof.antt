@@ -3,7 +3,7 @@ use borrow.Author.Needs.{needs}
 use Rattle.struo.proofs.numbers.Statement.{statement}
 use Rattle.struo.proofs.numbers.Tie as tie
 use Rattle.checks.specs.Checked.{answerOf}
-use Rattle.struo.specs.Numbers.{numbersOf}
+use Rattle.call.specs.Call.{numbersOf}
 
 enum-told : tie.Need-enum-told
 enum-told c = search needs

@@ -1,18 +1,16 @@
-use Rattle.tables.proofs.copy_nets.Statement.{statement}
-use Rattle.tables.proofs.copy_nets.Tie as tie
-use Rattle.tables.proofs.copy_nets.Reads as reads
-use Rattle.tables.proofs.copy_nets.Lts as lts
-use Rattle.tables.proofs.net_word.Reads as net-word-reads
-use borrow.Author.Needs.{needs}
+-- `tables::copy_nets` meets its contract: invariant: so many nets are pasted. Assumes nothing.
 use mathlib.Core.Path.{_∙_}
 use Prim.Native.Nat.{_-_, _+_}
 use native.Mathlib.Omega.{arith}
 use lib.ListN.{getD}
+use borrow.Author.Needs.{needs}
 use Rattle.rules.specs.Rules.{listOf}
 use Rattle.table_view.specs.View.{netWord}
 use Rattle.table_view.specs.Rows.{length-listOf}
 use Rattle.table_view.specs.Copies.{PastedAt, paste-begins, paste-turn, paste-ends}
 use Rattle.tables.proofs.Ways.{net-at}
+use Rattle.tables.proofs.copy_nets.Statement.{statement}
+use Rattle.tables.proofs.copy_nets.Tie as tie
 
 abbrev Inv-loop : tie.InvT-loop
 Inv-loop scr at n out₀ to i₀ out i = PastedAt out₀ to (listOf n (λ i. netWord (getD scr (at + i) 0))) n out i
@@ -20,57 +18,44 @@ Inv-loop scr at n out₀ to i₀ out i = PastedAt out₀ to (listOf n (λ i. net
 abbrev μ-loop : tie.MeasureT-loop
 μ-loop scr at n out₀ to i₀ out i = n - i
 
--- src/lib.rt:169:5
 loop-holds : tie.Need-loop-holds Inv-loop μ-loop
 loop-holds c =
     let a = c .before .before .args in
     paste-begins (a .out .now) (a .to) (listOf (a .n) (λ i. netWord (getD (a .scr .now) (a .at + i) 0))) (a .n)
 
--- src/lib.rt:170:50
 cast-net-word : tie.Need-cast-net-word Inv-loop μ-loop
 cast-net-word c = search needs
 
--- src/lib.rt:170:45
 add-net-word : tie.Need-add-net-word Inv-loop μ-loop
 add-net-word c = search needs
 
--- src/lib.rt:170:41
 mul-net-word : tie.Need-mul-net-word Inv-loop μ-loop
 mul-net-word c = search needs
 
--- src/lib.rt:170:41
 shared-slice-read-net-word : tie.Need-shared-slice-read-net-word Inv-loop μ-loop
 shared-slice-read-net-word c = search needs
 
--- src/lib.rt:170:32
 net-word-requires : tie.Need-net-word-requires Inv-loop μ-loop
 net-word-requires c κs = search needs
 
--- src/lib.rt:170:18
 cast-out : tie.Need-cast-out Inv-loop μ-loop
 cast-out c = search needs
 
--- src/lib.rt:170:13
 add-out : tie.Need-add-out Inv-loop μ-loop
 add-out c = search needs
 
--- src/lib.rt:170:9
 mul-out : tie.Need-mul-out Inv-loop μ-loop
 mul-out c = search needs
 
--- src/lib.rt:170:9
 slice-write-out : tie.Need-slice-write-out Inv-loop μ-loop
 slice-write-out c = search needs
 
--- src/lib.rt:171:9
 add-i : tie.Need-add-i Inv-loop μ-loop
 add-i c = search needs
 
--- src/lib.rt:169:5
 loop-less : tie.Need-loop-less Inv-loop μ-loop
 loop-less c = search needs
 
--- src/lib.rt:169:5
 loop-again : tie.Need-loop-again Inv-loop μ-loop
 loop-again c =
     let s = c .before .before .before .before .before .before in
@@ -80,11 +65,9 @@ loop-again c =
     paste-turn (a .out .now) (a .to) (listOf (a .n) (λ i. netWord (getD (a .scr .now) (a .at + i) 0))) (a .n) (l .out) (l .i) (c .net-word .result) (l .inv) more (s .pre .1)
     (omega (arith, length-listOf (a .n) (λ i. netWord (getD (a .scr .now) (a .at + i) 0)))) (c .net-word .ensures ∙ net-at (a .scr .now) (a .at) (a .n) (l .i) more)
 
--- src/lib.rt:164:1
 same-length : tie.Need-same-length Inv-loop μ-loop
 same-length c = search needs
 
--- src/lib.rt:164:1
 returns : tie.Need-returns Inv-loop μ-loop
 returns c =
     let a = c .before .before .before .before .args in

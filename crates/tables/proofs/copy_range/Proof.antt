@@ -1,25 +1,18 @@
+-- `tables::copy_range` meets its contract: the words of the range. Assumes nothing.
 use borrow.Author.Needs.{needs}
+use Rattle.tables.proofs.Ways.{copy-range-way}
 use Rattle.tables.proofs.copy_range.Statement.{statement}
 use Rattle.tables.proofs.copy_range.Tie as tie
-use Rattle.tables.proofs.copy_range.Reads as reads
-use Rattle.tables.proofs.copy_range.Lts as lts
-use Rattle.tables.proofs.copy_nets.Reads as copy-nets-reads
-use Rattle.tables.proofs.expr_place.Reads as expr-place-reads
-use Rattle.tables.proofs.Ways.{copy-range-way}
 
--- src/lib.rt:187:9
 expr-place-requires : tie.Need-expr-place-requires
 expr-place-requires c κs = search needs
 
--- src/lib.rt:188:5
 copy-nets-requires : tie.Need-copy-nets-requires
 copy-nets-requires c κs = search needs
 
--- src/lib.rt:183:1
 same-length : tie.Need-same-length
 same-length c = search needs
 
--- src/lib.rt:183:1
 returns : tie.Need-returns
 returns c =
     let s = c .before .before .before .before .before .before .before .before in

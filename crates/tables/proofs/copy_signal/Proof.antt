@@ -1,25 +1,18 @@
+-- `tables::copy_signal` meets its contract: the words of the range. Assumes nothing.
 use borrow.Author.Needs.{needs}
+use Rattle.tables.proofs.Ways.{copy-signal-way}
 use Rattle.tables.proofs.copy_signal.Statement.{statement}
 use Rattle.tables.proofs.copy_signal.Tie as tie
-use Rattle.tables.proofs.copy_signal.Reads as reads
-use Rattle.tables.proofs.copy_signal.Lts as lts
-use Rattle.tables.proofs.copy_nets.Reads as copy-nets-reads
-use Rattle.tables.proofs.signal_place.Reads as signal-place-reads
-use Rattle.tables.proofs.Ways.{copy-signal-way}
 
--- src/lib.rt:179:9
 signal-place-requires : tie.Need-signal-place-requires
 signal-place-requires c κs = search needs
 
--- src/lib.rt:180:5
 copy-nets-requires : tie.Need-copy-nets-requires
 copy-nets-requires c κs = search needs
 
--- src/lib.rt:175:1
 same-length : tie.Need-same-length
 same-length c = search needs
 
--- src/lib.rt:175:1
 returns : tie.Need-returns
 returns c =
     let s = c .before .before .before .before .before .before .before .before in

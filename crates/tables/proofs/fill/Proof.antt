@@ -1,14 +1,12 @@
-use Rattle.tables.proofs.fill.Statement.{statement}
-use Rattle.tables.proofs.fill.Tie as tie
-use Rattle.tables.proofs.fill.Reads as reads
-use Rattle.tables.proofs.fill.Lts as lts
-use Rattle.tables.proofs.put_bit.Reads as put-bit-reads
-use borrow.Author.Needs.{needs}
+-- `tables::fill` meets its contract: invariant: so many nets are pasted. Assumes nothing.
 use mathlib.Core.List.{map}
 use Prim.Native.Nat.{suc, _-_}
 use native.Mathlib.Omega.{arith}
+use borrow.Author.Needs.{needs}
 use Rattle.table_view.specs.Copies.{PastedAt, paste-begins, paste-ends}
 use Rattle.tables.proofs.Ways.{fill-turn}
+use Rattle.tables.proofs.fill.Statement.{statement}
+use Rattle.tables.proofs.fill.Tie as tie
 
 abbrev Inv-loop : tie.InvT-loop
 Inv-loop part₀ nets n i₀ part i = PastedAt part₀ 0 (map suc nets) n part i
@@ -16,40 +14,32 @@ Inv-loop part₀ nets n i₀ part i = PastedAt part₀ 0 (map suc nets) n part i
 abbrev μ-loop : tie.MeasureT-loop
 μ-loop part₀ nets n i₀ part i = n - i
 
--- src/lib.rt:207:5
 loop-holds : tie.Need-loop-holds Inv-loop μ-loop
 loop-holds c =
     let a = c .before .before .args in
     paste-begins (a .part .now) 0 (map suc (a .nets .now)) (a .n)
 
--- src/lib.rt:208:31
 cast-put-bit : tie.Need-cast-put-bit Inv-loop μ-loop
 cast-put-bit c = search needs
 
--- src/lib.rt:208:26
 mul-put-bit : tie.Need-mul-put-bit Inv-loop μ-loop
 mul-put-bit c = search needs
 
--- src/lib.rt:208:26
 shared-slice-read-put-bit : tie.Need-shared-slice-read-put-bit Inv-loop μ-loop
 shared-slice-read-put-bit c = search needs
 
--- src/lib.rt:208:9
 put-bit-requires : tie.Need-put-bit-requires Inv-loop μ-loop
 put-bit-requires c κs =
     let s = c .before .before .before .before .before .before in
     let l = c .before .before .before .loop in
     (omega arith, s .pre .2 (l .i) (c .before .before .loop-test .taken))
 
--- src/lib.rt:209:9
 add-i : tie.Need-add-i Inv-loop μ-loop
 add-i c = search needs
 
--- src/lib.rt:207:5
 loop-less : tie.Need-loop-less Inv-loop μ-loop
 loop-less c = search needs
 
--- src/lib.rt:207:5
 loop-again : tie.Need-loop-again Inv-loop μ-loop
 loop-again c =
     let s = c .before .before .before .before .before .before .before .before .before in
@@ -58,11 +48,9 @@ loop-again c =
     fill-turn (a .part .now) (a .nets .now) (a .n) (l .part) (c .before .before .put-bit .last .0) (l .i) (l .inv) (c .before .before .before .before .before .loop-test .taken) (s .pre .0) (s .pre .1)
     (c .before .before .put-bit .ensures)
 
--- src/lib.rt:202:1
 same-length : tie.Need-same-length Inv-loop μ-loop
 same-length c = search needs
 
--- src/lib.rt:202:1
 returns : tie.Need-returns Inv-loop μ-loop
 returns c =
     let a = c .before .before .before .before .args in

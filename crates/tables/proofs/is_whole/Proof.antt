@@ -1,39 +1,30 @@
+-- `tables::is_whole` meets its contract: the flag of the expression. Assumes nothing.
 use borrow.Author.Needs.{needs}
+use Rattle.tables.proofs.Ways.{whole-way}
 use Rattle.tables.proofs.is_whole.Statement.{statement}
 use Rattle.tables.proofs.is_whole.Tie as tie
-use Rattle.tables.proofs.is_whole.Reads as reads
-use Rattle.tables.proofs.is_whole.Lts as lts
-use Rattle.tables.proofs.Ways.{whole-way}
 
--- src/lib.rt:122:14
 shared-slice-read-at : tie.Need-shared-slice-read-at
 shared-slice-read-at c = search needs
 
--- src/lib.rt:122:14
 cast-at : tie.Need-cast-at
 cast-at c = search needs
 
--- src/lib.rt:122:32
 mul-at : tie.Need-mul-at
 mul-at c = search needs
 
--- src/lib.rt:122:14
 add-at : tie.Need-add-at
 add-at c = search needs
 
--- src/lib.rt:122:14
 add-at-2 : tie.Need-add-at-2
 add-at-2 c = search needs
 
--- src/lib.rt:123:5
 mul-result : tie.Need-mul-result
 mul-result c = search needs
 
--- src/lib.rt:123:5
 shared-slice-read-result : tie.Need-shared-slice-read-result
 shared-slice-read-result c = search needs
 
--- src/lib.rt:118:1
 returns : tie.Need-returns
 returns c =
     let s = c .before .before in

@@ -1,32 +1,24 @@
+-- `tables::keep_signal` meets its contract: one store at the place. Assumes nothing.
 use borrow.Author.Needs.{needs}
+use Rattle.tables.proofs.Ways.{keep-way}
 use Rattle.tables.proofs.keep_signal.Statement.{statement}
 use Rattle.tables.proofs.keep_signal.Tie as tie
-use Rattle.tables.proofs.keep_signal.Reads as reads
-use Rattle.tables.proofs.keep_signal.Lts as lts
-use Rattle.tables.proofs.signal_place.Reads as signal-place-reads
-use Rattle.tables.proofs.Ways.{keep-way}
 
--- src/lib.rt:83:9
 signal-place-requires : tie.Need-signal-place-requires
 signal-place-requires c κs = search needs
 
--- src/lib.rt:84:15
 add-scr : tie.Need-add-scr
 add-scr c = search needs
 
--- src/lib.rt:84:5
 mul-scr : tie.Need-mul-scr
 mul-scr c = search needs
 
--- src/lib.rt:84:5
 slice-write-scr : tie.Need-slice-write-scr
 slice-write-scr c = search needs
 
--- src/lib.rt:79:1
 same-length : tie.Need-same-length
 same-length c = search needs
 
--- src/lib.rt:79:1
 returns : tie.Need-returns
 returns c =
     let s = c .before .before .before .before in

@@ -1,41 +1,30 @@
+-- `tables::keep_signals` meets its contract: the filled part is put back. Assumes nothing.
 use borrow.Author.Needs.{needs}
+use Rattle.tables.proofs.Ways.{keep-signals-way}
 use Rattle.tables.proofs.keep_signals.Statement.{statement}
 use Rattle.tables.proofs.keep_signals.Tie as tie
-use Rattle.tables.proofs.keep_signals.Reads as reads
-use Rattle.tables.proofs.keep_signals.Lts as lts
-use Rattle.tables.proofs.fill.Reads as fill-reads
-use Rattle.tables.proofs.signal_place.Reads as signal-place-reads
-use Rattle.tables.proofs.Ways.{keep-signals-way}
 
--- src/lib.rt:218:9
 signal-place-requires : tie.Need-signal-place-requires
 signal-place-requires c κs = search needs
 
--- src/lib.rt:219:10
 mul-fill : tie.Need-mul-fill
 mul-fill c = search needs
 
--- src/lib.rt:219:10
 sub-fill : tie.Need-sub-fill
 sub-fill c = search needs
 
--- src/lib.rt:219:10
 part-fill-start : tie.Need-part-fill-start
 part-fill-start c = search needs
 
--- src/lib.rt:219:10
 part-fill-end : tie.Need-part-fill-end
 part-fill-end c = search needs
 
--- src/lib.rt:219:5
 fill-requires : tie.Need-fill-requires
 fill-requires c κs = search needs
 
--- src/lib.rt:214:1
 same-length : tie.Need-same-length
 same-length c = search needs
 
--- src/lib.rt:214:1
 returns : tie.Need-returns
 returns c =
     let s = c .before .before .before .before .before .before .before .before .before in

@@ -1,40 +1,30 @@
+-- `tables::marked` meets its contract: the word at the place in the column of marks. Assumes nothing.
 use borrow.Author.Needs.{needs}
+use Rattle.tables.proofs.Ways.{marked-way}
 use Rattle.tables.proofs.marked.Statement.{statement}
 use Rattle.tables.proofs.marked.Tie as tie
-use Rattle.tables.proofs.marked.Reads as reads
-use Rattle.tables.proofs.marked.Lts as lts
-use Rattle.tables.proofs.signal_place.Reads as signal-place-reads
-use Rattle.tables.proofs.Ways.{marked-way}
 
--- src/lib.rt:91:14
 signal-place-requires : tie.Need-signal-place-requires
 signal-place-requires c κs = search needs
 
--- src/lib.rt:91:52
 shared-slice-read-at : tie.Need-shared-slice-read-at
 shared-slice-read-at c = search needs
 
--- src/lib.rt:91:52
 cast-at : tie.Need-cast-at
 cast-at c = search needs
 
--- src/lib.rt:91:47
 mul-at : tie.Need-mul-at
 mul-at c = search needs
 
--- src/lib.rt:91:14
 add-at : tie.Need-add-at
 add-at c = search needs
 
--- src/lib.rt:92:5
 mul-result : tie.Need-mul-result
 mul-result c = search needs
 
--- src/lib.rt:92:5
 shared-slice-read-result : tie.Need-shared-slice-read-result
 shared-slice-read-result c = search needs
 
--- src/lib.rt:87:1
 returns : tie.Need-returns
 returns c =
     let s = c .before .before .before .before .before in

@@ -1,36 +1,27 @@
-use borrow.Author.Needs.{needs}
-use Rattle.tables.proofs.range_known.Statement.{statement}
-use Rattle.tables.proofs.range_known.Tie as tie
-use Rattle.tables.proofs.range_known.Reads as reads
-use Rattle.tables.proofs.range_known.Lts as lts
-use Rattle.tables.proofs.all_known.Reads as all-known-reads
-use Rattle.tables.proofs.expr_place.Reads as expr-place-reads
-use Rattle.tables.proofs.is_whole.Reads as is-whole-reads
+-- `tables::range_known` meets its contract: the flag, or the words of the range. Assumes nothing.
 use mathlib.Core.Path.{sym, _∙_}
+use borrow.Author.Needs.{needs}
 use Rattle.table_view.specs.View.{limitOf}
 use Rattle.table_view.specs.Reads.{known-whole}
 use Rattle.tables.proofs.Ways.{known-range-way}
+use Rattle.tables.proofs.range_known.Statement.{statement}
+use Rattle.tables.proofs.range_known.Tie as tie
 
--- src/lib.rt:154:8
 is-whole-requires : tie.Need-is-whole-requires
 is-whole-requires c κs = search needs
 
--- src/lib.rt:155:9
 returns : tie.Need-returns
 returns c = λ l.
     let s = c .before .before .before .before in
     let a = s .args in
     sym (known-whole (a .image .now) (limitOf (a .scr .now)) l (a .scr .now) (a .e) (s .pre .1) (a .lsb) (a .n) (sym (c .before .is-whole .ensures) ∙ c .if1 .taken))
 
--- src/lib.rt:157:9
 expr-place-requires : tie.Need-expr-place-requires
 expr-place-requires c κs = search needs
 
--- src/lib.rt:158:5
 all-known-requires : tie.Need-all-known-requires
 all-known-requires c κs = search needs
 
--- src/lib.rt:150:1
 returns-2 : tie.Need-returns-2
 returns-2 c =
     let s = c .before .before .before .before .before .before in

@@ -1,30 +1,22 @@
+-- `tables::signal_net` meets its contract: the word at the place. Assumes nothing.
+use mathlib.Core.Path.{sym, _∙_}
 use borrow.Author.Needs.{needs}
+use Rattle.tables.proofs.Ways.{net-way}
 use Rattle.tables.proofs.signal_net.Statement.{statement}
 use Rattle.tables.proofs.signal_net.Tie as tie
-use Rattle.tables.proofs.signal_net.Reads as reads
-use Rattle.tables.proofs.signal_net.Lts as lts
-use Rattle.tables.proofs.as_known.Reads as as-known-reads
-use Rattle.tables.proofs.signal_place.Reads as signal-place-reads
-use mathlib.Core.Path.{sym, _∙_}
-use Rattle.tables.proofs.Ways.{net-way}
 
--- src/lib.rt:75:9
 signal-place-requires : tie.Need-signal-place-requires
 signal-place-requires c κs = search needs
 
--- src/lib.rt:76:14
 mul-as-known : tie.Need-mul-as-known
 mul-as-known c = search needs
 
--- src/lib.rt:76:14
 shared-slice-read-as-known : tie.Need-shared-slice-read-as-known
 shared-slice-read-as-known c = search needs
 
--- src/lib.rt:76:5
 as-known-requires : tie.Need-as-known-requires
 as-known-requires c κs = search needs
 
--- src/lib.rt:71:1
 returns : tie.Need-returns
 returns c = λ l.
     let s = c .before .before .before .before .before in

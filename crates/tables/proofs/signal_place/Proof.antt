@@ -1,77 +1,61 @@
-use borrow.Author.Needs.{needs}
-use Rattle.tables.proofs.signal_place.Statement.{statement}
-use Rattle.tables.proofs.signal_place.Tie as tie
-use Rattle.tables.proofs.signal_place.Reads as reads
-use Rattle.tables.proofs.signal_place.Lts as lts
+-- `tables::signal_place` meets its contract: the place from the fixed words and the first bit of the signal. Assumes nothing.
 use native.Mathlib.Omega.{arith}
+use borrow.Author.Needs.{needs}
 use Rattle.table_view.specs.Laws.{signals-few, signal-ends}
 use Rattle.tables.proofs.Ways.{first-word}
+use Rattle.tables.proofs.signal_place.Statement.{statement}
+use Rattle.tables.proofs.signal_place.Tie as tie
 
--- src/lib.rt:53:28
 shared-slice-read-column : tie.Need-shared-slice-read-column
 shared-slice-read-column c = search needs
 
--- src/lib.rt:53:28
 cast-column : tie.Need-cast-column
 cast-column c = search needs
 
--- src/lib.rt:53:23
 mul-column : tie.Need-mul-column
 mul-column c = search needs
 
--- src/lib.rt:53:18
 add-column : tie.Need-add-column
 add-column c = search needs
 
--- src/lib.rt:54:16
 shared-slice-read-bits : tie.Need-shared-slice-read-bits
 shared-slice-read-bits c = search needs
 
--- src/lib.rt:54:16
 cast-bits : tie.Need-cast-bits
 cast-bits c = search needs
 
--- src/lib.rt:55:30
 mul-first : tie.Need-mul-first
 mul-first c = search needs
 
--- src/lib.rt:55:21
 add-first : tie.Need-add-first
 add-first c = search needs
 
--- src/lib.rt:55:21
 add-first-2 : tie.Need-add-first-2
 add-first-2 c = search needs
 
--- src/lib.rt:55:17
 mul-first-2 : tie.Need-mul-first-2
 mul-first-2 c = search needs
 
--- src/lib.rt:55:17
 shared-slice-read-first : tie.Need-shared-slice-read-first
 shared-slice-read-first c =
     let s = c .before .before .before in
     omega (arith, signals-few (s .args .image .now) (s .pre .0 .image))
 
--- src/lib.rt:55:17
 cast-first : tie.Need-cast-first
 cast-first c =
     let s = c .before .before .before in
     omega (arith, first-word (s .args .image .now) (s .args .scr .now) (s .pre .0) (s .args .p) (s .pre .1), signal-ends (s .args .image .now) (s .args .p) (s .pre .1))
 
--- src/lib.rt:56:15
 add-result : tie.Need-add-result
 add-result c =
     let s = c .before .before .before in
     omega (arith, first-word (s .args .image .now) (s .args .scr .now) (s .pre .0) (s .args .p) (s .pre .1), signal-ends (s .args .image .now) (s .args .p) (s .pre .1))
 
--- src/lib.rt:56:5
 add-result-2 : tie.Need-add-result-2
 add-result-2 c =
     let s = c .before .before .before in
     omega (arith, first-word (s .args .image .now) (s .args .scr .now) (s .pre .0) (s .args .p) (s .pre .1), signal-ends (s .args .image .now) (s .args .p) (s .pre .1))
 
--- src/lib.rt:49:1
 returns : tie.Need-returns
 returns c =
     let s = c .before .before .before in

@@ -1,0 +1,4 @@
+-- The demands for the lowering call.
+pub mod Further
+pub mod Calls
+pub mod Wrong

@@ -1,0 +1,1 @@
+// Sources reserved, memories, registers and outputs connected: laws only, in specs/.

@@ -1,0 +1,1 @@
+// Demands 2 and 3 of a lowering: laws only, in specs/.

@@ -1,0 +1,1 @@
+// An accepted image decodes to a good module: laws only, in specs/.

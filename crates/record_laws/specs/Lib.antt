@@ -1,0 +1,3 @@
+-- Records read back from their words, and found in a list.
+pub mod Back
+pub mod Find

@@ -1,2 +1,0 @@
--- What the public calls answer.
-pub mod Numbers

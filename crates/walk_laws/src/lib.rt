@@ -1,0 +1,1 @@
+// What the walk of the lowering keeps: laws only, in specs/.
