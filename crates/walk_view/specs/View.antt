@@ -5,7 +5,7 @@ use mathlib.Core.Bool.{Bool, true, false}
 use mathlib.Core.List.{List}
 use Prim.Native.Nat.{ℕ, _+_, _*_, _≤_, _<_}
 use lib.ListN.{length, getD, take, drop}
-use Rattle.meaning.specs.Image.{countAt, decode}
+use Rattle.meaning.specs.Image.{countAt, signalWidth, exprWidth, decode}
 use Rattle.model.specs.Builder.{Out, refused, done}
 use Rattle.model.specs.Ranges.{adderWidth}
 use Rattle.model.specs.Lowering.{State, Need, Bit, Whole, Range, lowerNeed}
@@ -64,10 +64,19 @@ pub record Builds (model : Out State) (s net w : List ℕ) (n : Need) (r : Lower
   pub grows : Grows (walkState s net w) (walkState s net′ w′)
 
 -- what falls at each call, and more than which is enough fuel
+abbrev pub rankOf : Need → ℕ
+rankOf (Bit p b) = 0
+rankOf (Whole e) = 2 * e + 1
+rankOf (Range e lsb k) = 2 * e + 2
+
 abbrev pub costOf : List ℕ → List ℕ → Need → ℕ
-costOf s w (Bit p b) = free s w * (2 * countAt s 1 + 1)
-costOf s w (Whole e) = free s w * (2 * countAt s 1 + 1) + (2 * e + 1)
-costOf s w (Range e lsb k) = free s w * (2 * countAt s 1 + 1) + (2 * e + 2)
+costOf s w n = free s w * (2 * countAt s 1 + 1) + rankOf n
+
+-- what a need names is in the image
+abbrev pub There : List ℕ → Need → Type 0
+There s (Bit p b) = (p < countAt s 0) × (b < signalWidth s p)
+There s (Whole e) = e < countAt s 1
+There s (Range e lsb k) = (e < countAt s 1) × (lsb + k ≤ exprWidth s e)
 
 -- a call of the recursion, for need n
 pub record Gives (s net w : List ℕ) (n : Need) (r : Lowered) (net′ w′ : List ℕ) : Type 0 where
