@@ -1,0 +1,137 @@
+// Gates over lists of nets, bit by bit. The nets stand in lent arrays; the result takes the place of the first operand.
+ghost use mathlib.Core.Path.{_≡_};
+ghost use Prim.Native.Nat.{_≤_, _<_};
+ghost use lib.ListN.{length, getD};
+ghost use Rattle.model.specs.Builder.{each, both, addNot, addMux};
+ghost use Rattle.model.specs.Lowering.{addGate, addEqual};
+ghost use Rattle.netlist_view.specs.View.{netlistOf};
+ghost use Rattle.netlist_index.specs.Index.{Held};
+ghost use Rattle.nodes.specs.Gives.{Gives};
+ghost use Rattle.bitops.specs.GivesList.{gateOf, failedOf, GivesList};
+use nodes::Added;
+
+// What a call on lists answers: document 01's refusals 9 and 10.
+pub enum Done {
+    Fine,
+    TooManyNets,
+    ListFull,
+}
+
+pub enum Gate {
+    And,
+    Or,
+    Xor,
+}
+
+// The refusal that adding gave.
+pub fn failed(x: Added) -> Done
+    ensures { λ r. ⌜ r ≡ failedOf x ⌝ }
+{
+    match x {
+        Added::Net(_) => Done::Fine,
+        Added::TooManyNets => Done::TooManyNets,
+        Added::ListFull => Done::ListFull,
+    }
+}
+
+pub fn add_gate(net: &mut [u32], idx: &mut [u32], n: u32, g: Gate, a: u32, b: u32) -> Added
+    requires { ⌜ Held n (now net) (now idx) ⌝ }
+    ensures { λ r. ⌜ Gives (addGate (gateOf g) a b (netlistOf n (now (net .entry)))) n r (now (net .exit)) (now (idx .exit)) ⌝ }
+{
+    match g {
+        Gate::And => gates::add_and(net, idx, n, a, b),
+        Gate::Or => gates::add_or(net, idx, n, a, b),
+        Gate::Xor => gates::add_xor(net, idx, n, a, b),
+    }
+}
+
+// Whether two bits are equal.
+pub fn add_equal(net: &mut [u32], idx: &mut [u32], n: u32, a: u32, b: u32) -> Added
+    requires { ⌜ Held n (now net) (now idx) ⌝ }
+    ensures { λ r. ⌜ Gives (addEqual a b (netlistOf n (now (net .entry)))) n r (now (net .exit)) (now (idx .exit)) ⌝ }
+{
+    let x = gates::add_xor(net, idx, n, a, b);
+    let Added::Net(d) = x else {
+        return x;
+    };
+    gates::add_not(net, idx, n, d)
+}
+
+pub fn not_bits(net: &mut [u32], idx: &mut [u32], n: u32, xs: &mut [u32]) -> Done
+    requires { ⌜ Held n (now net) (now idx) ⌝ }
+    ensures { λ r. ⌜ GivesList (each addNot (now (xs .entry)) (netlistOf n (now (net .entry)))) n r (now (xs .exit)) (now (net .exit)) (now (idx .exit)) ⌝ }
+{
+    let mut i = 0;
+    while i < xs.len() {
+        let x = gates::add_not(net, idx, n, xs[i]);
+        let Added::Net(k) = x else {
+            return failed(x);
+        };
+        xs[i] = k;
+        i += 1;
+    }
+    Done::Fine
+}
+
+pub fn bitwise(
+    net: &mut [u32],
+    idx: &mut [u32],
+    n: u32,
+    g: Gate,
+    xs: &mut [u32],
+    ys: &[u32],
+) -> Done
+    requires { ⌜ (Held n (now net) (now idx)) × (length (now xs) ≡ length (now ys)) ⌝ }
+    ensures { λ r. ⌜ GivesList (both (addGate (gateOf g)) (now (xs .entry)) (now (ys .entry)) (netlistOf n (now (net .entry)))) n r (now (xs .exit)) (now (net .exit)) (now (idx .exit)) ⌝ }
+{
+    let mut i = 0;
+    while i < xs.len() {
+        let x = add_gate(net, idx, n, g, xs[i], ys[i]);
+        let Added::Net(k) = x else {
+            return failed(x);
+        };
+        xs[i] = k;
+        i += 1;
+    }
+    Done::Fine
+}
+
+// Bit by bit, whether two words are equal.
+pub fn equal_bits(net: &mut [u32], idx: &mut [u32], n: u32, xs: &mut [u32], ys: &[u32]) -> Done
+    requires { ⌜ (Held n (now net) (now idx)) × (length (now xs) ≡ length (now ys)) ⌝ }
+    ensures { λ r. ⌜ GivesList (both addEqual (now (xs .entry)) (now (ys .entry)) (netlistOf n (now (net .entry)))) n r (now (xs .exit)) (now (net .exit)) (now (idx .exit)) ⌝ }
+{
+    let mut i = 0;
+    while i < xs.len() {
+        let x = add_equal(net, idx, n, xs[i], ys[i]);
+        let Added::Net(k) = x else {
+            return failed(x);
+        };
+        xs[i] = k;
+        i += 1;
+    }
+    Done::Fine
+}
+
+pub fn mux_bits(
+    net: &mut [u32],
+    idx: &mut [u32],
+    n: u32,
+    c: u32,
+    ts: &mut [u32],
+    es: &[u32],
+) -> Done
+    requires { ⌜ (Held n (now net) (now idx)) × (length (now ts) ≡ length (now es)) ⌝ }
+    ensures { λ r. ⌜ GivesList (both (addMux c) (now (ts .entry)) (now (es .entry)) (netlistOf n (now (net .entry)))) n r (now (ts .exit)) (now (net .exit)) (now (idx .exit)) ⌝ }
+{
+    let mut i = 0;
+    while i < ts.len() {
+        let x = gates::add_mux(net, idx, n, c, ts[i], es[i]);
+        let Added::Net(k) = x else {
+            return failed(x);
+        };
+        ts[i] = k;
+        i += 1;
+    }
+    Done::Fine
+}

@@ -1,0 +1,29 @@
+use borrow.Author.Needs.{needs}
+use Rattle.operands.proofs.copy_whole.Statement.{statement}
+use Rattle.operands.proofs.copy_whole.Tie as tie
+use Rattle.operands.proofs.copy_whole.Reads as reads
+use Rattle.operands.proofs.copy_whole.Lts as lts
+use Rattle.fields.proofs.expr_width.Reads as expr-width-reads
+use Rattle.tables.proofs.copy_range.Reads as copy-range-reads
+use Rattle.operands.proofs.Ways.{whole-copied}
+
+-- src/lib.rt:20:9
+expr-width-requires : tie.Need-expr-width-requires
+expr-width-requires c κs = search needs
+
+-- src/lib.rt:21:5
+copy-range-requires : tie.Need-copy-range-requires
+copy-range-requires c κs = search needs
+
+-- src/lib.rt:16:1
+same-length : tie.Need-same-length
+same-length c = search needs
+
+-- src/lib.rt:16:1
+returns : tie.Need-returns
+returns c =
+    let s = c .before .before .before .before .before .before .before .before in
+    whole-copied _ _ _ _ _ _ _ (s .pre .1) (s .pre .2) (c .before .before .before .before .expr-width .ensures) (c .before .before .copy-range .ensures)
+
+pub copy-whole-spec : {M : Type 1} → statement M
+copy-whole-spec = tie.close (tie.spec expr-width-requires copy-range-requires same-length returns)

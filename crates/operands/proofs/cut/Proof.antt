@@ -1,0 +1,18 @@
+use Rattle.operands.proofs.cut.Statement.{statement}
+use Rattle.operands.proofs.cut.Tie as tie
+use Rattle.operands.proofs.cut.Reads as reads
+use Rattle.operands.proofs.cut.Lts as lts
+use native.Mathlib.Omega.{arith}
+use mathlib.Core.Path.{sym, ap}
+use Rattle.operands.proofs.Ways.{cut-none, cut-some}
+
+-- src/lib.rt:103:1
+returns : tie.Need-returns
+returns c = cut-none _ _ (c .if1 .taken)
+
+-- src/lib.rt:103:1
+returns-2 : tie.Need-returns-2
+returns-2 c = cut-some _ _ (c .if1 .left)
+
+pub cut-spec : {M : Type 1} → statement M
+cut-spec = tie.close (tie.spec returns returns-2)

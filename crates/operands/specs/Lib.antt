@@ -1,0 +1,2 @@
+-- What the functions that read operands give.
+pub mod Reads

@@ -1,0 +1,2 @@
+-- What tasks stand for, and when their widths fit.
+pub mod Tasks

@@ -1,0 +1,81 @@
+use borrow.Author.Needs.{needs}
+use Rattle.whole_reads.proofs.two_operands.Statement.{statement}
+use Rattle.whole_reads.proofs.two_operands.Tie as tie
+use Rattle.whole_reads.proofs.two_operands.Reads as reads
+use Rattle.whole_reads.proofs.two_operands.Lts as lts
+use Rattle.fields.proofs.expr_width.Reads as expr-width-reads
+use Rattle.op_class.proofs.op_class.Reads as op-class-reads
+use Rattle.operands.proofs.add_operands.Reads as add-operands-reads
+use Rattle.operands.proofs.binary_operands.Reads as binary-operands-reads
+use mathlib.Core.Path.{refl, sym, ap, _∙_}
+use native.Mathlib.Omega.{arith}
+use Rattle.expr_laws.specs.Exprs.{width-least}
+use Rattle.whole_reads.proofs.Ways.{add-in, add-made, no-add, not-adds, plain-sides, plain-width, plain-made}
+
+-- src/lib.rt:34:11
+op-class-requires : tie.Need-op-class-requires
+op-class-requires c κs = search needs
+
+-- src/lib.rt:35:70
+enum-told : tie.Need-enum-told
+enum-told c = search needs
+
+-- src/lib.rt:35:26
+add-operands-requires : tie.Need-add-operands-requires
+add-operands-requires c κs = (add-in _ _ _ _ _ _ (c .before .before .before .before .before .before .before .before .before .pre .0) _ (c .before .before .before .before .op-class .ensures) (c .before .before .enum-told .given .1), c .before .before .before .before .before .before .before .before .before .pre .1, c .before .before .before .before .before .before .before .before .before .pre .2)
+
+-- src/lib.rt:37:17
+expr-width-requires : tie.Need-expr-width-requires
+expr-width-requires c κs = search needs
+
+-- src/lib.rt:38:13
+binary-operands-requires : tie.Need-binary-operands-requires
+binary-operands-requires c κs =
+    let h = c .before .before .before .before .before .before .before .before .before .pre .0 in
+    let t = h .tabled in
+    let no = no-add _ (c .before .before .before .before .op-class .result) (c .before .before .before .before .op-class .ensures) (not-adds (c .before .before .before .before .op-class .result) (c .before .before .before .match .keys2)) in
+    let v = c .before .before .expr-width .ensures in
+    (t .laid, plain-sides _ _ _ _ _ _ h no .0, plain-sides _ _ _ _ _ _ h no .1, rw v (plain-width _ _ _ _ _ _ h no), rw v (width-least _ (t .readable) _ (t .inside)), rw v (t .readable .most _ (t .inside)), c .before .before .before .before .before .before .before .before .before .pre .1, c .before .before .before .before .before .before .before .before .before .pre .2)
+
+-- src/lib.rt:21:1
+same-length : tie.Need-same-length
+same-length c = search needs
+
+-- src/lib.rt:21:1
+same-length-2 : tie.Need-same-length-2
+same-length-2 c = search needs
+
+-- src/lib.rt:21:1
+returns : tie.Need-returns
+returns c = add-made _ _ _ _ _ _ (c .before .before .before .before .before .before .before .before .before .before .before .before .before .before .pre .0) _ _ _ _ (c .before .before .before .before .before .before .before .before .before .op-class .ensures) (c .before .before .before .before .before .before .before .enum-told .given .1) (c .before .before .before .before .add-operands .ensures)
+
+-- src/lib.rt:21:1
+same-length-3 : tie.Need-same-length-3
+same-length-3 c = search needs
+
+-- src/lib.rt:21:1
+same-length-4 : tie.Need-same-length-4
+same-length-4 c = search needs
+
+-- src/lib.rt:21:1
+returns-2 : tie.Need-returns-2
+returns-2 c =
+    let h = c .before .before .before .before .before .before .before .before .before .before .before .before .before .before .pre .0 in
+    let no = no-add _ (c .before .before .before .before .before .before .before .before .before .op-class .result) (c .before .before .before .before .before .before .before .before .before .op-class .ensures) (not-adds (c .before .before .before .before .before .before .before .before .before .op-class .result) (c .before .before .before .before .before .before .before .before .match .keys2)) in
+    plain-made _ _ _ _ _ _ h no _ _ _ _ (c .before .before .before .before .before .before .before .expr-width .ensures) (c .before .before .before .before .binary-operands .ensures)
+
+pub two-operands-spec : {M : Type 1} → statement M
+two-operands-spec =
+    tie.close
+    (tie.spec
+    op-class-requires
+    enum-told
+    add-operands-requires
+    expr-width-requires
+    binary-operands-requires
+    same-length
+    same-length-2
+    returns
+    same-length-3
+    same-length-4
+    returns-2)

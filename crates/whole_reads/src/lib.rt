@@ -1,0 +1,81 @@
+// What a whole expression is made of: its operands, read from the tables by its kind.
+ghost use mathlib.Core.Path.{_≡_};
+ghost use mathlib.Core.Bool.{false};
+ghost use Prim.Native.Nat.{_≤_, _<_};
+ghost use lib.ListN.{length};
+ghost use Rattle.meaning.specs.Image.{exprWidth};
+ghost use Rattle.model.specs.Lowering.{buildWhole, buildBinary};
+ghost use Rattle.expr_laws.specs.Exprs.{exprsOf};
+ghost use Rattle.records.specs.Expr.{binaryMeans};
+ghost use Rattle.table_view.specs.View.{stateOf};
+ghost use Rattle.tasks.specs.Tasks.{Read};
+ghost use Rattle.tasks.specs.declared.Task.the-variants.{Copied};
+ghost use Rattle.whole_reads.specs.Asked.{Asked, BinaryIn};
+use op_class::OpClass;
+use records::BinaryOp;
+use records::ExprKind;
+use tasks::Job;
+use tasks::Task;
+
+// The operands of an operator with two: an Add can take a carry, and be narrowed.
+fn two_operands(
+    image: &[u8],
+    scr: &[u32],
+    e: u32,
+    op: BinaryOp,
+    a: u32,
+    b: u32,
+    xs: &mut [u32],
+    ys: &mut [u32],
+) -> Job
+    requires { ⌜ (BinaryIn (now image) (now scr) e op a b) × (length (now xs) ≡ 1024) × (length (now ys) ≡ 1024) ⌝ }
+    ensures { λ r. ⌜ Read (λ l. buildBinary (exprsOf (now (image .entry))) (stateOf (now (image .entry)) l (now (scr .entry))) e (exprWidth (now (image .entry)) e) (binaryMeans op) a b) (now (image .entry)) (exprWidth (now (image .entry)) e) r (now (xs .exit)) (now (ys .exit)) ⌝ }
+{
+    match op_class::op_class(op) {
+        OpClass::Adds => operands::add_operands(image, scr, e, a, b, xs, ys),
+        _ => {
+            let v = fields::expr_width(image, e);
+            operands::binary_operands(image, scr, v, op, a, b, xs, ys)
+        }
+    }
+}
+
+// The nets themselves.
+fn copied() -> Job
+    ensures { λ r. ⌜ r ≡ record { task = Copied; narrow = 0 } ⌝ }
+{
+    Job {
+        task: Task::Copied,
+        narrow: 0,
+    }
+}
+
+pub fn read_whole(image: &[u8], scr: &[u32], e: u32, xs: &mut [u32], ys: &mut [u32]) -> Job
+    requires { ⌜ (Asked (now image) (now scr) e) × (length (now xs) ≡ 1024) × (length (now ys) ≡ 1024) ⌝ }
+    ensures { λ r. ⌜ Read (λ l. buildWhole (exprsOf (now (image .entry))) false (stateOf (now (image .entry)) l (now (scr .entry))) e) (now (image .entry)) (exprWidth (now (image .entry)) e) r (now (xs .exit)) (now (ys .exit)) ⌝ }
+{
+    let x = records::expression_at(image, e);
+    let width = x.width;
+    let kind = x.kind;
+    match kind {
+        ExprKind::Signal(p, lsb) => {
+            tables::copy_signal(image, scr, p, lsb, width, xs, 0);
+            copied()
+        }
+        ExprKind::Constant(start) => Job {
+            task: Task::Constant(start, width, 0),
+            narrow: 0,
+        },
+        ExprKind::Unary(op, a) => operands::unary_operand(image, scr, width, op, a, xs),
+        ExprKind::Binary(op, a, b) => two_operands(image, scr, e, op, a, b, xs, ys),
+        ExprKind::Mux(c, t, f) => operands::mux_operands(image, scr, width, c, t, f, xs, ys),
+        ExprKind::Concat(start, count) => {
+            operands::copy_parts(image, scr, start, count, xs);
+            copied()
+        }
+        ExprKind::Slice(a, lsb) => {
+            tables::copy_range(image, scr, a, lsb, width, xs, 0);
+            copied()
+        }
+    }
+}
