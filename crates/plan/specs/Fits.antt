@@ -17,9 +17,9 @@ use Rattle.model.specs.Builder.{from}
 use Rattle.model.specs.Ranges as ranges
 use Rattle.model.specs.Lowering as M
 use Rattle.model.specs.Lowering.{wholes, signalSteps, pieces, backwards, fused, addKind, addOperands, carryParts, carryKind, carryLsb, operandsOf, isZeroExpression}
-use Rattle.word_laws.specs.Widths.{Formed, AllBelow, BelowE}
+use Rattle.word_laws.specs.Widths.{Formed, AllBelow, BelowE, BinWidth}
 use Rattle.checks.specs.Accepted.{Accepted}
-use Rattle.accepted.specs.Fits.{binaryFits, kindFits}
+use Rattle.accepted.specs.Fits.{kindFits}
 use Rattle.records.specs.Expr.{kindMeans, unaryMeans, binaryMeans, expressionOf, decoded}
 use Rattle.records.specs.declared.UnaryOp.{UnaryOp}
 use Rattle.records.specs.declared.UnaryOp.the-variants as U
@@ -28,7 +28,8 @@ use Rattle.records.specs.declared.BinaryOp.the-variants as B
 use Rattle.records.specs.declared.ExprKind.{ExprKind}
 use Rattle.records.specs.declared.ExprKind.the-variants as K
 use Rattle.expr_laws.specs.Exprs.{exprsOf, length-exprs}
-use Rattle.walk_view.specs.Image.{readable, fits, width-is, width-at, below-each}
+use Rattle.accepted.specs.Formed.{readable}
+use Rattle.walk_view.specs.Image.{fits, width-is, width-at, below-each}
 use Rattle.walk_view.specs.View.{rankOf, There}
 use Rattle.plan.specs.Plan.{stepNeeds, operandNeeds, kindNeeds, wholeNeeds, Asked, bitwise, unaryNeeds, binaryNeeds, pieceStep, partNeeds, lowFirst, kindTurns, kindRest, AskedRange, NextAsked, rangeTurns, rangeRest}
 use Rattle.plan.specs.Lists.{piece-next}
@@ -178,7 +179,7 @@ module _ (s : List ℕ) (a : Accepted s) (e : ℕ) (h : e < countAt s 1) where
 
 -- ---- a range ----
 
-both-wide : (op : BinaryOp) (w x y : ℕ) → bitwise op ≡ true → binaryFits op w x y → (x ≡ w) × (y ≡ w)
+both-wide : (op : BinaryOp) (w x y : ℕ) → bitwise op ≡ true → BinWidth (binaryMeans op) w x y → (x ≡ w) × (y ≡ w)
 unfolding bitwise binaryMeans
 both-wide B.And w x y t f = f
 both-wide B.Or w x y t f = f

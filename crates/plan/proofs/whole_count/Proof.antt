@@ -4,7 +4,7 @@ use Rattle.plan.proofs.whole_count.Statement.{statement}
 use Rattle.plan.proofs.whole_count.Tie as tie
 use mathlib.Core.Path.{_∙_, ap}
 use lib.ListN.{length}
-use Rattle.walk_view.specs.Image.{readable}
+use Rattle.accepted.specs.Formed.{readable}
 use Rattle.plan.specs.Kinds.{whole-read}
 use Rattle.plan.specs.Fits.{asked}
 

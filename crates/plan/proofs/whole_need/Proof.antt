@@ -2,7 +2,7 @@
 use borrow.Author.Needs.{needs}
 use Rattle.plan.proofs.whole_need.Statement.{statement}
 use Rattle.plan.proofs.whole_need.Tie as tie
-use Rattle.walk_view.specs.Image.{readable}
+use Rattle.accepted.specs.Formed.{readable}
 use Rattle.plan.specs.Kinds.{whole-read}
 use Rattle.plan.specs.Fits.{asked}
 
