@@ -1,13 +1,16 @@
 -- A list of nets that is made one by one, in place. Assumes nothing.
 use mathlib.Core.Path.{_≡_, refl, sym, ap, _∙_}
+use mathlib.Core.Logic.{⊎-elim}
 use mathlib.Core.List.{List, [], _∷_, _++_, append-assoc, append-nil}
 use Prim.Native.Nat.{ℕ, zero, suc, _+_, _-_, _≤_, _<_}
 use native.Mathlib.Omega.{arith}
-use native.Mathlib.Numerals.{add-one}
+use borrow.Author.Tests.{eqb-false}
+use denote.Enum.Declared.{tagOf}
+use types.Run.{OneOf}
 use lib.ListN.{length, getD, set, take, length-set}
 use lib.Seq.{take-suc-set, take-length, getD-set-other}
 use Rattle.model.specs.Words.{Netlist}
-use Rattle.model.specs.Builder.{Out, refused, done, andThen, Made, also, each, both}
+use Rattle.model.specs.Builder.{refused, done, andThen, Made, also, each, both}
 use Rattle.netlist_view.specs.View.{netlistOf}
 use Rattle.netlist_index.specs.Index.{Held}
 use Rattle.nodes.specs.Gives.{outOf, Gives}
@@ -16,6 +19,7 @@ use Rattle.nodes.specs.declared.Added.the-variants.{Net, TooManyNets, ListFull}
 use Rattle.ports.proofs.Laws.{ahead, Refusal}
 use Rattle.bitops.specs.GivesList.{failedOf, listOf, GivesList}
 use Rattle.bitops.specs.declared.Done.{Done}
+use Rattle.bitops.proofs.Done.{the-type}
 use Rattle.bitops.specs.declared.Done.the-variants as D
 
 -- nets for b, b + 1, .., w of them
@@ -143,3 +147,39 @@ then-out m k n r w idx q g = record { says = ap (λ (o : Made ℕ). andThen o k)
 pub then-net : (m : Made ℕ) (k : ℕ × Netlist → Made ℕ) (n j : ℕ) (r : Added) (w idx w′ idx′ : List ℕ) → Gives m n (Net j) w idx
     → Gives (k (j, netlistOf n w)) n r w′ idx′ → Gives (andThen m k) n r w′ idx′
 then-net m k n j r w idx w′ idx′ g g′ = record { says = ap (λ (o : Made ℕ). andThen o k) (g .says) ∙ g′ .says; held = g′ .held }
+
+-- ---- one call on lists after another ----
+
+-- an answer that is a refusal
+abbrev pub NotFine : Done → Type 0
+NotFine D.Fine = ⊥
+NotFine D.TooManyNets = Unit {0}
+NotFine D.ListFull = Unit {0}
+
+pub failed-not-fine : (r : Added) → Refusal r → NotFine (failedOf r)
+failed-not-fine (Net k) q = absurd q
+failed-not-fine TooManyNets q = tt
+failed-not-fine ListFull q = tt
+
+-- the `else` of `let Done::Fine = r else` knows the tag
+pub not-fine : (r : Done) → OneOf (1 ∷ 2 ∷ []) (tagOf the-type r) → NotFine r
+not-fine D.Fine t = ⊎-elim (eqb-false 0 1 refl) (eqb-false 0 2 refl) t
+not-fine D.TooManyNets t = tt
+not-fine D.ListFull t = tt
+
+module _ (m : Made (List ℕ)) (k : List ℕ × Netlist → Made (List ℕ)) (n : ℕ) where
+  pub first-out : (r : Done) (ns ms w idx : List ℕ) → NotFine r → GivesList m n r ns w idx → GivesList (andThen m k) n r ms w idx
+  first-out r ns ms w idx q g = record { says = ap (λ (o : Made (List ℕ)). andThen o k) (g .says) ∙ stays r q; held = g .held }
+    where
+      stays : (r : Done) → NotFine r → andThen (listOf r ns (netlistOf n w)) k ≡ listOf r ms (netlistOf n w)
+      stays D.Fine q = absurd q
+      stays D.TooManyNets q = refl
+      stays D.ListFull q = refl
+
+  pub first-then : (r : Done) (ns ms w idx w′ idx′ : List ℕ) → GivesList m n D.Fine ns w idx → GivesList (k (ns, netlistOf n w)) n r ms w′ idx′
+      → GivesList (andThen m k) n r ms w′ idx′
+  first-then r ns ms w idx w′ idx′ g g′ = record { says = ap (λ (o : Made (List ℕ)). andThen o k) (g .says) ∙ g′ .says; held = g′ .held }
+
+-- the model says the same of both
+pub list-by : (m m′ : Made (List ℕ)) (n : ℕ) (r : Done) (ns w idx : List ℕ) → m ≡ m′ → GivesList m′ n r ns w idx → GivesList m n r ns w idx
+list-by m m′ n r ns w idx e g = record { says = e ∙ g .says; held = g .held }
