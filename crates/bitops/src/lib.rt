@@ -1,7 +1,7 @@
 // Gates over lists of nets, bit by bit. The nets stand in lent arrays; the result takes the place of the first operand.
 ghost use mathlib.Core.Path.{_≡_};
-ghost use Prim.Native.Nat.{_≤_, _<_};
-ghost use lib.ListN.{length, getD};
+
+ghost use lib.ListN.{length};
 ghost use Rattle.model.specs.Builder.{each, both, addNot, addMux};
 ghost use Rattle.model.specs.Lowering.{addGate, addEqual};
 ghost use Rattle.netlist_view.specs.View.{netlistOf};

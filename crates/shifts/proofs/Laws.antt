@@ -1,7 +1,7 @@
 -- The bits of a moved word; stages one by one. Assumes nothing.
 use mathlib.Core.Path.{_≡_, refl, sym, ap, _∙_}
 use mathlib.Core.Bool.{cond, false}
-use mathlib.Core.List.{List, [], _∷_, _++_, map}
+use mathlib.Core.List.{List, [], _∷_, map}
 use Prim.Native.Nat.{ℕ, zero, suc, pred, _+_, _*_, _-_, _^_, _≤_, _<_, min}
 use native.Mathlib.Omega.{arith}
 use native.Mathlib.Nat.{zero-add, pow-succ'}
@@ -10,8 +10,8 @@ use lib.Dec.{ltb}
 use lib.ListN.{length, getD, take, drop, replicate, length-map, drop-of-length-le}
 use lib.Seq.{sets, sets-eq, take-at, drop-cons}
 use Rattle.model.specs.Words.{Netlist}
-use Rattle.model.specs.Builder.{done, andThen, Made, both, from, addConstant, addMux}
-use Rattle.model.specs.Lowering.{Shift, LeftS, RightS, ArithmeticS, movedDown, shifted, stages, shift}
+use Rattle.model.specs.Builder.{andThen, Made, both, from, addConstant, addMux}
+use Rattle.model.specs.Lowering.{Shift, LeftS, RightS, ArithmeticS, shifted, stages, shift}
 use Rattle.netlist_view.specs.View.{netlistOf}
 use Rattle.netlist_index.specs.Index.{Held}
 use Rattle.nodes.specs.Gives.{Gives}
