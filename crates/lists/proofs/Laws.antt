@@ -44,6 +44,8 @@ module _ (n : ℕ) (w r : List ℕ) (b : Built n w) where
   unfolding push
   pushes w′ h v = record {
     says = rw (le-leb (used (netlistOf n w .records) + length r) (room n w) (omega (arith, used-is n w b))) (λ i. done (sym (v .view) i));
+    view = λ e. v .view;
+    kept = λ e. let z : _≡_ {A = ℕ} 0 1 = cc in absurd (omega arith);
     built = v .built;
     held = λ e idx d. held-record n w idx w′ r d v e;
   }
@@ -52,6 +54,8 @@ module _ (n : ℕ) (w r : List ℕ) (b : Built n w) where
   unfolding push
   push-full h = record {
     says = rw (lt-leb (used (netlistOf n w .records) + length r) (room n w) (omega (arith, used-is n w b)));
+    view = λ e. let z : _≡_ {A = ℕ} 0 1 = cc in absurd (omega arith);
+    kept = λ e. refl;
     built = b;
     held = λ e idx d. d;
   }

@@ -6,6 +6,7 @@ use Prim.Native.Nat.{ℕ}
 use Rattle.model.specs.Words.{Netlist}
 use Rattle.model.specs.Builder.{Out, refused, done, push}
 use Rattle.netlist_view.specs.View.{netlistOf, Built}
+use Rattle.netlist_view.specs.Laws.{withRecord}
 use Rattle.netlist_index.specs.Index.{isCell, Held}
 use Rattle.lists.specs.declared.Pushed.{Pushed}
 use Rattle.lists.specs.declared.Pushed.the-variants.{Done, ListFull}
@@ -18,5 +19,7 @@ pushedOf ListFull l = refused 10 0 0
 -- the record r was pushed on the words w, the answer is a, and w′ are the words then
 pub record Pushes (r : List ℕ) (n : ℕ) (a : Pushed) (w w′ : List ℕ) : Type 0 where
   pub says : push r (netlistOf n w) ≡ pushedOf a (netlistOf n w′)
+  pub view : a ≡ Done → netlistOf n w′ ≡ withRecord r (netlistOf n w)
+  pub kept : a ≡ ListFull → w′ ≡ w
   pub built : Built n w′
   pub held : isCell r ≡ false → (idx : List ℕ) → Held n w idx → Held n w′ idx

@@ -251,3 +251,58 @@ spot-outputs n h key w idx p d k e s b =
           ∙ ap (take (outputs key)) (sym (drop-drop (length key) (16 + 6 * n + used (s .rest)) w) ∙ ap (drop (length key)) (st .words) ∙ drop-append-le (length key) r (st .more) (omega arith))
           ∙ take-at (drop (length key) r) (st .more) (outputs key) dl));
     }
+
+-- ---- the search's loop, by the words ----
+
+pub record Here (n : ℕ) (w : List ℕ) (at : ℕ) : Type 0 where
+  pub width : at + 2 < length w
+  pub key : at + keyLength (drop at w) < length w
+  pub first : firstOutput (drop at w) < n
+
+module _ (n h : ℕ) (key w idx : List ℕ) (p : ℕ) (d : Held n w idx) (k : Key key) (e : h ≡ hashKey n key)
+    (c : CellAt n h key (reverse (netlistOf n w .records)) p) (pos : 0 < p) where
+  stands : Stands w (16 + 6 * n + (p - 1)) (c .spot pos .cell)
+  stands =
+      let s = c .spot pos in
+      let q : 16 + 6 * n + used (s .rest) ≡ 16 + 6 * n + (p - 1) = omega (arith, s .place) in
+      subst (λ (j : ℕ). Stands w j (s .cell)) q (cell-stands n w (d .built) (s .front) (s .rest) (s .cell) (s .parts))
+
+  link : Linked n (length (netlistOf n w .nodes)) (c .spot pos .cell) (c .spot pos .rest) (drop (2 * n) idx)
+  link = spot-linked n (length (netlistOf n w .nodes)) h key (netlistOf n w .records) (drop (2 * n) idx) p k e (d .cells) (c .spot pos)
+
+  is-cell : isCell (c .spot pos .cell) ≡ true
+  is-cell = bucket-cell n h (c .spot pos .cell) (c .spot pos .bucket) .0
+
+  first-is : firstOutput (drop (16 + 6 * n + (p - 1)) w) ≡ firstOutput (c .spot pos .cell)
+  first-is = ap firstOutput (stands .words) ∙ append-firstOutput (c .spot pos .cell) (stands .more) is-cell (link .whole)
+
+  begins-is : begins key (drop (16 + 6 * n + (p - 1)) w) ≡ begins key (c .spot pos .cell)
+  begins-is = ap (begins key) (stands .words) ∙ append-begins (c .spot pos .cell) (stands .more) is-cell (link .whole) key k
+
+  pub here : Here n w (16 + 6 * n + (p - 1))
+  here =
+      let r = c .spot pos .cell in
+      let kl : keyLength (drop (16 + 6 * n + (p - 1)) w) ≡ keyLength r = ap keyLength (stands .words) ∙ append-keyLength r (stands .more) is-cell (link .whole) in
+      let t = three r (stands .more) is-cell (link .whole) in
+      record {
+        width = omega (arith, stands .within, link .whole, t);
+        key = omega (arith, stands .within, link .whole, kl);
+        first = omega (arith, first-is, link .below, d .built .fit .few);
+      }
+
+  pub here-found : begins key (drop (16 + 6 * n + (p - 1)) w) ≡ true → Outputs n key w (16 + 6 * n + (p - 1) + length key)
+  here-found b = spot-outputs n h key w idx p d k e (c .spot pos) (sym begins-is ∙ b)
+
+  next-word : (q : ℕ) → q ≡ getD (drop (2 * n) idx) (n + firstOutput (drop (16 + 6 * n + (p - 1)) w)) 0
+      → q ≡ getD (drop (2 * n) idx) (n + firstOutput (c .spot pos .cell)) 0
+  next-word q z = z ∙ ap (λ (o : ℕ). getD (drop (2 * n) idx) (n + o) 0) first-is
+
+  pub here-less : (q : ℕ) → q ≡ getD (drop (2 * n) idx) (n + firstOutput (drop (16 + 6 * n + (p - 1)) w)) 0 → q < p
+  here-less q z =
+      omega (arith, next-word q z, spot-less n (length (netlistOf n w .nodes)) h key (netlistOf n w .records) (drop (2 * n) idx) p k e (d .cells) (c .spot pos))
+
+  pub here-turn : (q : ℕ) → begins key (drop (16 + 6 * n + (p - 1)) w) ≡ false
+      → q ≡ getD (drop (2 * n) idx) (n + firstOutput (drop (16 + 6 * n + (p - 1)) w)) 0 → CellAt n h key (reverse (netlistOf n w .records)) q
+  here-turn q b z =
+      subst (λ (j : ℕ). CellAt n h key (reverse (netlistOf n w .records)) j) (sym (next-word q z))
+      (spot-turn n (length (netlistOf n w .nodes)) h key (netlistOf n w .records) (drop (2 * n) idx) p k e (d .cells) (c .spot pos) (sym begins-is ∙ b))

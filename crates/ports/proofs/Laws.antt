@@ -51,11 +51,11 @@ abbrev pub ahead : List ℕ → Made (List ℕ) → Made (List ℕ)
 ahead ns (refused k x y) = refused k x y
 ahead ns (done (ms, l)) = done (ns ++ ms, l)
 
-ahead-none : (m : Made (List ℕ)) → ahead [] m ≡ m
+pub ahead-none : (m : Made (List ℕ)) → ahead [] m ≡ m
 ahead-none (refused k x y) = refl
 ahead-none (done (ms, l)) = refl
 
-ahead-also : (ns : List ℕ) (k : ℕ) (m : Made (List ℕ)) → ahead ns (also k m) ≡ ahead (ns ++ (k ∷ [])) m
+pub ahead-also : (ns : List ℕ) (k : ℕ) (m : Made (List ℕ)) → ahead ns (also k m) ≡ ahead (ns ++ (k ∷ [])) m
 ahead-also ns k (refused j x y) = refl
 ahead-also ns k (done (ms, l)) = ap (λ (t : List ℕ). done (t, l)) (sym (append-assoc ns (k ∷ []) ms))
 
@@ -89,7 +89,7 @@ Refusal (Net k) = ⊥
 Refusal TooManyNets = Unit {0}
 Refusal ListFull = Unit {0}
 
-never : (r : Added) (k : ℕ) → Refusal r → r ≡ Net k → ⊥
+pub never : (r : Added) (k : ℕ) → Refusal r → r ≡ Net k → ⊥
 never (Net j) k q e = q
 never TooManyNets k q e = let z : _≡_ {A = ℕ} 0 1 = cc in omega arith
 never ListFull k q e = let z : _≡_ {A = ℕ} 0 1 = cc in omega arith
@@ -104,6 +104,42 @@ out : (ns : List ℕ) (r : Added) → Refusal r → (b : ℕ) (l : Netlist) (k :
 out ns (Net j) q b l k = absurd q
 out ns TooManyNets q b l k = refl
 out ns ListFull q b l k = refl
+
+-- a run that was made: the records as they were, w nets more
+pub record Ran (w : ℕ) (l : Netlist) (ns : List ℕ) (l′ : Netlist) : Type 0 where
+  pub records : l′ .records ≡ l .records
+  pub count : length (l′ .nodes) ≡ length (l .nodes) + w
+  pub nets : ns ≡ from (length (l .nodes)) w
+
+also-done : (k : ℕ) (m : Made (List ℕ)) (ns : List ℕ) (l : Netlist) → also k m ≡ done (ns, l) → (ms : List ℕ) × ((m ≡ done (ms, l)) × (ns ≡ k ∷ ms))
+also-done k (refused j x y) ns l e = let z : _≡_ {A = ℕ} 0 1 = cc in absurd (omega arith)
+also-done k (done (ms, l₁)) ns l e =
+    let p : _≡_ {A = List ℕ × Netlist} (k ∷ ms, l₁) (ns, l) = cc in
+    (ms, (λ i. done (ms, ap (λ (y : List ℕ × Netlist). y .1) p i), sym (ap (λ (y : List ℕ × Netlist). y .0) p)))
+
+pub nodes-ran : (x : ℕ → Node) (b w : ℕ) (l : Netlist) (ns : List ℕ) (l′ : Netlist) → addNodes x b w l ≡ done (ns, l′) → Ran w l ns l′
+unfolding from
+nodes-ran x b zero l ns l′ e =
+    let p : _≡_ {A = List ℕ × Netlist} ([], l) (ns, l′) = cc (nodes-zero x b l) in
+    let q = ap (λ (y : List ℕ × Netlist). y .1) p in
+    record { records = sym (ap (λ (y : Netlist). y .records) q); count = sym (ap (λ (y : Netlist). length (y .nodes)) q) ∙ omega arith; nets = sym (ap (λ (y : List ℕ × Netlist). y .0) p) }
+nodes-ran x b (suc w) l ns l′ e = go (addNode (x b) l) refl (λ l₁ ms f. nodes-ran x (suc b) w l₁ ms l′ f)
+  where
+    go : (o : Made ℕ) → addNode (x b) l ≡ o → ((l₁ : Netlist) (ms : List ℕ) → addNodes x (suc b) w l₁ ≡ done (ms, l′) → Ran w l₁ ms l′) → Ran (suc w) l ns l′
+    go (refused j y z) f ih =
+        let q : _≡_ {A = Made (List ℕ)} (refused j y z) (done (ns, l′)) = sym (nodes-suc x b w l ∙ ap (λ (o : Made ℕ). andThen o (λ (k, l₁). also k (addNodes x (suc b) w l₁))) f) ∙ e in
+        let u : _≡_ {A = ℕ} 0 1 = cc in absurd (omega arith)
+    go (done (k, l₁)) f ih =
+        let q = sym (nodes-suc x b w l ∙ ap (λ (o : Made ℕ). andThen o (λ (k, l₁). also k (addNodes x (suc b) w l₁))) f) ∙ e in
+        let s = also-done k (addNodes x (suc b) w l₁) ns l′ q in
+        let t = ih l₁ (s .0) (s .1 .0) in
+        let a = added-next (x b) l l₁ k f in
+        let c : length (l₁ .nodes) ≡ suc (length (l .nodes)) = ap (λ (y : Netlist). length (y .nodes)) (a .view) in
+        record {
+          records = t .records ∙ ap (λ (y : Netlist). y .records) (a .view);
+          count = t .count ∙ omega arith;
+          nets = s .1 .1 ∙ λ i. a .net i ∷ (t .nets ∙ ap (λ (j : ℕ). from j w) c) i;
+        }
 
 -- what holds after i of w nodes
 pub record Going (x : ℕ → Node) (n b w first : ℕ) (w₀ net : List ℕ) (i : ℕ) : Type 0 where
@@ -193,13 +229,13 @@ abbrev pub answered : Pushed → ℕ → Added
 answered P.Done k = Net k
 answered P.ListFull k = ListFull
 
-refused-run : (r : List ℕ) (x : Added) → Refusal x → (b : ℕ) (l : Netlist) → addRecorded r (runOf x b l) ≡ runOf x b l
+pub refused-run : (r : List ℕ) (x : Added) → Refusal x → (b : ℕ) (l : Netlist) → addRecorded r (runOf x b l) ≡ runOf x b l
 unfolding addRecorded
 refused-run r (Net k) q b l = absurd q
 refused-run r TooManyNets q b l = refl
 refused-run r ListFull q b l = refl
 
-pushed-run : (r : List ℕ) (k b : ℕ) (a : Pushed) (l l′ : Netlist) → push (r ++ from k b) l ≡ pushedOf a l′
+pub pushed-run : (r : List ℕ) (k b : ℕ) (a : Pushed) (l l′ : Netlist) → push (r ++ from k b) l ≡ pushedOf a l′
     → addRecorded r (done (from k b, l)) ≡ runOf (answered a k) b l′
 unfolding addRecorded
 pushed-run r k b P.Done l l′ e = rw e

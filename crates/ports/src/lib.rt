@@ -34,7 +34,7 @@ pub fn add_nodes(net: &mut [u32], n: u32, kind: u32, owner: u32, b: u32, w: u32)
 
 // The numbers from a first one on, w of them, from a place on.
 pub fn put_run(out: &mut [u32], at: usize, first: u32, w: u32)
-    requires { ⌜ (at + w ≤ length (now out)) × (first + w ≤ 65535) ⌝ }
+    requires { ⌜ (at + w ≤ length (now out)) × (first + w ≤ 131070) ⌝ }
     ensures { λ _. ⌜ now (out .exit) ≡ sets (now (out .entry)) at (from first w) ⌝ }
 {
     let mut i = 0;
@@ -46,7 +46,7 @@ pub fn put_run(out: &mut [u32], at: usize, first: u32, w: u32)
 
 // A port's record.
 fn push_port(net: &mut [u32], n: u32, s: u32, first: u32, w: u32) -> Pushed
-    requires { ⌜ (Built n (now net)) × (w ≤ 1024) × (first + w ≤ 65535) ⌝ }
+    requires { ⌜ (Built n (now net)) × (w ≤ 1024) × (first + w ≤ 131070) ⌝ }
     ensures { λ a. ⌜ Pushes (0 ∷ s ∷ w ∷ from first w) n a (now (net .entry)) (now (net .exit)) ⌝ }
 {
     let mut record = [0u32; 1027];

@@ -1,0 +1,68 @@
+use borrow.Author.Needs.{needs}
+use Rattle.cell_index.proofs.next_cell.Statement.{statement}
+use Rattle.cell_index.proofs.next_cell.Tie as tie
+use Rattle.cell_index.proofs.next_cell.Reads as reads
+use Rattle.cell_index.proofs.next_cell.Lts as lts
+use Rattle.cell_index.proofs.key_length.Reads as key-length-reads
+use native.Mathlib.Omega.{arith}
+use mathlib.Core.Path.{_≡_, refl, sym, ap, _∙_}
+use Prim.Native.Nat.{ℕ, _+_, _*_}
+use lib.ListN.{getD}
+use Rattle.cell_index.proofs.Laws.{first-at, next-at}
+
+-- src/lib.rt:60:9
+key-length-requires : tie.Need-key-length-requires
+key-length-requires c κs = search needs
+
+-- src/lib.rt:61:17
+add-o : tie.Need-add-o
+add-o c = search needs
+
+-- src/lib.rt:61:13
+mul-o : tie.Need-mul-o
+mul-o c = search needs
+
+-- src/lib.rt:61:13
+shared-slice-read-o : tie.Need-shared-slice-read-o
+shared-slice-read-o c = search needs
+
+-- src/lib.rt:61:13
+cast-o : tie.Need-cast-o
+cast-o c = omega (arith, first-at (c .before .before .before .before .args .net .now) (c .before .before .before .before .args .at) (c .before .key-length .result) (c .before .key-length .ensures))
+
+-- src/lib.rt:62:9
+mul-result : tie.Need-mul-result
+mul-result c = search needs
+
+-- src/lib.rt:62:9
+add-result : tie.Need-add-result
+add-result c = omega (arith, first-at (c .before .before .before .before .args .net .now) (c .before .before .before .before .args .at) (c .before .key-length .result) (c .before .key-length .ensures))
+
+-- src/lib.rt:62:5
+mul-result-2 : tie.Need-mul-result-2
+mul-result-2 c = omega (arith, first-at (c .before .before .before .before .args .net .now) (c .before .before .before .before .args .at) (c .before .key-length .result) (c .before .key-length .ensures))
+
+-- src/lib.rt:62:5
+shared-slice-read-result : tie.Need-shared-slice-read-result
+shared-slice-read-result c = omega (arith, first-at (c .before .before .before .before .before .args .net .now) (c .before .before .before .before .before .args .at) (c .before .before .key-length .result) (c .before .before .key-length .ensures))
+
+-- src/lib.rt:56:1
+returns : tie.Need-returns
+returns c =
+    ap (λ (o : ℕ). getD (c .before .before .before .before .before .args .idx .now) (3 * c .before .before .before .before .before .args .n + o) 0) (first-at (c .before .before .before .before .before .args .net .now) (c .before .before .before .before .before .args .at) (c .before .before .key-length .result) (c .before .before .key-length .ensures))
+    ∙ next-at (c .before .before .before .before .before .args .idx .now) (c .before .before .before .before .before .args .n) _
+
+pub next-cell-spec : {M : Type 1} → statement M
+next-cell-spec =
+    tie.close
+    (tie.spec
+    key-length-requires
+    add-o
+    mul-o
+    shared-slice-read-o
+    cast-o
+    mul-result
+    add-result
+    mul-result-2
+    shared-slice-read-result
+    returns)
