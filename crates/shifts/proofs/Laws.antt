@@ -18,10 +18,10 @@ use Rattle.nodes.specs.Gives.{Gives}
 use Rattle.nodes.specs.declared.Added.{Added}
 use Rattle.nodes.specs.declared.Added.the-variants as A
 use Rattle.ports.proofs.Laws.{Refusal, length-from}
-use Rattle.bitops.specs.GivesList.{failedOf, GivesList}
-use Rattle.bitops.specs.declared.Done.{Done}
-use Rattle.bitops.specs.declared.Done.the-variants.{Fine}
-use Rattle.bitops.proofs.Laws.{nets, both-nets, NotFine, first-out, list-by}
+use Rattle.constants.specs.Values.{refusalOf, Fills}
+use Rattle.constants.specs.declared.Filled.{Filled}
+use Rattle.constants.specs.declared.Filled.the-variants.{Done}
+use Rattle.bitops.proofs.Laws.{nets, both-nets, NotDone, first-out, list-by}
 
 -- within a list the default does not matter
 getD-in : (xs : List ℕ) (i d e : ℕ) → i < length xs → getD xs i d ≡ getD xs i e
@@ -110,7 +110,7 @@ module _ (model : Made (List ℕ)) (h : Shift) (z n : ℕ) (net₀ xs₀ amount 
       ∙ ap (λ (e : ℕ). andThen (both (addMux (getD amount k 0)) (shifted h z e xs) xs (netlistOf n net)) (λ (r₁, l₁). stages h z (suc k) (drop (suc k) amount) r₁ l₁)) (sym (g .distance))
 
   pub staging-more : (net′ idx′ xs′ : List ℕ) (d′ : ℕ) → k < length amount → length net′ ≡ length net → length xs′ ≡ length xs → d′ ≡ min (2 * d) (length xs)
-      → GivesList (both (addMux (getD amount k 0)) (shifted h z d xs) xs (netlistOf n net)) n Fine xs′ net′ idx′
+      → Fills (both (addMux (getD amount k 0)) (shifted h z d xs) xs (netlistOf n net)) n Done xs′ net′ idx′
       → Staging model h z n net₀ xs₀ amount net′ idx′ xs′ d′ (k + 1)
   staging-more net′ idx′ xs′ d′ q a b e s =
       let p : suc k ≡ k + 1 = omega arith in
@@ -125,11 +125,11 @@ module _ (model : Made (List ℕ)) (h : Shift) (z n : ℕ) (net₀ xs₀ amount 
         held = s .held;
       }
 
-  pub staging-out : (r : Done) (ns ms net′ idx′ : List ℕ) → k < length amount → NotFine r
-      → GivesList (both (addMux (getD amount k 0)) (shifted h z d xs) xs (netlistOf n net)) n r ns net′ idx′ → GivesList model n r ms net′ idx′
+  pub staging-out : (r : Filled) (ns ms net′ idx′ : List ℕ) → k < length amount → NotDone r
+      → Fills (both (addMux (getD amount k 0)) (shifted h z d xs) xs (netlistOf n net)) n r ns net′ idx′ → Fills model n r ms net′ idx′
   staging-out r ns ms net′ idx′ q f s = list-by _ _ _ _ _ _ _ (stage q) (first-out _ (λ (r₁, l₁). stages h z (suc k) (drop (suc k) amount) r₁ l₁) n r ns ms net′ idx′ f s)
 
-  pub staging-end : length amount ≤ k → GivesList model n Fine xs net idx
+  pub staging-end : length amount ≤ k → Fills model n Done xs net idx
   unfolding stages
   staging-end q = record {
     says = g .says ∙ ap (λ (ss : List ℕ). stages h z k ss xs (netlistOf n net)) (drop-of-length-le amount {i = k} q);
@@ -139,12 +139,12 @@ module _ (model : Made (List ℕ)) (h : Shift) (z n : ℕ) (net₀ xs₀ amount 
 -- ---- the false constant first ----
 
 module _ (h : Shift) (xs amount : List ℕ) (l : Netlist) (n : ℕ) (w idx : List ℕ) where
-  pub shift-fine : (z : ℕ) (r : Done) (ns w′ idx′ : List ℕ) → Gives (addConstant false l) n (A.Net z) w idx
-      → GivesList (stages h z 0 amount xs (netlistOf n w)) n r ns w′ idx′ → GivesList (shift h xs amount l) n r ns w′ idx′
+  pub shift-done : (z : ℕ) (r : Filled) (ns w′ idx′ : List ℕ) → Gives (addConstant false l) n (A.Net z) w idx
+      → Fills (stages h z 0 amount xs (netlistOf n w)) n r ns w′ idx′ → Fills (shift h xs amount l) n r ns w′ idx′
   unfolding shift
-  shift-fine z r ns w′ idx′ a s = record { says = ap (λ (o : Made ℕ). andThen o (λ (z, l₁). stages h z 0 amount xs l₁)) (a .says) ∙ s .says; held = s .held }
+  shift-done z r ns w′ idx′ a s = record { says = ap (λ (o : Made ℕ). andThen o (λ (z, l₁). stages h z 0 amount xs l₁)) (a .says) ∙ s .says; held = s .held }
 
-  pub shift-out : (x : Added) (ns : List ℕ) → Refusal x → Gives (addConstant false l) n x w idx → GivesList (shift h xs amount l) n (failedOf x) ns w idx
+  pub shift-out : (x : Added) (ns : List ℕ) → Refusal x → Gives (addConstant false l) n x w idx → Fills (shift h xs amount l) n (refusalOf x) ns w idx
   unfolding shift
   shift-out (A.Net k) ns q a = absurd q
   shift-out A.TooManyNets ns q a = record { says = ap (λ (o : Made ℕ). andThen o (λ (z, l₁). stages h z 0 amount xs l₁)) (a .says); held = a .held }

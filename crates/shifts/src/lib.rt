@@ -6,9 +6,9 @@ ghost use Rattle.model.specs.Builder.{both, addMux};
 ghost use Rattle.model.specs.Lowering.{shifted, stages, shift};
 ghost use Rattle.netlist_view.specs.View.{netlistOf};
 ghost use Rattle.netlist_index.specs.Index.{Held};
-ghost use Rattle.bitops.specs.GivesList.{GivesList};
+ghost use Rattle.constants.specs.Values.{Fills};
 ghost use Rattle.shifts.specs.Kinds.{shiftOf};
-use bitops::Done;
+use constants::Filled;
 use nodes::Added;
 
 pub enum ShiftKind {
@@ -53,21 +53,21 @@ fn mux_moved(
     s: u32,
     xs: &mut [u32],
     old: &[u32],
-) -> Done
+) -> Filled
     requires { ⌜ (Held n (now net) (now idx)) × (length (now xs) ≡ length (now old)) × (d ≤ length (now old)) × (length (now old) ≤ 1024) ⌝ }
-    ensures { λ r. ⌜ GivesList (both (addMux s) (shifted (shiftOf kind) z d (now (old .entry))) (now (old .entry)) (netlistOf n (now (net .entry)))) n r (now (xs .exit)) (now (net .exit)) (now (idx .exit)) ⌝ }
+    ensures { λ r. ⌜ Fills (both (addMux s) (shifted (shiftOf kind) z d (now (old .entry))) (now (old .entry)) (netlistOf n (now (net .entry)))) n r (now (xs .exit)) (now (net .exit)) (now (idx .exit)) ⌝ }
 {
     let mut i = 0;
     while i < xs.len() {
         let t = moved_bit(kind, z, d, old, i);
         let x = gates::add_mux(net, idx, n, s, t, old[i]);
         let Added::Net(k) = x else {
-            return bitops::failed(x);
+            return constants::refusal(x);
         };
         xs[i] = k;
         i += 1;
     }
-    Done::Fine
+    Filled::Done
 }
 
 fn shift_stage(
@@ -79,9 +79,9 @@ fn shift_stage(
     d: usize,
     s: u32,
     xs: &mut [u32],
-) -> Done
+) -> Filled
     requires { ⌜ (Held n (now net) (now idx)) × (d ≤ length (now xs)) × (length (now xs) ≤ 1024) ⌝ }
-    ensures { λ r. ⌜ GivesList (both (addMux s) (shifted (shiftOf kind) z d (now (xs .entry))) (now (xs .entry)) (netlistOf n (now (net .entry)))) n r (now (xs .exit)) (now (net .exit)) (now (idx .exit)) ⌝ }
+    ensures { λ r. ⌜ Fills (both (addMux s) (shifted (shiftOf kind) z d (now (xs .entry))) (now (xs .entry)) (netlistOf n (now (net .entry)))) n r (now (xs .exit)) (now (net .exit)) (now (idx .exit)) ⌝ }
 {
     let mut old = [0u32; 1024];
     let w = xs.len();
@@ -105,22 +105,22 @@ fn shift_stages(
     z: u32,
     xs: &mut [u32],
     amount: &[u32],
-) -> Done
+) -> Filled
     requires { ⌜ (Held n (now net) (now idx)) × (0 < length (now xs)) × (length (now xs) ≤ 1024) ⌝ }
-    ensures { λ r. ⌜ GivesList (stages (shiftOf kind) z 0 (now (amount .entry)) (now (xs .entry)) (netlistOf n (now (net .entry)))) n r (now (xs .exit)) (now (net .exit)) (now (idx .exit)) ⌝ }
+    ensures { λ r. ⌜ Fills (stages (shiftOf kind) z 0 (now (amount .entry)) (now (xs .entry)) (netlistOf n (now (net .entry)))) n r (now (xs .exit)) (now (net .exit)) (now (idx .exit)) ⌝ }
 {
     let w = xs.len();
     let mut d: usize = 1;
     let mut k = 0;
     while k < amount.len() {
         let r = shift_stage(net, idx, n, kind, z, d, amount[k], xs);
-        let Done::Fine = r else {
+        let Filled::Done = r else {
             return r;
         };
         d = shift_distance(d, w);
         k += 1;
     }
-    Done::Fine
+    Filled::Done
 }
 
 pub fn shift(
@@ -130,13 +130,13 @@ pub fn shift(
     kind: ShiftKind,
     xs: &mut [u32],
     amount: &[u32],
-) -> Done
+) -> Filled
     requires { ⌜ (Held n (now net) (now idx)) × (0 < length (now xs)) × (length (now xs) ≤ 1024) ⌝ }
-    ensures { λ r. ⌜ GivesList (shift (shiftOf kind) (now (xs .entry)) (now (amount .entry)) (netlistOf n (now (net .entry)))) n r (now (xs .exit)) (now (net .exit)) (now (idx .exit)) ⌝ }
+    ensures { λ r. ⌜ Fills (shift (shiftOf kind) (now (xs .entry)) (now (amount .entry)) (netlistOf n (now (net .entry)))) n r (now (xs .exit)) (now (net .exit)) (now (idx .exit)) ⌝ }
 {
     let x = gates::add_constant(net, idx, n, false);
     let Added::Net(z) = x else {
-        return bitops::failed(x);
+        return constants::refusal(x);
     };
     shift_stages(net, idx, n, kind, z, xs, amount)
 }

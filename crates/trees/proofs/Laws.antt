@@ -19,10 +19,10 @@ use Rattle.nodes.specs.declared.Added.the-variants as A
 use Rattle.nodes.specs.declared.Added.the-variants.{Net}
 use Rattle.gates.proofs.Ways.{gives-by}
 use Rattle.ports.proofs.Laws.{Refusal}
-use Rattle.bitops.specs.GivesList.{failedOf, listOf, GivesList}
-use Rattle.bitops.specs.declared.Done.{Done}
-use Rattle.bitops.specs.declared.Done.the-variants.{Fine}
-use Rattle.bitops.proofs.Laws.{nets, nets-shift, Going, going-more, going-out, going-end, NotFine, failed-not-fine, first-out, list-by}
+use Rattle.constants.specs.Values.{refusalOf, filledOf, Fills}
+use Rattle.constants.specs.declared.Filled.{Filled}
+use Rattle.constants.specs.declared.Filled.the-variants.{Done}
+use Rattle.bitops.proofs.Laws.{nets, nets-shift, Going, going-more, going-out, going-end, NotDone, refusal-not-done, first-out, list-by}
 
 -- ys behind the nets
 abbrev behind : List ℕ → Made (List ℕ) → Made (List ℕ)
@@ -75,10 +75,10 @@ module _ (g : Gate) (n len h : ℕ) (net₀ xs₀ net idx xs : List ℕ) (i : �
   level-more k net′ idx′ q e a = going-more _ _ _ _ _ _ _ _ _ _ go k net′ idx′ q (omega arith) e (gives-by _ _ _ _ _ _ (same-pair (netlistOf n net) q) a)
 
   pub level-out : (r : Added) (ns net′ idx′ : List ℕ) → i < h → Refusal r → Gives (pairAt g xs i (netlistOf n net)) n r net′ idx′
-      → GivesList (level g (take len xs₀) (netlistOf n net₀)) n (failedOf r) ns net′ idx′
+      → Fills (level g (take len xs₀) (netlistOf n net₀)) n (refusalOf r) ns net′ idx′
   level-out r ns net′ idx′ q z a =
       list-by _ _ _ _ _ _ _ level-model
-      (first-out _ (λ (ns, l). done (ns ++ drop (2 * h) (take len xs₀), l)) n (failedOf r) [] ns net′ idx′ (failed-not-fine r z)
+      (first-out _ (λ (ns, l). done (ns ++ drop (2 * h) (take len xs₀), l)) n (refusalOf r) [] ns net′ idx′ (refusal-not-done r z)
       (going-out _ _ _ _ _ _ _ _ _ _ go r [] net′ idx′ q z (gives-by _ _ _ _ _ _ (same-pair (netlistOf n net) q) a)))
 
   halves : h ≤ i → (d : ℕ) → len ≡ 2 * h + d → d ≤ 1
@@ -99,8 +99,8 @@ module _ (g : Gate) (n len h : ℕ) (net₀ xs₀ net idx xs : List ℕ) (i : �
       ∙ sym (ap (λ (a : ℕ). take a (set xs h (getD xs (len - 1) 0))) k ∙ take-suc-set xs h (getD xs (len - 1) 0) (omega (arith, go .sized)))
   halves q (suc (suc d)) e r = absurd (omega arith)
 
-  pub level-fine : h ≤ i → GivesList (level g (take len xs₀) (netlistOf n net₀)) n Fine (take ((len + 1) / 2) (set xs h (getD xs (len - 1) 0))) net idx
-  level-fine q =
+  pub level-done : h ≤ i → Fills (level g (take len xs₀) (netlistOf n net₀)) n Done (take ((len + 1) / 2) (set xs h (getD xs (len - 1) 0))) net idx
+  level-done q =
       let e = going-end _ _ _ _ _ _ _ _ _ _ go q in
       record {
         says = level-model ∙ ap (behind (drop (2 * h) (take len xs₀))) (e .says)
@@ -155,7 +155,7 @@ module _ (model : Made (List ℕ)) (g : Gate) (n : ℕ) (net₀ xs₀ net idx xs
       r .says ∙ ap (λ (a : ℕ). levels a g (take len xs) (netlistOf n net)) e ∙ more-levels f g (take len xs) (netlistOf n net) (omega arith)
 
   pub reducing-more : (net′ idx′ xs′ : List ℕ) → 1 < len → length net′ ≡ length net → length xs′ ≡ length xs
-      → GivesList (level g (take len xs) (netlistOf n net)) n Fine (take ((len + 1) / 2) xs′) net′ idx′
+      → Fills (level g (take len xs) (netlistOf n net)) n Done (take ((len + 1) / 2) xs′) net′ idx′
       → Reducing model g n net₀ xs₀ net′ idx′ xs′ ((len + 1) / 2)
   reducing-more net′ idx′ xs′ h a b q =
       let f = r .fuel - 1 in
@@ -170,12 +170,12 @@ module _ (model : Made (List ℕ)) (g : Gate) (n : ℕ) (net₀ xs₀ net idx xs
         held = q .held;
       }
 
-  pub reducing-out : (d : Done) (ns ms net′ idx′ : List ℕ) → 1 < len → NotFine d → GivesList (level g (take len xs) (netlistOf n net)) n d ns net′ idx′
-      → GivesList model n d ms net′ idx′
+  pub reducing-out : (d : Filled) (ns ms net′ idx′ : List ℕ) → 1 < len → NotDone d → Fills (level g (take len xs) (netlistOf n net)) n d ns net′ idx′
+      → Fills model n d ms net′ idx′
   reducing-out d ns ms net′ idx′ h q a =
       list-by _ _ _ _ _ _ _ (next h (r .fuel - 1) (omega (arith, r .enough))) (first-out _ (λ (ys, l₁). levels (r .fuel - 1) g ys l₁) n d ns ms net′ idx′ q a)
 
-  pub reducing-end : len ≤ 1 → GivesList model n Fine (take 1 xs) net idx
+  pub reducing-end : len ≤ 1 → Fills model n Done (take 1 xs) net idx
   reducing-end h =
       let e : len ≡ 1 = omega (arith, r .some) in
       let t = length-take-le len xs (r .within) in
@@ -187,7 +187,7 @@ module _ (model : Made (List ℕ)) (g : Gate) (n : ℕ) (net₀ xs₀ net idx xs
 -- ---- the first net alone ----
 
 one : (f : ℕ → Netlist → Made ℕ) (xs : List ℕ) (l l′ : Netlist) (r : Added) (ns : List ℕ) → 0 < length xs → f (getD xs 0 0) l ≡ outOf r l′
-    → ((k : ℕ) → r ≡ Net k → ns ≡ take 1 (set xs 0 k)) → each f (take 1 xs) l ≡ listOf (failedOf r) ns l′
+    → ((k : ℕ) → r ≡ Net k → ns ≡ take 1 (set xs 0 k)) → each f (take 1 xs) l ≡ filledOf (refusalOf r) ns l′
 unfolding each
 one f [] l l′ r ns h e z = absurd (omega arith)
 one f (x ∷ xs) l l′ (Net k) ns h e z = ap (λ (o : Made ℕ). andThen o (λ (k, l₁). also k (done ([], l₁)))) e ∙ λ j. done (sym (z k refl) j, l′)
@@ -195,10 +195,10 @@ one f (x ∷ xs) l l′ A.TooManyNets ns h e z = ap (λ (o : Made ℕ). andThen 
 one f (x ∷ xs) l l′ A.ListFull ns h e z = ap (λ (o : Made ℕ). andThen o (λ (k, l₁). also k (done ([], l₁)))) e
 
 module _ (f : ℕ → Netlist → Made ℕ) (xs : List ℕ) (l : Netlist) (n : ℕ) (w idx : List ℕ) (h : 0 < length xs) where
-  pub one-fine : (k : ℕ) → Gives (f (getD xs 0 0) l) n (Net k) w idx → GivesList (each f (take 1 xs) l) n Fine (take 1 (set xs 0 k)) w idx
-  one-fine k g = record { says = one f xs l (netlistOf n w) (Net k) _ h (g .says) (λ j e. let z : k ≡ j = cc in ap (λ (i : ℕ). take 1 (set xs 0 i)) z); held = g .held }
+  pub one-done : (k : ℕ) → Gives (f (getD xs 0 0) l) n (Net k) w idx → Fills (each f (take 1 xs) l) n Done (take 1 (set xs 0 k)) w idx
+  one-done k g = record { says = one f xs l (netlistOf n w) (Net k) _ h (g .says) (λ j e. let z : k ≡ j = cc in ap (λ (i : ℕ). take 1 (set xs 0 i)) z); held = g .held }
 
-  pub one-out : (r : Added) (ns : List ℕ) → Refusal r → Gives (f (getD xs 0 0) l) n r w idx → GivesList (each f (take 1 xs) l) n (failedOf r) ns w idx
+  pub one-out : (r : Added) (ns : List ℕ) → Refusal r → Gives (f (getD xs 0 0) l) n r w idx → Fills (each f (take 1 xs) l) n (refusalOf r) ns w idx
   one-out r ns q g = record { says = one f xs l (netlistOf n w) r ns h (g .says) (λ k e. absurd (never r k q e)); held = g .held }
     where
       never : (r : Added) (k : ℕ) → Refusal r → r ≡ Net k → ⊥

@@ -47,8 +47,8 @@ add-mux-requires c κs =
 enum-known-x : tie.Need-enum-known-x Inv-loop μ-loop
 enum-known-x c = search needs
 
-failed-requires : tie.Need-failed-requires Inv-loop μ-loop
-failed-requires c κs = search needs
+refusal-requires : tie.Need-refusal-requires Inv-loop μ-loop
+refusal-requires c κs = search needs
 
 same-length : tie.Need-same-length Inv-loop μ-loop
 same-length c =
@@ -72,7 +72,7 @@ returns c =
     let add-mux = c .before .before .before .before .before .before .add-mux in
     let moved-bit = c .before .before .before .before .before .before .before .before .before .before .moved-bit in
     let loop = c .before .before .before .before .before .before .before .before .before .before .before .before .loop in
-    rw (c .failed .ensures) (going-out _ _ _ _ _ _ _ _ _ _ (loop .inv) (add-mux .result) _ _ _ (omega (arith, loop .inv .sized)) (not-net (add-mux .result) (c .before .match .keys2))
+    rw (c .refusal .ensures) (going-out _ _ _ _ _ _ _ _ _ _ (loop .inv) (add-mux .result) _ _ _ (omega (arith, loop .inv .sized)) (not-net (add-mux .result) (c .before .match .keys2))
     (rw (moved-bit .ensures) at (add-mux .ensures)))
 
 mul-xs : tie.Need-mul-xs Inv-loop μ-loop
@@ -125,7 +125,7 @@ mux-moved-spec =
     shared-slice-read-add-mux
     add-mux-requires
     enum-known-x
-    failed-requires
+    refusal-requires
     same-length
     same-length-2
     same-length-3

@@ -4,7 +4,7 @@ use Rattle.shifts.proofs.shift.Tie as tie
 use Rattle.netlist_view.specs.View.{netlistOf}
 use Rattle.ports.proofs.Laws.{not-net}
 use Rattle.shifts.specs.Kinds.{shiftOf}
-use Rattle.shifts.proofs.Laws.{shift-fine, shift-out}
+use Rattle.shifts.proofs.Laws.{shift-done, shift-out}
 
 add-constant-requires : tie.Need-add-constant-requires
 add-constant-requires c κs = search needs
@@ -12,8 +12,8 @@ add-constant-requires c κs = search needs
 enum-known-x : tie.Need-enum-known-x
 enum-known-x c = search needs
 
-failed-requires : tie.Need-failed-requires
-failed-requires c κs = search needs
+refusal-requires : tie.Need-refusal-requires
+refusal-requires c κs = search needs
 
 same-length : tie.Need-same-length
 same-length c = search needs
@@ -25,7 +25,7 @@ returns : tie.Need-returns
 returns c =
     let add-constant = c .before .before .before .before .before .before .add-constant in
     let s = c .before .before .before .before .before .before .before .before .before .before .before .before .before .args in
-    rw (c .failed .ensures) (shift-out (shiftOf (s .kind)) (s .xs .now) (s .amount .now) (netlistOf (s .n) (s .net .now)) _ _ _ (add-constant .result) _ (not-net (add-constant .result) (c .before .match .keys2)) (add-constant .ensures))
+    rw (c .refusal .ensures) (shift-out (shiftOf (s .kind)) (s .xs .now) (s .amount .now) (netlistOf (s .n) (s .net .now)) _ _ _ (add-constant .result) _ (not-net (add-constant .result) (c .before .match .keys2)) (add-constant .ensures))
 
 shift-stages-requires : tie.Need-shift-stages-requires
 shift-stages-requires c κs = search needs
@@ -45,7 +45,7 @@ returns-2 c =
     let x = c .before .before .before .before .before .before .before .before .before .before .before .x in
     let add-constant = c .before .before .before .before .before .before .before .before .before .before .before .before .before .before .before .before .before .add-constant in
     let s = c .before .before .before .before .before .before .before .before .before .before .before .before .before .before .before .before .before .before .before .before .before .before .before .before .args in
-    shift-fine (shiftOf (s .kind)) (s .xs .now) (s .amount .now) (netlistOf (s .n) (s .net .now)) _ _ _ _ _ _ _ _ (rw (x .given .1) at (add-constant .ensures)) (shift-stages .ensures)
+    shift-done (shiftOf (s .kind)) (s .xs .now) (s .amount .now) (netlistOf (s .n) (s .net .now)) _ _ _ _ _ _ _ _ (rw (x .given .1) at (add-constant .ensures)) (shift-stages .ensures)
 
 pub shift-spec : {M : Type 1} → statement M
 shift-spec =
@@ -53,7 +53,7 @@ shift-spec =
     (tie.spec
     add-constant-requires
     enum-known-x
-    failed-requires
+    refusal-requires
     same-length
     same-length-2
     returns

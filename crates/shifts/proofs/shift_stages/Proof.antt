@@ -8,7 +8,7 @@ use lib.ListN.{length}
 use Rattle.model.specs.Lowering.{stages}
 use Rattle.netlist_view.specs.View.{netlistOf}
 use Rattle.shifts.specs.Kinds.{shiftOf}
-use Rattle.bitops.proofs.Laws.{not-fine}
+use Rattle.bitops.proofs.Laws.{not-done}
 use Rattle.shifts.proofs.Laws.{Staging, staging-start, staging-more, staging-out, staging-end}
 
 abbrev Inv-loop : tie.InvT-loop
@@ -59,7 +59,7 @@ returns c =
     let shift-stage = c .before .before .before .before .before .before .before .shift-stage in
     let loop-test = c .before .before .before .before .before .before .before .before .before .before .before .before .loop-test in
     let loop = c .before .before .before .before .before .before .before .before .before .before .before .before .before .loop in
-    staging-out _ _ _ _ _ _ _ _ _ _ _ _ (loop .inv) (shift-stage .result) _ _ _ _ (loop-test .taken) (not-fine (shift-stage .result) (c .match .keys2)) (shift-stage .ensures)
+    staging-out _ _ _ _ _ _ _ _ _ _ _ _ (loop .inv) (shift-stage .result) _ _ _ _ (loop-test .taken) (not-done (shift-stage .result) (c .match .keys2)) (shift-stage .ensures)
 
 shift-distance-requires : tie.Need-shift-distance-requires Inv-loop μ-loop
 shift-distance-requires c κs =

@@ -4,7 +4,7 @@ use Rattle.trees.proofs.equal_words.Tie as tie
 use mathlib.Core.Bool.{true}
 use native.Mathlib.Omega.{arith}
 use Rattle.model.specs.Lowering.{equalWords}
-use Rattle.bitops.proofs.Laws.{not-fine, first-out, first-then}
+use Rattle.bitops.proofs.Laws.{not-done, first-out, first-then}
 
 equal-bits-requires : tie.Need-equal-bits-requires
 equal-bits-requires c κs = search needs
@@ -25,7 +25,7 @@ returns : tie.Need-returns
 unfolding equalWords
 returns c =
     let equal-bits = c .before .before .before .before .before .before .before .equal-bits in
-    first-out _ _ _ (equal-bits .result) _ _ _ _ (not-fine (equal-bits .result) (c .match .keys2)) (equal-bits .ensures)
+    first-out _ _ _ (equal-bits .result) _ _ _ _ (not-done (equal-bits .result) (c .match .keys2)) (equal-bits .ensures)
 
 reduce-tree-requires : tie.Need-reduce-tree-requires
 reduce-tree-requires c κs =

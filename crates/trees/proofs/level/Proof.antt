@@ -7,9 +7,9 @@ use native.Mathlib.Omega.{arith}
 use lib.ListN.{take, length-set}
 use Rattle.netlist_view.specs.View.{netlistOf}
 use Rattle.ports.proofs.Laws.{not-net}
-use Rattle.bitops.specs.GivesList.{gateOf}
+use Rattle.bitops.specs.Kinds.{gateOf}
 use Rattle.bitops.proofs.Laws.{nets, Going, going-start}
-use Rattle.trees.proofs.Laws.{pairAt, level-more, level-out, level-fine}
+use Rattle.trees.proofs.Laws.{pairAt, level-more, level-out, level-done}
 
 abbrev Inv-loop : tie.InvT-loop
 Inv-loop net₀ idx₀ n g xs₀ len half i₀ net idx xs i = Going (pairAt (gateOf g) (take len xs₀)) (nets (pairAt (gateOf g) (take len xs₀)) 0 half (netlistOf n net₀)) n half net₀ xs₀ net idx xs i
@@ -59,8 +59,8 @@ add-gate-requires c κs =
 enum-known-x : tie.Need-enum-known-x Inv-loop μ-loop
 enum-known-x c = search needs
 
-failed-requires : tie.Need-failed-requires Inv-loop μ-loop
-failed-requires c κs = search needs
+refusal-requires : tie.Need-refusal-requires Inv-loop μ-loop
+refusal-requires c κs = search needs
 
 same-length : tie.Need-same-length Inv-loop μ-loop
 same-length c =
@@ -84,7 +84,7 @@ returns c =
     let add-gate = c .before .before .before .before .before .before .add-gate in
     let loop = c .before .before .before .before .before .before .before .before .before .before .before .before .loop in
     let pre = c .before .before .before .before .before .before .before .before .before .before .before .before .before .before .before .before .pre in
-    rw (c .failed .ensures) (level-out _ _ _ _ _ _ _ _ _ _ (pre .2) (omega arith) (omega arith) (loop .inv) (add-gate .result) _ _ _ (omega arith) (not-net (add-gate .result) (c .before .match .keys2)) (add-gate .ensures))
+    rw (c .refusal .ensures) (level-out _ _ _ _ _ _ _ _ _ _ (pre .2) (omega arith) (omega arith) (loop .inv) (add-gate .result) _ _ _ (omega arith) (not-net (add-gate .result) (c .before .match .keys2)) (add-gate .ensures))
 
 mul-xs : tie.Need-mul-xs Inv-loop μ-loop
 mul-xs c =
@@ -141,7 +141,7 @@ same-length-6 c = simp length-set (c .before .before .loop .inv .sized)
 returns-2 : tie.Need-returns-2 Inv-loop μ-loop
 returns-2 c =
     let pre = c .before .before .before .before .before .before .pre in
-    level-fine _ _ _ _ _ _ _ _ _ _ (pre .2) (omega arith) (omega arith) (c .before .before .loop .inv) (omega arith)
+    level-done _ _ _ _ _ _ _ _ _ _ (pre .2) (omega arith) (omega arith) (c .before .before .loop .inv) (omega arith)
 
 pub level-spec : {M : Type 1} → statement M
 level-spec =
@@ -159,7 +159,7 @@ level-spec =
     slice-read-add-gate-2
     add-gate-requires
     enum-known-x
-    failed-requires
+    refusal-requires
     same-length
     same-length-2
     same-length-3

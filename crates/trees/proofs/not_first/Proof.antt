@@ -2,7 +2,7 @@ use borrow.Author.Needs.{needs}
 use Rattle.trees.proofs.not_first.Statement.{statement}
 use Rattle.trees.proofs.not_first.Tie as tie
 use Rattle.ports.proofs.Laws.{not-net}
-use Rattle.trees.proofs.Laws.{one-fine, one-out}
+use Rattle.trees.proofs.Laws.{one-done, one-out}
 use Rattle.model.specs.Builder.{addNot}
 use Rattle.netlist_view.specs.View.{netlistOf}
 
@@ -15,8 +15,8 @@ add-not-requires c κs = search needs
 enum-known-x : tie.Need-enum-known-x
 enum-known-x c = search needs
 
-failed-requires : tie.Need-failed-requires
-failed-requires c κs = search needs
+refusal-requires : tie.Need-refusal-requires
+refusal-requires c κs = search needs
 
 same-length : tie.Need-same-length
 same-length c = search needs
@@ -29,7 +29,7 @@ returns c =
     let add-not = c .before .before .before .before .before .before .add-not in
     let s = c .before .before .before .before .before .before .before .before .before .before .before .before .before .args in
     let pre = c .before .before .before .before .before .before .before .before .before .before .before .before .before .pre in
-    rw (c .failed .ensures) (one-out addNot (s .xs .now) (netlistOf (s .n) (s .net .now)) _ _ _ (pre .1) (add-not .result) _ (not-net (add-not .result) (c .before .match .keys2)) (add-not .ensures))
+    rw (c .refusal .ensures) (one-out addNot (s .xs .now) (netlistOf (s .n) (s .net .now)) _ _ _ (pre .1) (add-not .result) _ (not-net (add-not .result) (c .before .match .keys2)) (add-not .ensures))
 
 slice-write-xs : tie.Need-slice-write-xs
 slice-write-xs c = search needs
@@ -48,7 +48,7 @@ returns-2 c =
     let add-not = c .before .before .before .before .before .before .before .add-not in
     let s = c .before .before .before .before .before .before .before .before .before .before .before .before .before .before .args in
     let pre = c .before .before .before .before .before .before .before .before .before .before .before .before .before .before .pre in
-    one-fine addNot (s .xs .now) (netlistOf (s .n) (s .net .now)) _ _ _ (pre .1) _ (rw (c .before .x .given .1) at (add-not .ensures))
+    one-done addNot (s .xs .now) (netlistOf (s .n) (s .net .now)) _ _ _ (pre .1) _ (rw (c .before .x .given .1) at (add-not .ensures))
 
 pub not-first-spec : {M : Type 1} → statement M
 not-first-spec =
@@ -57,7 +57,7 @@ not-first-spec =
     slice-read-add-not
     add-not-requires
     enum-known-x
-    failed-requires
+    refusal-requires
     same-length
     same-length-2
     returns

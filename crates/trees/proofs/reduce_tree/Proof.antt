@@ -7,8 +7,8 @@ use native.Mathlib.Omega.{arith}
 use lib.ListN.{length}
 use Rattle.netlist_view.specs.View.{netlistOf}
 use Rattle.model.specs.Lowering.{levels}
-use Rattle.bitops.specs.GivesList.{gateOf}
-use Rattle.bitops.proofs.Laws.{not-fine, list-by}
+use Rattle.bitops.specs.Kinds.{gateOf}
+use Rattle.bitops.proofs.Laws.{not-done, list-by}
 use Rattle.trees.proofs.Laws.{Reducing, tree-levels, reducing-start, reducing-more, reducing-out, reducing-end}
 
 abbrev Inv-loop : tie.InvT-loop
@@ -52,7 +52,7 @@ returns c =
     let loop-test = c .before .before .before .before .before .before .before .before .before .before .before .loop-test in
     let loop = c .before .before .before .before .before .before .before .before .before .before .before .before .loop in
     let pre = c .before .before .before .before .before .before .before .before .before .before .before .before .before .before .before .before .pre in
-    λ identity. list-by _ _ _ _ _ _ _ (tree-levels _ identity _ _ (pre .1)) (reducing-out _ _ _ _ _ _ _ _ _ (loop .inv) (level .result) _ _ _ _ (loop-test .taken) (not-fine (level .result) (c .match .keys2)) (level .ensures))
+    λ identity. list-by _ _ _ _ _ _ _ (tree-levels _ identity _ _ (pre .1)) (reducing-out _ _ _ _ _ _ _ _ _ (loop .inv) (level .result) _ _ _ _ (loop-test .taken) (not-done (level .result) (c .match .keys2)) (level .ensures))
 
 add-len : tie.Need-add-len Inv-loop μ-loop
 add-len c =
