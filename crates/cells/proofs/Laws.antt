@@ -115,7 +115,7 @@ cell-refused n b key w idx w₁ made x q d g = record {
 
 -- ---- keys ----
 
-take-sets : (b vs : List ℕ) (i : ℕ) → i + length vs ≤ length b → take (i + length vs) (sets b i vs) ≡ take i b ++ vs
+pub take-sets : (b vs : List ℕ) (i : ℕ) → i + length vs ≤ length b → take (i + length vs) (sets b i vs) ≡ take i b ++ vs
 take-sets b vs i h =
     let tk : length (take i b) ≡ i = length-take-le i b (omega arith) in
     ap (take (i + length vs)) (sets-eq vs b i h)

@@ -1,0 +1,1 @@
+// Laws of the netlist builder: definitions and laws in specs/, no code.

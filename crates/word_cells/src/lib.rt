@@ -1,0 +1,142 @@
+// Arithmetic cells: constant operands fold, equal cells are made a single time.
+ghost use mathlib.Core.Path.{_≡_};
+ghost use Prim.Native.Nat.{_+_, _*_, _≤_, _<_};
+ghost use lib.ListN.{length, take, drop};
+ghost use Rattle.model.specs.Words.{source, arithmeticKey, count};
+ghost use Rattle.model.specs.Builder.{addNodes, addRecorded, arithmeticWord};
+ghost use Rattle.model.specs.WordCells as W;
+ghost use Rattle.netlist_view.specs.View.{netlistOf};
+ghost use Rattle.netlist_index.specs.Index.{Held};
+ghost use Rattle.constant_fold.specs.Values.{opOf, carryOf, Fills};
+ghost use Rattle.cells.specs.Cells.{Ready};
+ghost use Rattle.word_cells.specs.Operands.{Operands};
+use cell_index::Found;
+use constant_fold::ArithmeticOp;
+use constant_fold::Filled;
+use nodes::Added;
+
+fn arithmetic_word(op: ArithmeticOp) -> u32
+    ensures { λ r. ⌜ r ≡ arithmeticWord (opOf op) ⌝ }
+{
+    match op {
+        ArithmeticOp::Add => 0,
+        ArithmeticOp::Subtract => 1,
+        ArithmeticOp::Multiply => 2,
+    }
+}
+
+// An arithmetic cell's key in front of a buffer.
+fn put_arithmetic(buffer: &mut [u32], op: u32, carry: u32, lhs: &[u32], rhs: &[u32])
+    requires { ⌜ (length (now rhs) ≡ length (now lhs)) × (length (now lhs) ≤ 1024) × (4 + 2 * length (now lhs) ≤ length (now buffer)) ⌝ }
+    ensures { λ _. ⌜ take (4 + 2 * length (now (lhs .entry))) (now (buffer .exit)) ≡ arithmeticKey op (now (lhs .entry)) (now (rhs .entry)) (carryOf carry) ⌝ }
+{
+    buffer[0] = 3;
+    buffer[1] = op;
+    buffer[2] = lhs.len() as u32;
+    buffer[3] = carry;
+    lists::put_words(buffer, 4, lhs);
+    let at = 4 + lhs.len();
+    lists::put_words(buffer, at, rhs);
+}
+
+// A new arithmetic cell, its outputs in out.
+fn add_arithmetic(
+    net: &mut [u32],
+    idx: &mut [u32],
+    n: u32,
+    h: u32,
+    buffer: &mut [u32],
+    k: usize,
+    out: &mut [u32],
+) -> Filled
+    requires { ⌜ (k ≤ length (now buffer)) × (length (now out) ≤ 1024) × (Ready n h 10 (length (now out)) (take k (now buffer)) (now net) (now idx) (now buffer)) ⌝ }
+    ensures { λ r. ⌜ Fills (addRecorded (take k (now (buffer .entry))) (addNodes (source 10 (count 3 (netlistOf n (now (net .entry)) .records))) 0 (length (now (out .entry))) (netlistOf n (now (net .entry))))) n r (now (out .exit)) (now (net .exit)) (now (idx .exit)) ⌝ }
+{
+    let owner = net[8];
+    let w = out.len() as u32;
+    let x = cells::add_cell(net, idx, n, h, 10, owner, buffer, k, w);
+    let Added::Net(first) = x else {
+        return constant_fold::refusal(x);
+    };
+    ports::put_run(out, 0, first, w);
+    Filled::Done
+}
+
+// The outputs that stand at a place, into out.
+fn copy_outputs(net: &[u32], p: usize, out: &mut [u32])
+    requires { ⌜ p + length (now out) ≤ length (now net) ⌝ }
+    ensures { λ _. ⌜ now (out .exit) ≡ take (length (now (out .entry))) (drop p (now (net .entry))) ⌝ }
+{
+    let end = p + out.len();
+    lists::put_words(out, 0, &net[p..end]);
+}
+
+// The arithmetic cell whose key is the first k words of a buffer: shared, folded or made; x and y are room.
+fn compute(
+    net: &mut [u32],
+    idx: &mut [u32],
+    n: u32,
+    op: ArithmeticOp,
+    lhs: &[u32],
+    rhs: &[u32],
+    carry: u32,
+    out: &mut [u32],
+    x: &mut [u32],
+    y: &mut [u32],
+    buffer: &mut [u32],
+    k: usize,
+) -> Filled
+    requires { ⌜ (Held n (now net) (now idx)) × (Operands (now lhs) (now rhs) (now out) (now x) (now y)) × (k + length (now lhs) ≤ length (now buffer)) × (take k (now buffer) ≡ arithmeticKey (arithmeticWord (opOf op)) (now lhs) (now rhs) (carryOf carry)) ⌝ }
+    ensures { λ r. ⌜ Fills (W.arithmetic (opOf op) (now (lhs .entry)) (now (rhs .entry)) (carryOf carry) (netlistOf n (now (net .entry)))) n r (now (out .exit)) (now (net .exit)) (now (idx .exit)) ⌝ }
+{
+    let h = cell_index::hash_key(&buffer[..k], n);
+    match cell_index::find_cell(net, idx, n, h, &buffer[..k]) {
+        Found::At(p) => {
+            copy_outputs(net, p, out);
+            Filled::Done
+        }
+        Found::Nothing => {
+            if constant_fold::fold_constant_arithmetic(net, op, lhs, rhs, carry, out, x, y) {
+                return constant_fold::add_constants(net, idx, n, out);
+            }
+            add_arithmetic(net, idx, n, h, buffer, k, out)
+        }
+    }
+}
+
+// Constant operands folded, an equal cell shared, else a new one; the outputs stand in out.
+pub fn arithmetic(
+    net: &mut [u32],
+    idx: &mut [u32],
+    n: u32,
+    op: ArithmeticOp,
+    lhs: &[u32],
+    rhs: &[u32],
+    carry: u32,
+    out: &mut [u32],
+) -> Filled
+    requires { ⌜ (Held n (now net) (now idx)) × (length (now rhs) ≡ length (now lhs)) × (length (now out) ≡ length (now lhs)) × (0 < length (now lhs)) × (length (now lhs) ≤ 1024) ⌝ }
+    ensures { λ r. ⌜ Fills (W.arithmetic (opOf op) (now (lhs .entry)) (now (rhs .entry)) (carryOf carry) (netlistOf n (now (net .entry)))) n r (now (out .exit)) (now (net .exit)) (now (idx .exit)) ⌝ }
+{
+    let mut buffer = [0u32; 3076];
+    let mut x = [0u32; 1024];
+    let mut y = [0u32; 1024];
+    let w = lhs.len();
+    let word = arithmetic_word(op);
+    put_arithmetic(&mut buffer, word, carry, lhs, rhs);
+    let k = 4 + 2 * w;
+    compute(
+        net,
+        idx,
+        n,
+        op,
+        lhs,
+        rhs,
+        carry,
+        out,
+        &mut x[..w],
+        &mut y[..w],
+        &mut buffer,
+        k,
+    )
+}
