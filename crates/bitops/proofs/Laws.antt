@@ -17,10 +17,10 @@ use Rattle.nodes.specs.Gives.{outOf, Gives}
 use Rattle.nodes.specs.declared.Added.{Added}
 use Rattle.nodes.specs.declared.Added.the-variants.{Net, TooManyNets, ListFull}
 use Rattle.ports.proofs.Laws.{ahead, Refusal}
-use Rattle.constants.specs.Values.{refusalOf, filledOf, Fills}
-use Rattle.constants.specs.declared.Filled.{Filled}
-use Rattle.constants.proofs.Filled.{the-type}
-use Rattle.constants.specs.declared.Filled.the-variants as F
+use Rattle.constant_fold.specs.Values.{refusalOf, filledOf, Fills}
+use Rattle.constant_fold.specs.declared.Filled.{Filled}
+use Rattle.constant_fold.proofs.Filled.{the-type}
+use Rattle.constant_fold.specs.declared.Filled.the-variants as F
 
 -- nets for b, b + 1, .., w of them
 unfoldable pub nets : (ℕ → Netlist → Made ℕ) → ℕ → ℕ → Netlist → Made (List ℕ)

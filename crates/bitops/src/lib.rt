@@ -6,9 +6,9 @@ ghost use Rattle.model.specs.Lowering.{addGate, addEqual};
 ghost use Rattle.netlist_view.specs.View.{netlistOf};
 ghost use Rattle.netlist_index.specs.Index.{Held};
 ghost use Rattle.nodes.specs.Gives.{Gives};
-ghost use Rattle.constants.specs.Values.{Fills};
+ghost use Rattle.constant_fold.specs.Values.{Fills};
 ghost use Rattle.bitops.specs.Kinds.{gateOf};
-use constants::Filled;
+use constant_fold::Filled;
 use nodes::Added;
 
 pub enum Gate {
@@ -48,7 +48,7 @@ pub fn not_bits(net: &mut [u32], idx: &mut [u32], n: u32, xs: &mut [u32]) -> Fil
     while i < xs.len() {
         let x = gates::add_not(net, idx, n, xs[i]);
         let Added::Net(k) = x else {
-            return constants::refusal(x);
+            return constant_fold::refusal(x);
         };
         xs[i] = k;
         i += 1;
@@ -71,7 +71,7 @@ pub fn bitwise(
     while i < xs.len() {
         let x = add_gate(net, idx, n, g, xs[i], ys[i]);
         let Added::Net(k) = x else {
-            return constants::refusal(x);
+            return constant_fold::refusal(x);
         };
         xs[i] = k;
         i += 1;
@@ -88,7 +88,7 @@ pub fn equal_bits(net: &mut [u32], idx: &mut [u32], n: u32, xs: &mut [u32], ys: 
     while i < xs.len() {
         let x = add_equal(net, idx, n, xs[i], ys[i]);
         let Added::Net(k) = x else {
-            return constants::refusal(x);
+            return constant_fold::refusal(x);
         };
         xs[i] = k;
         i += 1;
@@ -111,7 +111,7 @@ pub fn mux_bits(
     while i < ts.len() {
         let x = gates::add_mux(net, idx, n, c, ts[i], es[i]);
         let Added::Net(k) = x else {
-            return constants::refusal(x);
+            return constant_fold::refusal(x);
         };
         ts[i] = k;
         i += 1;

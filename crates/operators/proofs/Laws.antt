@@ -1,5 +1,5 @@
 -- A cell's single output at the front of a list. Assumes nothing.
-use mathlib.Core.Path.{_≡_, refl, ap, _∙_}
+use mathlib.Core.Path.{_≡_, refl, _∙_}
 use mathlib.Core.List.{List, [], _∷_}
 use Prim.Native.Nat.{ℕ, _<_}
 use native.Mathlib.Omega.{arith}
@@ -12,9 +12,9 @@ use Rattle.nodes.specs.declared.Added.{Added}
 use Rattle.nodes.specs.declared.Added.the-variants as A
 use Rattle.ports.specs.Fills.{runOf}
 use Rattle.ports.proofs.Laws.{Refusal}
-use Rattle.constants.specs.Values.{filledOf, refusalOf, Fills}
-use Rattle.constants.specs.declared.Filled.{Filled}
-use Rattle.constants.specs.declared.Filled.the-variants.{Done}
+use Rattle.constant_fold.specs.Values.{filledOf, refusalOf, Fills}
+use Rattle.constant_fold.specs.declared.Filled.{Filled}
+use Rattle.constant_fold.specs.declared.Filled.the-variants.{Done}
 use Rattle.cells.specs.Cells.{Makes}
 
 one-net : (k : ℕ) (xs : List ℕ) → 0 < length xs → from k 1 ≡ take 1 (set xs 0 k)

@@ -8,15 +8,15 @@ use Rattle.rtl.specs.Rtl as R
 use Rattle.model.specs.Words.{Netlist}
 use Rattle.model.specs.Builder.{Made, andThen, each, both, addNot}
 use Rattle.model.specs.Ranges.{OrGate}
-use Rattle.model.specs.Lowering.{addGate, reduceTree, equalWords, shift, lowerUnary, lowerBinary}
+use Rattle.model.specs.Lowering.{addGate, reduceTree, equalWords, shift, lowerBinary}
 use Rattle.model.specs.WordCells.{arithmetic, comparison}
-use Rattle.records.specs.Expr.{unaryMeans, binaryMeans}
+use Rattle.records.specs.Expr.{binaryMeans}
 use Rattle.records.specs.declared.UnaryOp.{UnaryOp}
 use Rattle.records.specs.declared.UnaryOp.the-variants as U
 use Rattle.records.specs.declared.BinaryOp.{BinaryOp}
 use Rattle.records.specs.declared.BinaryOp.the-variants as B
-use Rattle.constants.specs.Values.{opOf}
-use Rattle.constants.specs.declared.ArithmeticOp.the-variants as A
+use Rattle.constant_fold.specs.Values.{opOf}
+use Rattle.constant_fold.specs.declared.ArithmeticOp.the-variants as A
 use Rattle.cells.specs.Cells.{compareOf}
 use Rattle.cells.specs.declared.ComparisonOp.the-variants.{LessThanUnsigned, LessOrEqualUnsigned, LessThanSigned, LessOrEqualSigned}
 use Rattle.bitops.specs.Kinds.{gateOf}
@@ -70,6 +70,16 @@ classWidth (Compare op) w = 1
 classWidth (CompareBack op) w = 1
 classWidth (Shift h) w = w
 
+-- operands of w and v nets fit: equal widths, but for the amount of a shift
+abbrev pub Fit : Class → ℕ → ℕ → Type 0
+Fit (Bitwise g) w v = w ≡ v
+Fit (Arithmetic op) w v = w ≡ v
+Fit Equal w v = w ≡ v
+Fit NotEqual w v = w ≡ v
+Fit (Compare op) w v = w ≡ v
+Fit (CompareBack op) w v = w ≡ v
+Fit (Shift h) w v = Unit {0}
+
 unfoldable pub lowerClass : Class → List ℕ → List ℕ → Netlist → Made (List ℕ)
 lowerClass (Bitwise g) xs ys l = both (addGate (gateOf g)) xs ys l
 lowerClass (Arithmetic op) xs ys l = arithmetic (opOf op) xs ys none l
@@ -79,24 +89,24 @@ lowerClass (Compare op) xs ys l = comparison (compareOf op) xs ys l
 lowerClass (CompareBack op) xs ys l = comparison (compareOf op) ys xs l
 lowerClass (Shift h) xs ys l = shift (shiftOf h) xs ys l
 
-pub lower-class : (op : BinaryOp) (xs ys : List ℕ) (l : Netlist) → lowerBinary (binaryMeans op) xs ys l ≡ lowerClass (classOf op) xs ys l
+pub by-class : (op : BinaryOp) (xs ys : List ℕ) (l : Netlist) → lowerBinary (binaryMeans op) xs ys l ≡ lowerClass (classOf op) xs ys l
 unfolding lowerBinary binaryMeans lowerClass classOf
-lower-class B.And xs ys l = refl
-lower-class B.Or xs ys l = refl
-lower-class B.Xor xs ys l = refl
-lower-class B.Add xs ys l = refl
-lower-class B.Sub xs ys l = refl
-lower-class B.Mul xs ys l = refl
-lower-class B.Equal xs ys l = refl
-lower-class B.NotEqual xs ys l = refl
-lower-class B.LessThanUnsigned xs ys l = refl
-lower-class B.LessThanSigned xs ys l = refl
-lower-class B.LessOrEqualUnsigned xs ys l = refl
-lower-class B.LessOrEqualSigned xs ys l = refl
-lower-class B.GreaterThanUnsigned xs ys l = refl
-lower-class B.GreaterThanSigned xs ys l = refl
-lower-class B.GreaterOrEqualUnsigned xs ys l = refl
-lower-class B.GreaterOrEqualSigned xs ys l = refl
-lower-class B.ShiftLeft xs ys l = refl
-lower-class B.ShiftRightLogical xs ys l = refl
-lower-class B.ShiftRightArithmetic xs ys l = refl
+by-class B.And xs ys l = refl
+by-class B.Or xs ys l = refl
+by-class B.Xor xs ys l = refl
+by-class B.Add xs ys l = refl
+by-class B.Sub xs ys l = refl
+by-class B.Mul xs ys l = refl
+by-class B.Equal xs ys l = refl
+by-class B.NotEqual xs ys l = refl
+by-class B.LessThanUnsigned xs ys l = refl
+by-class B.LessThanSigned xs ys l = refl
+by-class B.LessOrEqualUnsigned xs ys l = refl
+by-class B.LessOrEqualSigned xs ys l = refl
+by-class B.GreaterThanUnsigned xs ys l = refl
+by-class B.GreaterThanSigned xs ys l = refl
+by-class B.GreaterOrEqualUnsigned xs ys l = refl
+by-class B.GreaterOrEqualSigned xs ys l = refl
+by-class B.ShiftLeft xs ys l = refl
+by-class B.ShiftRightLogical xs ys l = refl
+by-class B.ShiftRightArithmetic xs ys l = refl

@@ -1,20 +1,21 @@
 // The operators of expressions on the nets of finished operands. The result takes the place of the first operand: its front, where it is one bit.
 ghost use mathlib.Core.Path.{_≡_};
+ghost use mathlib.Core.Option.{none};
 ghost use Prim.Native.Nat.{_≤_, _<_};
 ghost use lib.ListN.{length, take};
-ghost use Rattle.model.specs.Builder.{each, addNot, andThen};
-ghost use Rattle.model.specs.Lowering.{reduceTree, equalWords, lowerUnary};
+ghost use Rattle.model.specs.Lowering.{lowerUnary, lowerBinary};
 ghost use Rattle.model.specs.WordCells as W;
 ghost use Rattle.netlist_view.specs.View.{netlistOf};
 ghost use Rattle.netlist_index.specs.Index.{Held};
-ghost use Rattle.records.specs.Expr.{unaryMeans};
-ghost use Rattle.constants.specs.Values.{Fills};
+ghost use Rattle.records.specs.Expr.{unaryMeans, binaryMeans};
+ghost use Rattle.constant_fold.specs.Values.{opOf, Fills};
 ghost use Rattle.cells.specs.Cells.{compareOf};
-ghost use Rattle.operators.specs.Operators.{unaryWidth, classOf, logicNot, notEqual};
+ghost use Rattle.operators.specs.Operators.{unaryWidth, classOf, classWidth, Fit, lowerClass, logicNot, notEqual};
 use bitops::Gate;
 use cells::ComparisonOp;
-use constants::ArithmeticOp;
-use constants::Filled;
+use constant_fold::ArithmeticOp;
+use constant_fold::Filled;
+use nodes::ABSENT;
 use nodes::Added;
 use records::BinaryOp;
 use records::UnaryOp;
@@ -55,29 +56,60 @@ fn not_equal_words(net: &mut [u32], idx: &mut [u32], n: u32, xs: &mut [u32], ys:
     trees::not_first(net, idx, n, xs)
 }
 
-fn compare(net: &mut [u32], idx: &mut [u32], n: u32, op: ComparisonOp, xs: &mut [u32], ys: &[u32]) -> Filled
+fn compare(
+    net: &mut [u32],
+    idx: &mut [u32],
+    n: u32,
+    op: ComparisonOp,
+    xs: &mut [u32],
+    ys: &[u32],
+) -> Filled
     requires { ⌜ (Held n (now net) (now idx)) × (0 < length (now xs)) × (length (now xs) ≡ length (now ys)) × (length (now xs) ≤ 1024) ⌝ }
     ensures { λ r. ⌜ Fills (W.comparison (compareOf op) (now (xs .entry)) (now (ys .entry)) (netlistOf n (now (net .entry)))) n r (take 1 (now (xs .exit))) (now (net .exit)) (now (idx .exit)) ⌝ }
 {
     let x = cells::comparison(net, idx, n, op, xs, ys);
     let Added::Net(k) = x else {
-        return constants::refusal(x);
+        return constant_fold::refusal(x);
     };
     xs[0] = k;
     Filled::Done
 }
 
 // The second operand compared with the first.
-fn compare_back(net: &mut [u32], idx: &mut [u32], n: u32, op: ComparisonOp, xs: &mut [u32], ys: &[u32]) -> Filled
+fn compare_back(
+    net: &mut [u32],
+    idx: &mut [u32],
+    n: u32,
+    op: ComparisonOp,
+    xs: &mut [u32],
+    ys: &[u32],
+) -> Filled
     requires { ⌜ (Held n (now net) (now idx)) × (0 < length (now xs)) × (length (now xs) ≡ length (now ys)) × (length (now xs) ≤ 1024) ⌝ }
     ensures { λ r. ⌜ Fills (W.comparison (compareOf op) (now (ys .entry)) (now (xs .entry)) (netlistOf n (now (net .entry)))) n r (take 1 (now (xs .exit))) (now (net .exit)) (now (idx .exit)) ⌝ }
 {
     let x = cells::comparison(net, idx, n, op, ys, xs);
     let Added::Net(k) = x else {
-        return constants::refusal(x);
+        return constant_fold::refusal(x);
     };
     xs[0] = k;
     Filled::Done
+}
+
+fn lower_arithmetic(
+    net: &mut [u32],
+    idx: &mut [u32],
+    n: u32,
+    op: ArithmeticOp,
+    xs: &mut [u32],
+    ys: &[u32],
+) -> Filled
+    requires { ⌜ (Held n (now net) (now idx)) × (0 < length (now xs)) × (length (now xs) ≡ length (now ys)) × (length (now xs) ≤ 1024) ⌝ }
+    ensures { λ r. ⌜ Fills (W.arithmetic (opOf op) (now (xs .entry)) (now (ys .entry)) none (netlistOf n (now (net .entry)))) n r (now (xs .exit)) (now (net .exit)) (now (idx .exit)) ⌝ }
+{
+    let mut lhs = [0u32; 1024];
+    let w = xs.len();
+    lists::put_words(&mut lhs, 0, xs);
+    word_cells::arithmetic(net, idx, n, op, &lhs[..w], ys, ABSENT, xs)
 }
 
 // A binary operator by what makes it.
@@ -115,4 +147,40 @@ pub fn class_of(op: BinaryOp) -> Class
         BinaryOp::ShiftRightLogical => Class::Shift(ShiftKind::Right),
         BinaryOp::ShiftRightArithmetic => Class::Shift(ShiftKind::Arithmetic),
     }
+}
+
+fn lower_class(
+    net: &mut [u32],
+    idx: &mut [u32],
+    n: u32,
+    class: Class,
+    xs: &mut [u32],
+    ys: &[u32],
+) -> Filled
+    requires { ⌜ (Held n (now net) (now idx)) × (0 < length (now xs)) × (length (now xs) ≤ 1024) × (Fit class (length (now xs)) (length (now ys))) ⌝ }
+    ensures { λ r. ⌜ Fills (lowerClass class (now (xs .entry)) (now (ys .entry)) (netlistOf n (now (net .entry)))) n r (take (classWidth class (length (now (xs .entry)))) (now (xs .exit))) (now (net .exit)) (now (idx .exit)) ⌝ }
+{
+    match class {
+        Class::Bitwise(g) => bitops::bitwise(net, idx, n, g, xs, ys),
+        Class::Arithmetic(op) => lower_arithmetic(net, idx, n, op, xs, ys),
+        Class::Equal => trees::equal_words(net, idx, n, xs, ys),
+        Class::NotEqual => not_equal_words(net, idx, n, xs, ys),
+        Class::Compare(op) => compare(net, idx, n, op, xs, ys),
+        Class::CompareBack(op) => compare_back(net, idx, n, op, xs, ys),
+        Class::Shift(kind) => shifts::shift(net, idx, n, kind, xs, ys),
+    }
+}
+
+pub fn lower_binary(
+    net: &mut [u32],
+    idx: &mut [u32],
+    n: u32,
+    op: BinaryOp,
+    xs: &mut [u32],
+    ys: &[u32],
+) -> Filled
+    requires { ⌜ (Held n (now net) (now idx)) × (0 < length (now xs)) × (length (now xs) ≤ 1024) × (Fit (classOf op) (length (now xs)) (length (now ys))) ⌝ }
+    ensures { λ r. ⌜ Fills (lowerBinary (binaryMeans op) (now (xs .entry)) (now (ys .entry)) (netlistOf n (now (net .entry)))) n r (take (classWidth (classOf op) (length (now (xs .entry)))) (now (xs .exit))) (now (net .exit)) (now (idx .exit)) ⌝ }
+{
+    lower_class(net, idx, n, class_of(op), xs, ys)
 }

@@ -18,9 +18,9 @@ use Rattle.nodes.specs.Gives.{Gives}
 use Rattle.nodes.specs.declared.Added.{Added}
 use Rattle.nodes.specs.declared.Added.the-variants as A
 use Rattle.ports.proofs.Laws.{Refusal, length-from}
-use Rattle.constants.specs.Values.{refusalOf, Fills}
-use Rattle.constants.specs.declared.Filled.{Filled}
-use Rattle.constants.specs.declared.Filled.the-variants.{Done}
+use Rattle.constant_fold.specs.Values.{refusalOf, Fills}
+use Rattle.constant_fold.specs.declared.Filled.{Filled}
+use Rattle.constant_fold.specs.declared.Filled.the-variants.{Done}
 use Rattle.bitops.proofs.Laws.{nets, both-nets, NotDone, first-out, list-by}
 
 -- within a list the default does not matter

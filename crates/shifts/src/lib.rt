@@ -6,9 +6,9 @@ ghost use Rattle.model.specs.Builder.{both, addMux};
 ghost use Rattle.model.specs.Lowering.{shifted, stages, shift};
 ghost use Rattle.netlist_view.specs.View.{netlistOf};
 ghost use Rattle.netlist_index.specs.Index.{Held};
-ghost use Rattle.constants.specs.Values.{Fills};
+ghost use Rattle.constant_fold.specs.Values.{Fills};
 ghost use Rattle.shifts.specs.Kinds.{shiftOf};
-use constants::Filled;
+use constant_fold::Filled;
 use nodes::Added;
 
 pub enum ShiftKind {
@@ -62,7 +62,7 @@ fn mux_moved(
         let t = moved_bit(kind, z, d, old, i);
         let x = gates::add_mux(net, idx, n, s, t, old[i]);
         let Added::Net(k) = x else {
-            return constants::refusal(x);
+            return constant_fold::refusal(x);
         };
         xs[i] = k;
         i += 1;
@@ -136,7 +136,7 @@ pub fn shift(
 {
     let x = gates::add_constant(net, idx, n, false);
     let Added::Net(z) = x else {
-        return constants::refusal(x);
+        return constant_fold::refusal(x);
     };
     shift_stages(net, idx, n, kind, z, xs, amount)
 }

@@ -19,9 +19,9 @@ use Rattle.nodes.specs.declared.Added.the-variants as A
 use Rattle.nodes.specs.declared.Added.the-variants.{Net}
 use Rattle.gates.proofs.Ways.{gives-by}
 use Rattle.ports.proofs.Laws.{Refusal}
-use Rattle.constants.specs.Values.{refusalOf, filledOf, Fills}
-use Rattle.constants.specs.declared.Filled.{Filled}
-use Rattle.constants.specs.declared.Filled.the-variants.{Done}
+use Rattle.constant_fold.specs.Values.{refusalOf, filledOf, Fills}
+use Rattle.constant_fold.specs.declared.Filled.{Filled}
+use Rattle.constant_fold.specs.declared.Filled.the-variants.{Done}
 use Rattle.bitops.proofs.Laws.{nets, nets-shift, Going, going-more, going-out, going-end, NotDone, refusal-not-done, first-out, list-by}
 
 -- ys behind the nets

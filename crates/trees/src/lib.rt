@@ -7,10 +7,10 @@ ghost use Rattle.model.specs.Builder.{each, addNot};
 ghost use Rattle.model.specs.Lowering.{level, reduceTree, equalWords};
 ghost use Rattle.netlist_view.specs.View.{netlistOf};
 ghost use Rattle.netlist_index.specs.Index.{Held};
-ghost use Rattle.constants.specs.Values.{Fills};
+ghost use Rattle.constant_fold.specs.Values.{Fills};
 ghost use Rattle.bitops.specs.Kinds.{gateOf};
 use bitops::Gate;
-use constants::Filled;
+use constant_fold::Filled;
 use nodes::Added;
 
 // A level over the first len nets. Pair i gives net i; the odd net follows, if there is one (if not, it is past the new end).
@@ -23,7 +23,7 @@ fn level(net: &mut [u32], idx: &mut [u32], n: u32, g: Gate, xs: &mut [u32], len:
     while i < half {
         let x = bitops::add_gate(net, idx, n, g, xs[2 * i], xs[2 * i + 1]);
         let Added::Net(k) = x else {
-            return constants::refusal(x);
+            return constant_fold::refusal(x);
         };
         xs[i] = k;
         i += 1;
@@ -54,7 +54,7 @@ pub fn not_first(net: &mut [u32], idx: &mut [u32], n: u32, xs: &mut [u32]) -> Fi
 {
     let x = gates::add_not(net, idx, n, xs[0]);
     let Added::Net(k) = x else {
-        return constants::refusal(x);
+        return constant_fold::refusal(x);
     };
     xs[0] = k;
     Filled::Done

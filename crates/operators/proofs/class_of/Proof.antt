@@ -1,178 +1,137 @@
 use borrow.Author.Needs.{needs}
 use Rattle.operators.proofs.class_of.Statement.{statement}
 use Rattle.operators.proofs.class_of.Tie as tie
-use Rattle.operators.proofs.class_of.Reads as reads
-use Rattle.operators.proofs.class_of.Lts as lts
-use mathlib.Core.Path.{_≡_, refl}
 use Rattle.operators.specs.Operators.{classOf}
 
--- src/lib.rt:98:41
 enum-told : tie.Need-enum-told
 enum-told c = search needs
 
--- src/lib.rt:99:40
 enum-told-2 : tie.Need-enum-told-2
 enum-told-2 c = search needs
 
--- src/lib.rt:100:41
 enum-told-3 : tie.Need-enum-told-3
 enum-told-3 c = search needs
 
--- src/lib.rt:101:44
 enum-told-4 : tie.Need-enum-told-4
 enum-told-4 c = search needs
 
--- src/lib.rt:102:44
 enum-told-5 : tie.Need-enum-told-5
 enum-told-5 c = search needs
 
--- src/lib.rt:103:44
 enum-told-6 : tie.Need-enum-told-6
 enum-told-6 c = search needs
 
--- src/lib.rt:104:28
 enum-told-7 : tie.Need-enum-told-7
 enum-told-7 c = search needs
 
--- src/lib.rt:105:31
 enum-told-8 : tie.Need-enum-told-8
 enum-told-8 c = search needs
 
--- src/lib.rt:106:54
 enum-told-9 : tie.Need-enum-told-9
 enum-told-9 c = search needs
 
--- src/lib.rt:107:52
 enum-told-10 : tie.Need-enum-told-10
 enum-told-10 c = search needs
 
--- src/lib.rt:108:57
 enum-told-11 : tie.Need-enum-told-11
 enum-told-11 c = search needs
 
--- src/lib.rt:109:55
 enum-told-12 : tie.Need-enum-told-12
 enum-told-12 c = search needs
 
--- src/lib.rt:110:61
 enum-told-13 : tie.Need-enum-told-13
 enum-told-13 c = search needs
 
--- src/lib.rt:111:59
 enum-told-14 : tie.Need-enum-told-14
 enum-told-14 c = search needs
 
--- src/lib.rt:112:64
 enum-told-15 : tie.Need-enum-told-15
 enum-told-15 c = search needs
 
--- src/lib.rt:113:62
 enum-told-16 : tie.Need-enum-told-16
 enum-told-16 c = search needs
 
--- src/lib.rt:114:45
 enum-told-17 : tie.Need-enum-told-17
 enum-told-17 c = search needs
 
--- src/lib.rt:115:53
 enum-told-18 : tie.Need-enum-told-18
 enum-told-18 c = search needs
 
--- src/lib.rt:116:56
 enum-told-19 : tie.Need-enum-told-19
 enum-told-19 c = search needs
 
--- src/lib.rt:94:1
 returns : tie.Need-returns
 unfolding classOf
 returns c = rw (c .enum-told .given .1)
 
--- src/lib.rt:94:1
 returns-2 : tie.Need-returns-2
 unfolding classOf
 returns-2 c = rw (c .enum-told2 .given .1)
 
--- src/lib.rt:94:1
 returns-3 : tie.Need-returns-3
 unfolding classOf
 returns-3 c = rw (c .enum-told3 .given .1)
 
--- src/lib.rt:94:1
 returns-4 : tie.Need-returns-4
 unfolding classOf
 returns-4 c = rw (c .enum-told4 .given .1)
 
--- src/lib.rt:94:1
 returns-5 : tie.Need-returns-5
 unfolding classOf
 returns-5 c = rw (c .enum-told5 .given .1)
 
--- src/lib.rt:94:1
 returns-6 : tie.Need-returns-6
 unfolding classOf
 returns-6 c = rw (c .enum-told6 .given .1)
 
--- src/lib.rt:94:1
 returns-7 : tie.Need-returns-7
 unfolding classOf
 returns-7 c = rw (c .enum-told7 .given .1)
 
--- src/lib.rt:94:1
 returns-8 : tie.Need-returns-8
 unfolding classOf
 returns-8 c = rw (c .enum-told8 .given .1)
 
--- src/lib.rt:94:1
 returns-9 : tie.Need-returns-9
 unfolding classOf
 returns-9 c = rw (c .enum-told9 .given .1)
 
--- src/lib.rt:94:1
 returns-10 : tie.Need-returns-10
 unfolding classOf
 returns-10 c = rw (c .enum-told10 .given .1)
 
--- src/lib.rt:94:1
 returns-11 : tie.Need-returns-11
 unfolding classOf
 returns-11 c = rw (c .enum-told11 .given .1)
 
--- src/lib.rt:94:1
 returns-12 : tie.Need-returns-12
 unfolding classOf
 returns-12 c = rw (c .enum-told12 .given .1)
 
--- src/lib.rt:94:1
 returns-13 : tie.Need-returns-13
 unfolding classOf
 returns-13 c = rw (c .enum-told13 .given .1)
 
--- src/lib.rt:94:1
 returns-14 : tie.Need-returns-14
 unfolding classOf
 returns-14 c = rw (c .enum-told14 .given .1)
 
--- src/lib.rt:94:1
 returns-15 : tie.Need-returns-15
 unfolding classOf
 returns-15 c = rw (c .enum-told15 .given .1)
 
--- src/lib.rt:94:1
 returns-16 : tie.Need-returns-16
 unfolding classOf
 returns-16 c = rw (c .enum-told16 .given .1)
 
--- src/lib.rt:94:1
 returns-17 : tie.Need-returns-17
 unfolding classOf
 returns-17 c = rw (c .enum-told17 .given .1)
 
--- src/lib.rt:94:1
 returns-18 : tie.Need-returns-18
 unfolding classOf
 returns-18 c = rw (c .enum-told18 .given .1)
 
--- src/lib.rt:94:1
 returns-19 : tie.Need-returns-19
 unfolding classOf
 returns-19 c = rw (c .enum-told19 .given .1)
