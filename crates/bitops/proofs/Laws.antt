@@ -1,22 +1,26 @@
 -- A list of nets that is made one by one, in place. Assumes nothing.
 use mathlib.Core.Path.{_≡_, refl, sym, ap, _∙_}
+use mathlib.Core.Logic.{⊎-elim}
 use mathlib.Core.List.{List, [], _∷_, _++_, append-assoc, append-nil}
 use Prim.Native.Nat.{ℕ, zero, suc, _+_, _-_, _≤_, _<_}
 use native.Mathlib.Omega.{arith}
-use native.Mathlib.Numerals.{add-one}
+use borrow.Author.Tests.{eqb-false}
+use denote.Enum.Declared.{tagOf}
+use types.Run.{OneOf}
 use lib.ListN.{length, getD, set, take, length-set}
 use lib.Seq.{take-suc-set, take-length, getD-set-other}
 use Rattle.model.specs.Words.{Netlist}
-use Rattle.model.specs.Builder.{Out, refused, done, andThen, Made, also, each, both}
+use Rattle.model.specs.Builder.{refused, done, andThen, Made, also, each, both}
 use Rattle.netlist_view.specs.View.{netlistOf}
 use Rattle.netlist_index.specs.Index.{Held}
 use Rattle.nodes.specs.Gives.{outOf, Gives}
 use Rattle.nodes.specs.declared.Added.{Added}
 use Rattle.nodes.specs.declared.Added.the-variants.{Net, TooManyNets, ListFull}
 use Rattle.ports.proofs.Laws.{ahead, Refusal}
-use Rattle.bitops.specs.GivesList.{failedOf, listOf, GivesList}
-use Rattle.bitops.specs.declared.Done.{Done}
-use Rattle.bitops.specs.declared.Done.the-variants as D
+use Rattle.constant_fold.specs.Values.{refusalOf, filledOf, Fills}
+use Rattle.constant_fold.specs.declared.Filled.{Filled}
+use Rattle.constant_fold.proofs.Filled.{the-type}
+use Rattle.constant_fold.specs.declared.Filled.the-variants as F
 
 -- nets for b, b + 1, .., w of them
 unfoldable pub nets : (ℕ → Netlist → Made ℕ) → ℕ → ℕ → Netlist → Made (List ℕ)
@@ -51,7 +55,7 @@ ahead-also : (ns : List ℕ) (k : ℕ) (m : Made (List ℕ)) → ahead ns (also 
 ahead-also ns k (refused j x y) = refl
 ahead-also ns k (done (ms, l)) = ap (λ (t : List ℕ). done (t, l)) (sym (append-assoc ns (k ∷ []) ms))
 
-out : (ns : List ℕ) (r : Added) → Refusal r → (ms : List ℕ) (l : Netlist) (k : ℕ × Netlist → Made (List ℕ)) → ahead ns (andThen (outOf r l) k) ≡ listOf (failedOf r) ms l
+out : (ns : List ℕ) (r : Added) → Refusal r → (ms : List ℕ) (l : Netlist) (k : ℕ × Netlist → Made (List ℕ)) → ahead ns (andThen (outOf r l) k) ≡ filledOf (refusalOf r) ms l
 out ns (Net j) q ms l k = absurd q
 out ns TooManyNets q ms l k = refl
 out ns ListFull q ms l k = refl
@@ -104,13 +108,13 @@ module _ (f : ℕ → Netlist → Made ℕ) (model : Made (List ℕ)) (n w : ℕ
       }
 
   pub going-out : (r : Added) (ns net′ idx′ : List ℕ) → i < w → Refusal r → Gives (f i (netlistOf n net)) n r net′ idx′
-      → GivesList model n (failedOf r) ns net′ idx′
+      → Fills model n (refusalOf r) ns net′ idx′
   going-out r ns net′ idx′ h q a = record {
     says = step r (netlistOf n net′) h (a .says) ∙ out (take i xs) r q ns (netlistOf n net′) (λ (k, l₁). also k (nets f (suc i) (w - suc i) l₁));
     held = a .held;
   }
 
-  pub going-end : w ≤ i → GivesList model n D.Fine (take w xs) net idx
+  pub going-end : w ≤ i → Fills model n F.Done (take w xs) net idx
   unfolding nets
   going-end h =
       let e : i ≡ w = omega (arith, g .within) in
@@ -122,7 +126,7 @@ module _ (f : ℕ → Netlist → Made ℕ) (model : Made (List ℕ)) (n w : ℕ
       }
 
   -- the whole list
-  pub going-all : w ≤ i → w ≡ length xs₀ → GivesList model n D.Fine xs net idx
+  pub going-all : w ≤ i → w ≡ length xs₀ → Fills model n F.Done xs net idx
   going-all h e =
       let z : w ≡ length xs = omega (arith, g .sized) in
       let r = going-end h in
@@ -143,3 +147,39 @@ then-out m k n r w idx q g = record { says = ap (λ (o : Made ℕ). andThen o k)
 pub then-net : (m : Made ℕ) (k : ℕ × Netlist → Made ℕ) (n j : ℕ) (r : Added) (w idx w′ idx′ : List ℕ) → Gives m n (Net j) w idx
     → Gives (k (j, netlistOf n w)) n r w′ idx′ → Gives (andThen m k) n r w′ idx′
 then-net m k n j r w idx w′ idx′ g g′ = record { says = ap (λ (o : Made ℕ). andThen o k) (g .says) ∙ g′ .says; held = g′ .held }
+
+-- ---- one call on lists after another ----
+
+-- an answer that is a refusal
+abbrev pub NotDone : Filled → Type 0
+NotDone F.Done = ⊥
+NotDone F.TooManyNets = Unit {0}
+NotDone F.ListFull = Unit {0}
+
+pub refusal-not-done : (r : Added) → Refusal r → NotDone (refusalOf r)
+refusal-not-done (Net k) q = absurd q
+refusal-not-done TooManyNets q = tt
+refusal-not-done ListFull q = tt
+
+-- the `else` of `let Filled::Done = r else` knows the tag
+pub not-done : (r : Filled) → OneOf (1 ∷ 2 ∷ []) (tagOf the-type r) → NotDone r
+not-done F.Done t = ⊎-elim (eqb-false 0 1 refl) (eqb-false 0 2 refl) t
+not-done F.TooManyNets t = tt
+not-done F.ListFull t = tt
+
+module _ (m : Made (List ℕ)) (k : List ℕ × Netlist → Made (List ℕ)) (n : ℕ) where
+  pub first-out : (r : Filled) (ns ms w idx : List ℕ) → NotDone r → Fills m n r ns w idx → Fills (andThen m k) n r ms w idx
+  first-out r ns ms w idx q g = record { says = ap (λ (o : Made (List ℕ)). andThen o k) (g .says) ∙ stays r q; held = g .held }
+    where
+      stays : (r : Filled) → NotDone r → andThen (filledOf r ns (netlistOf n w)) k ≡ filledOf r ms (netlistOf n w)
+      stays F.Done q = absurd q
+      stays F.TooManyNets q = refl
+      stays F.ListFull q = refl
+
+  pub first-then : (r : Filled) (ns ms w idx w′ idx′ : List ℕ) → Fills m n F.Done ns w idx → Fills (k (ns, netlistOf n w)) n r ms w′ idx′
+      → Fills (andThen m k) n r ms w′ idx′
+  first-then r ns ms w idx w′ idx′ g g′ = record { says = ap (λ (o : Made (List ℕ)). andThen o k) (g .says) ∙ g′ .says; held = g′ .held }
+
+-- the model says the same of both
+pub list-by : (m m′ : Made (List ℕ)) (n : ℕ) (r : Filled) (ns w idx : List ℕ) → m ≡ m′ → Fills m′ n r ns w idx → Fills m n r ns w idx
+list-by m m′ n r ns w idx e g = record { says = e ∙ g .says; held = g .held }

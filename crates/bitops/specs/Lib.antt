@@ -1,1 +1,1 @@
-pub mod GivesList
+pub mod Kinds

@@ -1,37 +1,20 @@
 // Gates over lists of nets, bit by bit. The nets stand in lent arrays; the result takes the place of the first operand.
 ghost use mathlib.Core.Path.{_≡_};
-ghost use Prim.Native.Nat.{_≤_, _<_};
-ghost use lib.ListN.{length, getD};
+ghost use lib.ListN.{length};
 ghost use Rattle.model.specs.Builder.{each, both, addNot, addMux};
 ghost use Rattle.model.specs.Lowering.{addGate, addEqual};
 ghost use Rattle.netlist_view.specs.View.{netlistOf};
 ghost use Rattle.netlist_index.specs.Index.{Held};
 ghost use Rattle.nodes.specs.Gives.{Gives};
-ghost use Rattle.bitops.specs.GivesList.{gateOf, failedOf, GivesList};
+ghost use Rattle.constant_fold.specs.Values.{Fills};
+ghost use Rattle.bitops.specs.Kinds.{gateOf};
+use constant_fold::Filled;
 use nodes::Added;
-
-// What a call on lists answers: document 01's refusals 9 and 10.
-pub enum Done {
-    Fine,
-    TooManyNets,
-    ListFull,
-}
 
 pub enum Gate {
     And,
     Or,
     Xor,
-}
-
-// The refusal that adding gave.
-pub fn failed(x: Added) -> Done
-    ensures { λ r. ⌜ r ≡ failedOf x ⌝ }
-{
-    match x {
-        Added::Net(_) => Done::Fine,
-        Added::TooManyNets => Done::TooManyNets,
-        Added::ListFull => Done::ListFull,
-    }
 }
 
 pub fn add_gate(net: &mut [u32], idx: &mut [u32], n: u32, g: Gate, a: u32, b: u32) -> Added
@@ -57,20 +40,20 @@ pub fn add_equal(net: &mut [u32], idx: &mut [u32], n: u32, a: u32, b: u32) -> Ad
     gates::add_not(net, idx, n, d)
 }
 
-pub fn not_bits(net: &mut [u32], idx: &mut [u32], n: u32, xs: &mut [u32]) -> Done
+pub fn not_bits(net: &mut [u32], idx: &mut [u32], n: u32, xs: &mut [u32]) -> Filled
     requires { ⌜ Held n (now net) (now idx) ⌝ }
-    ensures { λ r. ⌜ GivesList (each addNot (now (xs .entry)) (netlistOf n (now (net .entry)))) n r (now (xs .exit)) (now (net .exit)) (now (idx .exit)) ⌝ }
+    ensures { λ r. ⌜ Fills (each addNot (now (xs .entry)) (netlistOf n (now (net .entry)))) n r (now (xs .exit)) (now (net .exit)) (now (idx .exit)) ⌝ }
 {
     let mut i = 0;
     while i < xs.len() {
         let x = gates::add_not(net, idx, n, xs[i]);
         let Added::Net(k) = x else {
-            return failed(x);
+            return constant_fold::refusal(x);
         };
         xs[i] = k;
         i += 1;
     }
-    Done::Fine
+    Filled::Done
 }
 
 pub fn bitwise(
@@ -80,37 +63,37 @@ pub fn bitwise(
     g: Gate,
     xs: &mut [u32],
     ys: &[u32],
-) -> Done
+) -> Filled
     requires { ⌜ (Held n (now net) (now idx)) × (length (now xs) ≡ length (now ys)) ⌝ }
-    ensures { λ r. ⌜ GivesList (both (addGate (gateOf g)) (now (xs .entry)) (now (ys .entry)) (netlistOf n (now (net .entry)))) n r (now (xs .exit)) (now (net .exit)) (now (idx .exit)) ⌝ }
+    ensures { λ r. ⌜ Fills (both (addGate (gateOf g)) (now (xs .entry)) (now (ys .entry)) (netlistOf n (now (net .entry)))) n r (now (xs .exit)) (now (net .exit)) (now (idx .exit)) ⌝ }
 {
     let mut i = 0;
     while i < xs.len() {
         let x = add_gate(net, idx, n, g, xs[i], ys[i]);
         let Added::Net(k) = x else {
-            return failed(x);
+            return constant_fold::refusal(x);
         };
         xs[i] = k;
         i += 1;
     }
-    Done::Fine
+    Filled::Done
 }
 
 // Bit by bit, whether two words are equal.
-pub fn equal_bits(net: &mut [u32], idx: &mut [u32], n: u32, xs: &mut [u32], ys: &[u32]) -> Done
+pub fn equal_bits(net: &mut [u32], idx: &mut [u32], n: u32, xs: &mut [u32], ys: &[u32]) -> Filled
     requires { ⌜ (Held n (now net) (now idx)) × (length (now xs) ≡ length (now ys)) ⌝ }
-    ensures { λ r. ⌜ GivesList (both addEqual (now (xs .entry)) (now (ys .entry)) (netlistOf n (now (net .entry)))) n r (now (xs .exit)) (now (net .exit)) (now (idx .exit)) ⌝ }
+    ensures { λ r. ⌜ Fills (both addEqual (now (xs .entry)) (now (ys .entry)) (netlistOf n (now (net .entry)))) n r (now (xs .exit)) (now (net .exit)) (now (idx .exit)) ⌝ }
 {
     let mut i = 0;
     while i < xs.len() {
         let x = add_equal(net, idx, n, xs[i], ys[i]);
         let Added::Net(k) = x else {
-            return failed(x);
+            return constant_fold::refusal(x);
         };
         xs[i] = k;
         i += 1;
     }
-    Done::Fine
+    Filled::Done
 }
 
 pub fn mux_bits(
@@ -120,18 +103,18 @@ pub fn mux_bits(
     c: u32,
     ts: &mut [u32],
     es: &[u32],
-) -> Done
+) -> Filled
     requires { ⌜ (Held n (now net) (now idx)) × (length (now ts) ≡ length (now es)) ⌝ }
-    ensures { λ r. ⌜ GivesList (both (addMux c) (now (ts .entry)) (now (es .entry)) (netlistOf n (now (net .entry)))) n r (now (ts .exit)) (now (net .exit)) (now (idx .exit)) ⌝ }
+    ensures { λ r. ⌜ Fills (both (addMux c) (now (ts .entry)) (now (es .entry)) (netlistOf n (now (net .entry)))) n r (now (ts .exit)) (now (net .exit)) (now (idx .exit)) ⌝ }
 {
     let mut i = 0;
     while i < ts.len() {
         let x = gates::add_mux(net, idx, n, c, ts[i], es[i]);
         let Added::Net(k) = x else {
-            return failed(x);
+            return constant_fold::refusal(x);
         };
         ts[i] = k;
         i += 1;
     }
-    Done::Fine
+    Filled::Done
 }

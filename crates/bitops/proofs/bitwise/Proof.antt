@@ -9,7 +9,7 @@ use Rattle.model.specs.Builder.{both}
 use Rattle.model.specs.Lowering.{addGate}
 use Rattle.netlist_view.specs.View.{netlistOf}
 use Rattle.ports.proofs.Laws.{not-net}
-use Rattle.bitops.specs.GivesList.{gateOf}
+use Rattle.bitops.specs.Kinds.{gateOf}
 use Rattle.bitops.proofs.Laws.{Going, going-start, going-more, going-out, going-all, both-nets}
 
 abbrev Inv-loop : tie.InvT-loop
@@ -47,8 +47,8 @@ add-gate-requires c κs =
 enum-known-x : tie.Need-enum-known-x Inv-loop μ-loop
 enum-known-x c = search needs
 
-failed-requires : tie.Need-failed-requires Inv-loop μ-loop
-failed-requires c κs = search needs
+refusal-requires : tie.Need-refusal-requires Inv-loop μ-loop
+refusal-requires c κs = search needs
 
 same-length : tie.Need-same-length Inv-loop μ-loop
 same-length c =
@@ -71,7 +71,7 @@ returns : tie.Need-returns Inv-loop μ-loop
 returns c =
     let add-gate = c .before .before .before .before .before .before .add-gate in
     let loop = c .before .before .before .before .before .before .before .before .before .before .before .before .loop in
-    rw (c .failed .ensures) (going-out _ _ _ _ _ _ _ _ _ _ (loop .inv) (add-gate .result) _ _ _ (omega (arith, loop .inv .sized)) (not-net (add-gate .result) (c .before .match .keys2))
+    rw (c .refusal .ensures) (going-out _ _ _ _ _ _ _ _ _ _ (loop .inv) (add-gate .result) _ _ _ (omega (arith, loop .inv .sized)) (not-net (add-gate .result) (c .before .match .keys2))
     (rw (← loop .inv .rest (loop .i) (omega arith)) (add-gate .ensures)))
 
 mul-xs : tie.Need-mul-xs Inv-loop μ-loop
@@ -124,7 +124,7 @@ bitwise-spec =
     shared-slice-read-add-gate
     add-gate-requires
     enum-known-x
-    failed-requires
+    refusal-requires
     same-length
     same-length-2
     same-length-3

@@ -46,8 +46,8 @@ add-equal-requires c κs =
 enum-known-x : tie.Need-enum-known-x Inv-loop μ-loop
 enum-known-x c = search needs
 
-failed-requires : tie.Need-failed-requires Inv-loop μ-loop
-failed-requires c κs = search needs
+refusal-requires : tie.Need-refusal-requires Inv-loop μ-loop
+refusal-requires c κs = search needs
 
 same-length : tie.Need-same-length Inv-loop μ-loop
 same-length c =
@@ -70,7 +70,7 @@ returns : tie.Need-returns Inv-loop μ-loop
 returns c =
     let add-equal = c .before .before .before .before .before .before .add-equal in
     let loop = c .before .before .before .before .before .before .before .before .before .before .before .before .loop in
-    rw (c .failed .ensures) (going-out _ _ _ _ _ _ _ _ _ _ (loop .inv) (add-equal .result) _ _ _ (omega (arith, loop .inv .sized)) (not-net (add-equal .result) (c .before .match .keys2))
+    rw (c .refusal .ensures) (going-out _ _ _ _ _ _ _ _ _ _ (loop .inv) (add-equal .result) _ _ _ (omega (arith, loop .inv .sized)) (not-net (add-equal .result) (c .before .match .keys2))
     (rw (← loop .inv .rest (loop .i) (omega arith)) (add-equal .ensures)))
 
 mul-xs : tie.Need-mul-xs Inv-loop μ-loop
@@ -123,7 +123,7 @@ equal-bits-spec =
     shared-slice-read-add-equal
     add-equal-requires
     enum-known-x
-    failed-requires
+    refusal-requires
     same-length
     same-length-2
     same-length-3

@@ -45,8 +45,8 @@ add-mux-requires c κs =
 enum-known-x : tie.Need-enum-known-x Inv-loop μ-loop
 enum-known-x c = search needs
 
-failed-requires : tie.Need-failed-requires Inv-loop μ-loop
-failed-requires c κs = search needs
+refusal-requires : tie.Need-refusal-requires Inv-loop μ-loop
+refusal-requires c κs = search needs
 
 same-length : tie.Need-same-length Inv-loop μ-loop
 same-length c =
@@ -69,7 +69,7 @@ returns : tie.Need-returns Inv-loop μ-loop
 returns c =
     let add-mux = c .before .before .before .before .before .before .add-mux in
     let loop = c .before .before .before .before .before .before .before .before .before .before .before .before .loop in
-    rw (c .failed .ensures) (going-out _ _ _ _ _ _ _ _ _ _ (loop .inv) (add-mux .result) _ _ _ (omega (arith, loop .inv .sized)) (not-net (add-mux .result) (c .before .match .keys2))
+    rw (c .refusal .ensures) (going-out _ _ _ _ _ _ _ _ _ _ (loop .inv) (add-mux .result) _ _ _ (omega (arith, loop .inv .sized)) (not-net (add-mux .result) (c .before .match .keys2))
     (rw (← loop .inv .rest (loop .i) (omega arith)) (add-mux .ensures)))
 
 mul-ts : tie.Need-mul-ts Inv-loop μ-loop
@@ -122,7 +122,7 @@ mux-bits-spec =
     shared-slice-read-add-mux
     add-mux-requires
     enum-known-x
-    failed-requires
+    refusal-requires
     same-length
     same-length-2
     same-length-3

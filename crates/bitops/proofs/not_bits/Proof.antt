@@ -35,8 +35,8 @@ add-not-requires c κs =
 enum-known-x : tie.Need-enum-known-x Inv-loop μ-loop
 enum-known-x c = search needs
 
-failed-requires : tie.Need-failed-requires Inv-loop μ-loop
-failed-requires c κs = search needs
+refusal-requires : tie.Need-refusal-requires Inv-loop μ-loop
+refusal-requires c κs = search needs
 
 same-length : tie.Need-same-length Inv-loop μ-loop
 same-length c =
@@ -59,7 +59,7 @@ returns : tie.Need-returns Inv-loop μ-loop
 returns c =
     let add-not = c .before .before .before .before .before .before .add-not in
     let loop = c .before .before .before .before .before .before .before .before .before .before .before .loop in
-    rw (c .failed .ensures) (going-out _ _ _ _ _ _ _ _ _ _ (loop .inv) (add-not .result) _ _ _ (omega (arith, loop .inv .sized)) (not-net (add-not .result) (c .before .match .keys2))
+    rw (c .refusal .ensures) (going-out _ _ _ _ _ _ _ _ _ _ (loop .inv) (add-not .result) _ _ _ (omega (arith, loop .inv .sized)) (not-net (add-not .result) (c .before .match .keys2))
     (rw (← loop .inv .rest (loop .i) (omega arith)) (add-not .ensures)))
 
 mul-xs : tie.Need-mul-xs Inv-loop μ-loop
@@ -110,7 +110,7 @@ not-bits-spec =
     slice-read-add-not
     add-not-requires
     enum-known-x
-    failed-requires
+    refusal-requires
     same-length
     same-length-2
     same-length-3

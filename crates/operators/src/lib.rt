@@ -1,0 +1,186 @@
+// The operators of expressions on the nets of finished operands. The result takes the place of the first operand: its front, where it is one bit.
+ghost use mathlib.Core.Path.{_≡_};
+ghost use mathlib.Core.Option.{none};
+ghost use Prim.Native.Nat.{_≤_, _<_};
+ghost use lib.ListN.{length, take};
+ghost use Rattle.model.specs.Lowering.{lowerUnary, lowerBinary};
+ghost use Rattle.model.specs.WordCells as W;
+ghost use Rattle.netlist_view.specs.View.{netlistOf};
+ghost use Rattle.netlist_index.specs.Index.{Held};
+ghost use Rattle.records.specs.Expr.{unaryMeans, binaryMeans};
+ghost use Rattle.constant_fold.specs.Values.{opOf, Fills};
+ghost use Rattle.cells.specs.Cells.{compareOf};
+ghost use Rattle.operators.specs.Operators.{unaryWidth, classOf, classWidth, Fit, lowerClass, logicNot, notEqual};
+use bitops::Gate;
+use cells::ComparisonOp;
+use constant_fold::ArithmeticOp;
+use constant_fold::Filled;
+use nodes::ABSENT;
+use nodes::Added;
+use records::BinaryOp;
+use records::UnaryOp;
+use shifts::ShiftKind;
+
+fn logic_not(net: &mut [u32], idx: &mut [u32], n: u32, xs: &mut [u32]) -> Filled
+    requires { ⌜ (Held n (now net) (now idx)) × (0 < length (now xs)) ⌝ }
+    ensures { λ r. ⌜ Fills (logicNot (now (xs .entry)) (netlistOf n (now (net .entry)))) n r (take 1 (now (xs .exit))) (now (net .exit)) (now (idx .exit)) ⌝ }
+{
+    let r = trees::reduce_tree(net, idx, n, Gate::Or, xs);
+    let Filled::Done = r else {
+        return r;
+    };
+    trees::not_first(net, idx, n, xs)
+}
+
+pub fn lower_unary(net: &mut [u32], idx: &mut [u32], n: u32, op: UnaryOp, xs: &mut [u32]) -> Filled
+    requires { ⌜ (Held n (now net) (now idx)) × (0 < length (now xs)) ⌝ }
+    ensures { λ r. ⌜ Fills (lowerUnary (unaryMeans op) (now (xs .entry)) (netlistOf n (now (net .entry)))) n r (take (unaryWidth op (length (now (xs .entry)))) (now (xs .exit))) (now (net .exit)) (now (idx .exit)) ⌝ }
+{
+    match op {
+        UnaryOp::BitNot => bitops::not_bits(net, idx, n, xs),
+        UnaryOp::LogicNot => logic_not(net, idx, n, xs),
+        UnaryOp::ReduceOr => trees::reduce_tree(net, idx, n, Gate::Or, xs),
+        UnaryOp::ReduceAnd => trees::reduce_tree(net, idx, n, Gate::And, xs),
+        UnaryOp::ReduceXor => trees::reduce_tree(net, idx, n, Gate::Xor, xs),
+    }
+}
+
+fn not_equal_words(net: &mut [u32], idx: &mut [u32], n: u32, xs: &mut [u32], ys: &[u32]) -> Filled
+    requires { ⌜ (Held n (now net) (now idx)) × (0 < length (now xs)) × (length (now xs) ≡ length (now ys)) ⌝ }
+    ensures { λ r. ⌜ Fills (notEqual (now (xs .entry)) (now (ys .entry)) (netlistOf n (now (net .entry)))) n r (take 1 (now (xs .exit))) (now (net .exit)) (now (idx .exit)) ⌝ }
+{
+    let r = trees::equal_words(net, idx, n, xs, ys);
+    let Filled::Done = r else {
+        return r;
+    };
+    trees::not_first(net, idx, n, xs)
+}
+
+fn compare(
+    net: &mut [u32],
+    idx: &mut [u32],
+    n: u32,
+    op: ComparisonOp,
+    xs: &mut [u32],
+    ys: &[u32],
+) -> Filled
+    requires { ⌜ (Held n (now net) (now idx)) × (0 < length (now xs)) × (length (now xs) ≡ length (now ys)) × (length (now xs) ≤ 1024) ⌝ }
+    ensures { λ r. ⌜ Fills (W.comparison (compareOf op) (now (xs .entry)) (now (ys .entry)) (netlistOf n (now (net .entry)))) n r (take 1 (now (xs .exit))) (now (net .exit)) (now (idx .exit)) ⌝ }
+{
+    let x = cells::comparison(net, idx, n, op, xs, ys);
+    let Added::Net(k) = x else {
+        return constant_fold::refusal(x);
+    };
+    xs[0] = k;
+    Filled::Done
+}
+
+// The second operand compared with the first.
+fn compare_back(
+    net: &mut [u32],
+    idx: &mut [u32],
+    n: u32,
+    op: ComparisonOp,
+    xs: &mut [u32],
+    ys: &[u32],
+) -> Filled
+    requires { ⌜ (Held n (now net) (now idx)) × (0 < length (now xs)) × (length (now xs) ≡ length (now ys)) × (length (now xs) ≤ 1024) ⌝ }
+    ensures { λ r. ⌜ Fills (W.comparison (compareOf op) (now (ys .entry)) (now (xs .entry)) (netlistOf n (now (net .entry)))) n r (take 1 (now (xs .exit))) (now (net .exit)) (now (idx .exit)) ⌝ }
+{
+    let x = cells::comparison(net, idx, n, op, ys, xs);
+    let Added::Net(k) = x else {
+        return constant_fold::refusal(x);
+    };
+    xs[0] = k;
+    Filled::Done
+}
+
+fn lower_arithmetic(
+    net: &mut [u32],
+    idx: &mut [u32],
+    n: u32,
+    op: ArithmeticOp,
+    xs: &mut [u32],
+    ys: &[u32],
+) -> Filled
+    requires { ⌜ (Held n (now net) (now idx)) × (0 < length (now xs)) × (length (now xs) ≡ length (now ys)) × (length (now xs) ≤ 1024) ⌝ }
+    ensures { λ r. ⌜ Fills (W.arithmetic (opOf op) (now (xs .entry)) (now (ys .entry)) none (netlistOf n (now (net .entry)))) n r (now (xs .exit)) (now (net .exit)) (now (idx .exit)) ⌝ }
+{
+    let mut lhs = [0u32; 1024];
+    let w = xs.len();
+    lists::put_words(&mut lhs, 0, xs);
+    word_cells::arithmetic(net, idx, n, op, &lhs[..w], ys, ABSENT, xs)
+}
+
+// A binary operator by what makes it.
+pub enum Class {
+    Bitwise(Gate),
+    Arithmetic(ArithmeticOp),
+    Equal,
+    NotEqual,
+    Compare(ComparisonOp),
+    CompareBack(ComparisonOp),
+    Shift(ShiftKind),
+}
+
+pub fn class_of(op: BinaryOp) -> Class
+    ensures { λ r. ⌜ r ≡ classOf op ⌝ }
+{
+    match op {
+        BinaryOp::And => Class::Bitwise(Gate::And),
+        BinaryOp::Or => Class::Bitwise(Gate::Or),
+        BinaryOp::Xor => Class::Bitwise(Gate::Xor),
+        BinaryOp::Add => Class::Arithmetic(ArithmeticOp::Add),
+        BinaryOp::Sub => Class::Arithmetic(ArithmeticOp::Subtract),
+        BinaryOp::Mul => Class::Arithmetic(ArithmeticOp::Multiply),
+        BinaryOp::Equal => Class::Equal,
+        BinaryOp::NotEqual => Class::NotEqual,
+        BinaryOp::LessThanUnsigned => Class::Compare(ComparisonOp::LessThanUnsigned),
+        BinaryOp::LessThanSigned => Class::Compare(ComparisonOp::LessThanSigned),
+        BinaryOp::LessOrEqualUnsigned => Class::Compare(ComparisonOp::LessOrEqualUnsigned),
+        BinaryOp::LessOrEqualSigned => Class::Compare(ComparisonOp::LessOrEqualSigned),
+        BinaryOp::GreaterThanUnsigned => Class::CompareBack(ComparisonOp::LessThanUnsigned),
+        BinaryOp::GreaterThanSigned => Class::CompareBack(ComparisonOp::LessThanSigned),
+        BinaryOp::GreaterOrEqualUnsigned => Class::CompareBack(ComparisonOp::LessOrEqualUnsigned),
+        BinaryOp::GreaterOrEqualSigned => Class::CompareBack(ComparisonOp::LessOrEqualSigned),
+        BinaryOp::ShiftLeft => Class::Shift(ShiftKind::Left),
+        BinaryOp::ShiftRightLogical => Class::Shift(ShiftKind::Right),
+        BinaryOp::ShiftRightArithmetic => Class::Shift(ShiftKind::Arithmetic),
+    }
+}
+
+fn lower_class(
+    net: &mut [u32],
+    idx: &mut [u32],
+    n: u32,
+    class: Class,
+    xs: &mut [u32],
+    ys: &[u32],
+) -> Filled
+    requires { ⌜ (Held n (now net) (now idx)) × (0 < length (now xs)) × (length (now xs) ≤ 1024) × (Fit class (length (now xs)) (length (now ys))) ⌝ }
+    ensures { λ r. ⌜ Fills (lowerClass class (now (xs .entry)) (now (ys .entry)) (netlistOf n (now (net .entry)))) n r (take (classWidth class (length (now (xs .entry)))) (now (xs .exit))) (now (net .exit)) (now (idx .exit)) ⌝ }
+{
+    match class {
+        Class::Bitwise(g) => bitops::bitwise(net, idx, n, g, xs, ys),
+        Class::Arithmetic(op) => lower_arithmetic(net, idx, n, op, xs, ys),
+        Class::Equal => trees::equal_words(net, idx, n, xs, ys),
+        Class::NotEqual => not_equal_words(net, idx, n, xs, ys),
+        Class::Compare(op) => compare(net, idx, n, op, xs, ys),
+        Class::CompareBack(op) => compare_back(net, idx, n, op, xs, ys),
+        Class::Shift(kind) => shifts::shift(net, idx, n, kind, xs, ys),
+    }
+}
+
+pub fn lower_binary(
+    net: &mut [u32],
+    idx: &mut [u32],
+    n: u32,
+    op: BinaryOp,
+    xs: &mut [u32],
+    ys: &[u32],
+) -> Filled
+    requires { ⌜ (Held n (now net) (now idx)) × (0 < length (now xs)) × (length (now xs) ≤ 1024) × (Fit (classOf op) (length (now xs)) (length (now ys))) ⌝ }
+    ensures { λ r. ⌜ Fills (lowerBinary (binaryMeans op) (now (xs .entry)) (now (ys .entry)) (netlistOf n (now (net .entry)))) n r (take (classWidth (classOf op) (length (now (xs .entry)))) (now (xs .exit))) (now (net .exit)) (now (idx .exit)) ⌝ }
+{
+    lower_class(net, idx, n, class_of(op), xs, ys)
+}
