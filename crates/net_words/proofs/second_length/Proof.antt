@@ -1,0 +1,43 @@
+-- `net_words::second_length` meets its contract. Assumes nothing.
+use borrow.Author.Needs.{needs}
+use Rattle.net_words.proofs.second_length.Statement.{statement}
+use Rattle.net_words.proofs.second_length.Tie as tie
+use Prim.Native.Nat.{ℕ}
+use mathlib.Core.Path.{refl, sym, ap, _∙_}
+use native.Mathlib.Omega.{arith}
+use lib.ListN.{drop}
+use denote.Ref.{now}
+use Rattle.rules.specs.Laws.{eq-yes, eq-no, pick-hit, pick-skip}
+use Rattle.meaning.specs.NetlistImage.{portLength}
+use Rattle.net_words.specs.Lengths.{secondLength}
+
+word-at-requires : tie.Need-word-at-requires
+word-at-requires c κs = search needs
+
+port-length-requires : tie.Need-port-length-requires
+port-length-requires c κs = search needs
+
+part-requires : tie.Need-part-requires
+part-requires c κs = search needs
+
+port-length-requires-2 : tie.Need-port-length-requires-2
+port-length-requires-2 c κs = search needs
+
+returns : tie.Need-returns
+unfolding secondLength
+returns c = (pick-hit _ (eq-yes _ _ (sym (c .before .before .before .before .word-at .ensures) ∙ c .before .before .before .if1 .taken)) (c .port-length2 .ensures .0 ∙ ap portLength (c .before .part .ensures ∙ ap (λ (n : ℕ). drop n (now (c .before .before .before .before .before .before .before .args .p))) (c .before .before .port-length .ensures .0))), c .port-length2 .ensures .1)
+
+returns-2 : tie.Need-returns-2
+unfolding secondLength
+returns-2 c = (pick-skip _ (eq-no _ _ (λ e. c .if1 .left (c .before .word-at .ensures ∙ e))) refl, omega arith)
+
+pub second-length-spec : {M : Type 1} → statement M
+second-length-spec =
+    tie.close
+    (tie.spec
+    word-at-requires
+    port-length-requires
+    part-requires
+    port-length-requires-2
+    returns
+    returns-2)

@@ -1,0 +1,2 @@
+-- The lengths of list records.
+pub mod Lengths

@@ -1,0 +1,2 @@
+-- Writing into a buffer, and lines.
+pub mod Text
