@@ -1,15 +1,14 @@
 -- A run of nets kept as a signal's, and what adding it gives on netlist words and scratch. Assumes nothing.
 use mathlib.Core.Path.{_≡_, refl, sym, ap, _∙_}
-use mathlib.Core.List.{List, [], _∷_, _++_}
+use mathlib.Core.List.{List}
 use Prim.Native.Nat.{ℕ, zero, suc, _+_, _*_, _≤_, _<_}
 use native.Mathlib.Omega.{arith}
 use lib.ListN.{length, getD, take, drop, replicate}
 use lib.Seq.{sets, length-sets, sets-eq, take-at, getD-take, take-add, drop-at, length-take-le}
 use Rattle.model.specs.Words.{Netlist}
-use Rattle.model.specs.Builder.{Out, done, Made, from}
-use Rattle.model.specs.Lowering.{State, reserve, setSignal, withNetlist}
+use Rattle.model.specs.Builder.{done, Made, from}
+use Rattle.model.specs.Lowering.{State, reserve, setSignal}
 use Rattle.netlist_view.specs.View.{netlistOf}
-use Rattle.netlist_index.specs.Index.{Held}
 use Rattle.table_view.specs.View.{limitOf, stateOf, Laid, Writes}
 use Rattle.tables.specs.Answers.{Small}
 use Rattle.nodes.specs.declared.Added.{Added}

@@ -3,11 +3,11 @@
 use mathlib.Core.Path.{_≡_}
 use mathlib.Core.List.{List}
 use Prim.Native.Nat.{ℕ, _+_, _*_, _≤_, _<_}
-use lib.ListN.{length, getD, take, drop}
-use Rattle.meaning.specs.Image.{countAt, memoryAt, decode}
+use lib.ListN.{getD, take, drop}
+use Rattle.meaning.specs.Image.{countAt}
 use Rattle.model.specs.Words.{Netlist}
-use Rattle.model.specs.Builder.{Out, refused, done, andThen}
-use Rattle.model.specs.Lowering.{State, reserve, reserveBits, reserveSecond, signalWidth}
+use Rattle.model.specs.Builder.{Out, refused, done}
+use Rattle.model.specs.Lowering.{State, reserve}
 use Rattle.checks.specs.Accepted.{Accepted}
 use Rattle.netlist_view.specs.View.{netlistOf}
 use Rattle.netlist_index.specs.Index.{Held}
@@ -56,9 +56,3 @@ pub record Reserves (model : Out State) (s net w : List ℕ) (r : Reserved) (net
   pub says : model ≡ outOf r (heldState s net′ w′)
   pub ready : Ready s net′ w′
   pub stays : Stays s w w′
-
--- memory k's first port, then its second
-abbrev pub reserveMemory : List ℕ → ℕ → State → Out State
-reserveMemory s k st =
-    andThen (reserveBits (decode s) 9 k 0 (memoryAt s k .first .readData) st)
-    (λ st₁. reserveSecond (decode s) k (signalWidth (decode s) (memoryAt s k .first .readData)) (memoryAt s k .second) st₁)

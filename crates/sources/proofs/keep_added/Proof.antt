@@ -4,8 +4,6 @@ use Rattle.sources.proofs.keep_added.Tie as tie
 use Rattle.sources.proofs.keep_added.Reads as reads
 use Rattle.sources.proofs.keep_added.Lts as lts
 use Rattle.sources.proofs.keep_run.Reads as keep-run-reads
-use native.Mathlib.Omega.{arith}
-use mathlib.Core.Path.{_≡_, refl, sym, ap, _∙_}
 use Rattle.sources.proofs.Laws.{kept-run, kept-nets, kept-list}
 
 -- src/lib.rt:40:20

@@ -6,12 +6,8 @@ use Rattle.sources.proofs.keep_run.Lts as lts
 use Rattle.ports.proofs.put_run.Reads as put-run-reads
 use Rattle.tables.proofs.keep_signals.Reads as keep-signals-reads
 use native.Mathlib.Omega.{arith}
-use mathlib.Core.Path.{_≡_, refl, sym, ap, _∙_}
-use mathlib.Core.List.{List}
 use Prim.Native.Nat.{ℕ, _≤_}
 use lib.ListN.{length, replicate}
-use Rattle.model.specs.Lowering.{setSignal}
-use Rattle.table_view.specs.View.{Writes}
 use Rattle.sources.proofs.Laws.{run-taken, run-long, run-small}
 
 -- src/lib.rt:30:20

@@ -7,7 +7,7 @@ use Rattle.fields.proofs.signal_width.Reads as signal-width-reads
 use Rattle.ports.proofs.add_nodes.Reads as add-nodes-reads
 use Rattle.sources.proofs.keep_added.Reads as keep-added-reads
 use native.Mathlib.Omega.{arith}
-use mathlib.Core.Path.{_≡_, refl, sym, ap, _∙_}
+use mathlib.Core.Path.{sym, _∙_}
 use Rattle.table_view.specs.Bounds.{signal-width}
 use Rattle.sources.proofs.Laws.{reserved}
 

@@ -6,7 +6,6 @@ use Rattle.sources.proofs.reserve_port.Lts as lts
 use Rattle.ports.proofs.add_input_port.Reads as add-input-port-reads
 use Rattle.sources.proofs.keep_added.Reads as keep-added-reads
 use native.Mathlib.Omega.{arith}
-use mathlib.Core.Path.{_≡_, refl, sym, ap, _∙_}
 use Rattle.sources.proofs.Laws.{reserved}
 
 -- src/lib.rt:54:40
