@@ -2,7 +2,7 @@
 ghost use mathlib.Core.Path.{_≡_};
 ghost use mathlib.Core.Bool.{false};
 ghost use Prim.Native.Nat.{ℕ, _+_, _≤_, _<_};
-ghost use Rattle.meaning.specs.Image.{countAt, signalWidth, decode};
+ghost use Rattle.meaning.specs.Image.{countAt, signalWidth, registerAt, decode};
 ghost use Rattle.model.specs.Words.{source};
 ghost use Rattle.model.specs.Builder.{from, addInputPort};
 ghost use Rattle.model.specs.Lowering.{setSignal, reserve, reserveBits};
@@ -70,4 +70,13 @@ pub fn reserve_bits(
     let n = fields::signal_width(image, p);
     let x = ports::add_nodes(net, scr[0], kind, owner, b, n);
     keep_added(image, scr, p, n, x)
+}
+
+// The output nodes of register k.
+pub fn reserve_register(image: &[u8], net: &mut [u32], scr: &mut [u32], k: u32) -> Reserved
+    requires { ⌜ (Ready (now image) (now net) (now scr)) × (k < countAt (now image) 4) ⌝ }
+    ensures { λ r. ⌜ Reserves (reserveBits (decode (now (image .entry))) 7 k 0 (registerAt (now (image .entry)) k .target) (heldState (now (image .entry)) (now (net .entry)) (now (scr .entry)))) (now (image .entry)) (now (net .entry)) (now (scr .entry)) r (now (net .exit)) (now (scr .exit)) ⌝ }
+{
+    let target = fields::record_field(image, 4, k, 2);
+    reserve_bits(image, net, scr, 7, k, 0, target)
 }
