@@ -1,23 +1,19 @@
 -- For each way through the functions that read operands one law, from what they call to what they give. Assumes nothing.
-use mathlib.Core.Path.{_≡_, refl, sym, ap, subst, _∙_}
+use mathlib.Core.Path.{_≡_, refl, sym, ap, _∙_}
 use mathlib.Core.Bool.{Bool, true, false, cond}
-use mathlib.Core.List.{List, [], _∷_, _++_, append-nil}
+use mathlib.Core.List.{List, _++_}
 use mathlib.Core.Option.{Option, none, some}
 use Prim.Native.Nat.{ℕ, zero, suc, _+_, _-_, _*_, _≤_, _<_, max}
 use native.Mathlib.Omega.{arith}
-use native.Mathlib.Numerals.{add-one}
 use native.Mathlib.Nat.{zero-add}
-use lib.ListN.{length, getD, take, length-take}
+use lib.ListN.{length, getD, take}
 use lib.Seq.{paste, take-paste, take-take, take-length}
 use lib.Dec.{ltb, ltb→lt}
 use Rattle.rules.specs.Rules.{each, listOf, sumTo}
 use Rattle.rtl.specs.Rtl as R
-use Rattle.rtl.specs.Rtl.{Valuation, word}
+use Rattle.rtl.specs.Rtl.{word}
 use Rattle.meaning.specs.Image.{countAt, exprWidth, listWord}
-use Rattle.model.specs.Words.{Netlist, absent}
-use Rattle.model.specs.Builder as B
-use Rattle.model.specs.Builder.{Made, both, addMux}
-use Rattle.model.specs.WordCells.{arithmetic}
+use Rattle.model.specs.Words.{Netlist}
 use Rattle.model.specs.Ranges.{widthAt, adderWidth, narrowBy, rangeAt}
 use Rattle.model.specs.Ranges as ranges
 use Rattle.model.specs.Lowering.{State, Operands, operandsOf, rangeNets, wholeNets, wholeNet, partNets, truncated, resized, lowerUnary, lowerBinary, buildOperands, buildBinary, buildMux}
@@ -28,16 +24,15 @@ use Rattle.records.specs.Expr.{unaryMeans, binaryMeans}
 use Rattle.records.specs.declared.UnaryOp.{UnaryOp}
 use Rattle.records.specs.declared.BinaryOp.{BinaryOp}
 use Rattle.records.specs.declared.BinaryOp.the-variants as BO
-use Rattle.expr_laws.specs.Exprs.{exprsOf, Readable, width-at, in-exprs, length-exprs, width-least}
+use Rattle.expr_laws.specs.Exprs.{exprsOf, width-at, in-exprs, width-least}
 use Rattle.fusion.specs.Fusion.{partsOf}
 use Rattle.table_view.specs.Rows.{length-listOf, sum-suc}
-use Rattle.table_view.specs.View as V0
-use Rattle.table_view.specs.View.{limitOf, isWhole, stateOf, Laid, bitAt, netWord}
+use Rattle.table_view.specs.View as view
+use Rattle.table_view.specs.View.{limitOf, isWhole, stateOf, Laid}
 use Rattle.table_view.specs.Reads.{read-range, whole-nets}
-use Rattle.tasks.specs.Tasks.{taskMade, narrowOf, cutTo, JobFits, Read}
+use Rattle.tasks.specs.Tasks.{taskMade, narrowOf, cutTo, Read}
 use Rattle.tasks.specs.declared.Task.the-variants as T
-use Rattle.tasks.specs.declared.Job.{Job}
-use Rattle.operands.specs.Reads.{WholeIn, CopiedWhole, Parts, partsWidth, MuxIn, CarryIn, AddIn, addMade}
+use Rattle.operands.specs.Reads.{WholeIn, CopiedWhole, partsWidth, MuxIn, CarryIn, AddIn, addMade}
 
 -- ---- copies ----
 
@@ -311,5 +306,5 @@ module _ (s w : List ℕ) (e a b : ℕ) (i : AddIn s w e a b) where
   -- word 6 of the expression, where the code finds it
   pub narrow-word : getD w (getD w 2 0 + 8 * e + 6) 0 ≡ narrowWord (adderWidth (exprsOf s) e)
   narrow-word =
-      let m : getD w 2 0 + 8 * e + 6 ≡ V0.exprAt s (limitOf w) e 6 = omega (arith, i .laid .exprs) in
+      let m : getD w 2 0 + 8 * e + 6 ≡ view.exprAt s (limitOf w) e 6 = omega (arith, i .laid .exprs) in
       ap (λ (j : ℕ). getD w j 0) m ∙ i .narrowed

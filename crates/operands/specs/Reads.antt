@@ -1,10 +1,10 @@
 -- What reading the nets of operands gives, and what must be lowered for it. Assumes nothing.
 use mathlib.Core.Path.{_≡_}
-use mathlib.Core.Bool.{Bool, true, cond}
-use mathlib.Core.List.{List, [], _∷_, _++_}
+use mathlib.Core.Bool.{true}
+use mathlib.Core.List.{List, _++_}
 use mathlib.Core.Option.{Option, none, some}
 use Prim.Native.Nat.{ℕ, _+_, _≤_, _<_}
-use lib.ListN.{length, getD, take}
+use lib.ListN.{getD, take}
 use Rattle.rules.specs.Rules.{sumTo}
 use Rattle.rtl.specs.Rtl as R
 use Rattle.meaning.specs.Image.{countAt, exprWidth, listWord}

@@ -1,20 +1,18 @@
 // The operands of an expression, read from the tables into two lists of nets, and what is to be made of them.
 ghost use mathlib.Core.Path.{_≡_};
-ghost use mathlib.Core.Bool.{Bool, true, false};
 ghost use mathlib.Core.List.{List};
 ghost use Prim.Native.Nat.{ℕ, _+_, _≤_, _<_};
 ghost use lib.ListN.{length, take};
-ghost use Rattle.rules.specs.Rules.{sumTo};
-ghost use Rattle.meaning.specs.Image.{countAt, exprWidth, signalWidth, listWord};
+ghost use Rattle.meaning.specs.Image.{exprWidth};
 ghost use Rattle.model.specs.Words.{Netlist};
 ghost use Rattle.model.specs.Lowering.{partNets, wholeNet, wholeNets, lowerUnary, lowerBinary, buildMux};
 ghost use mathlib.Core.Option.{none};
 ghost use Rattle.word_laws.specs.Widths.{UnWidth, BinWidth};
 ghost use Rattle.records.specs.Expr.{unaryMeans, binaryMeans};
 ghost use Rattle.fusion.specs.Fusion.{partsOf};
-ghost use Rattle.table_view.specs.View.{limitOf, isWhole, stateOf, Laid};
+ghost use Rattle.table_view.specs.View.{stateOf, Laid};
 ghost use Rattle.tasks.specs.Tasks.{Read, cutTo};
-ghost use Rattle.operands.specs.Reads.{IsWhole, CopiedWhole, Parts, WholeIn, MuxIn, AddIn, addMade, partsWidth};
+ghost use Rattle.operands.specs.Reads.{CopiedWhole, Parts, WholeIn, MuxIn, AddIn, addMade, partsWidth};
 use fusion::Fusion;
 use records::BinaryOp;
 use records::UnaryOp;

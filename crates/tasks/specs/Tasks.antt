@@ -1,9 +1,8 @@
 -- What the tasks stand for in the model, and when their widths fit. Assumes nothing.
 use mathlib.Core.Path.{_≡_}
-use mathlib.Core.Bool.{Bool}
 use mathlib.Core.List.{List}
 use mathlib.Core.Option.{Option, none, some}
-use Prim.Native.Nat.{ℕ, zero, suc, _+_, _≤_, _<_}
+use Prim.Native.Nat.{ℕ, zero, suc, _+_, _≤_}
 use lib.ListN.{take, drop}
 use Rattle.rtl.specs.Word.{bits}
 use Rattle.meaning.specs.Image.{constantOf, constantWords}

@@ -1,5 +1,5 @@
--- The walk's invariant over image, netlist words and scratch (`Ready`), the state that they hold (`walkState`), and what a call of the
--- walk gives: `Builds` outside the recursion, `Gives` within it. Assumes nothing.
+-- The walk's invariant over image, netlist words and scratch (`Ready`; `Sure` of the state that they hold, `walkState`), and what a
+-- call of the walk gives: `Builds` outside the recursion, `Gives` within it, `Phase` around it. Assumes nothing.
 use mathlib.Core.Path.{_≡_}
 use mathlib.Core.Bool.{true, false}
 use mathlib.Core.List.{List}
@@ -15,6 +15,7 @@ use Rattle.range_rows.specs.Rows.{narrowWord}
 use Rattle.netlist_view.specs.View.{netlistOf}
 use Rattle.netlist_index.specs.Index.{Held}
 use Rattle.table_view.specs.View.{limitOf, exprAt, stateOf, free, Laid}
+use Rattle.walk_laws.specs.Kept.{Inv}
 use Rattle.walk_view.specs.Met.{met, Grows}
 use Rattle.walk_view.specs.declared.Lowered.{Lowered}
 use Rattle.walk_view.specs.declared.Lowered.the-variants.{Done, Undriven, Loop, Reset, TooManyNets, ListFull}
@@ -37,6 +38,10 @@ pub record Ready (s net w : List ℕ) : Type 0 where
   pub laid : Laid s w
   pub held : Held (limitOf w) net (indexOf w)
   pub narrowed : Narrowed s w
+
+-- the nets in the tables are there and give the bits meant
+abbrev pub Sure : List ℕ → List ℕ → List ℕ → Type 0
+Sure s net w = Inv (decode s) (walkState s net w)
 
 -- what a call leaves as it was: lengths, fixed words; it unmarks nothing
 pub record Kept (s net w net′ w′ : List ℕ) : Type 0 where
@@ -85,3 +90,9 @@ pub record Gives (s net w : List ℕ) (n : Need) (r : Lowered) (net′ w′ : Li
   pub kept : Kept s net w net′ w′
   pub meets : r ≡ Done → met (walkState s net′ w′) n ≡ true
   pub grows : Grows (walkState s net w) (walkState s net′ w′)
+
+-- a call around the recursion: sources, memories, registers, outputs
+pub record Phase (model : Out State) (s net w : List ℕ) (r : Lowered) (net′ w′ : List ℕ) : Type 0 where
+  pub says : model ≡ outOf r (walkState s net′ w′)
+  pub ready : Ready s net′ w′
+  pub kept : Kept s net w net′ w′

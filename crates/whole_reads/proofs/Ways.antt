@@ -1,7 +1,7 @@
 -- For each kind of expression one law: what is asked lets its operands be read, and what was read is what the model makes. Assumes nothing.
 use mathlib.Core.Path.{_≡_, refl, sym, ap, _∙_}
-use mathlib.Core.Bool.{Bool, true, false, true≢false}
-use mathlib.Core.List.{List, [], _∷_, map}
+use mathlib.Core.Bool.{true, false, true≢false}
+use mathlib.Core.List.{List, [], _∷_}
 use mathlib.Core.Logic.{⊎-elim}
 use mathlib.Core.Option.{Option, none, some}
 use types.Run.{OneOf}
@@ -10,19 +10,19 @@ use borrow.Author.Tests.{eqb-false}
 use Prim.Native.Nat.{ℕ, zero, suc, _+_, _≤_, _<_}
 use native.Mathlib.Omega.{arith}
 use native.Mathlib.Nat.{zero-add}
-use lib.ListN.{length, getD, take, drop, length-map}
+use lib.ListN.{length, take, length-map}
 use lib.Seq.{paste, take-paste, take-length}
 use Rattle.rules.specs.Rules.{each, listOf, sumTo}
 use Rattle.rtl.specs.Word.{bits, length-bits}
 use Rattle.rtl.specs.Rtl as R
-use Rattle.meaning.specs.Image.{countAt, exprWidth, signalWidth, listWord, constantOf, constantWords}
+use Rattle.meaning.specs.Image.{countAt, exprWidth, signalWidth, listWord, constantOf}
 use Rattle.model.specs.Words.{Netlist}
 use Rattle.model.specs.Builder.{Made, done, from}
 use Rattle.model.specs.Ranges.{widthAt, classOf}
 use Rattle.model.specs.Ranges as ranges
-use Rattle.model.specs.Lowering.{State, Operands, isAdd, operandsOf, operandSteps, wholes, backwards, kindSteps, wholeSteps, signalNets, rangeNets, partNets, lowerUnary, lowerBinary, wholeNet, wholeNets, buildMux, buildBinary, buildKind, buildWhole}
+use Rattle.model.specs.Lowering.{State, isAdd, operandsOf, operandSteps, wholes, backwards, kindSteps, wholeSteps, signalNets, rangeNets, partNets, lowerUnary, lowerBinary, wholeNet, wholeNets, buildMux, buildBinary, buildKind, buildWhole}
 use Rattle.word_laws.specs.Widths.{AllBelow, sumOf, UnWidth, BinWidth, BelowE, WidthOk}
-use Rattle.range_laws.specs.Fusion.{Operate, CarryBelow, operands}
+use Rattle.range_laws.specs.Fusion.{CarryBelow, operands}
 use Rattle.records.specs.Expr.{unaryMeans, binaryMeans, kindMeans, Decoded}
 use Rattle.records.specs.declared.UnaryOp.{UnaryOp}
 use Rattle.records.specs.declared.BinaryOp.{BinaryOp}
@@ -30,19 +30,19 @@ use Rattle.records.specs.declared.BinaryOp.the-variants as B
 use Rattle.records.specs.declared.Expression.{Expression}
 use Rattle.records.specs.declared.ExprKind.{ExprKind}
 use Rattle.records.specs.declared.ExprKind.the-variants as K
-use Rattle.expr_laws.specs.Exprs.{exprsOf, Readable, Listed, width-at, in-exprs, width-least, width-read, kind-read, listed-read}
+use Rattle.expr_laws.specs.Exprs.{exprsOf, Listed, width-at, in-exprs, width-least, width-read, kind-read, listed-read}
 use Rattle.op_class.specs.OpClass.{opClassOf, addsOf, add-class}
 use Rattle.op_class.specs.declared.OpClass.{OpClass}
 use Rattle.op_class.proofs.OpClass.{the-type}
 use Rattle.op_class.specs.declared.OpClass.the-variants as C
 use Rattle.fusion.specs.Fusion.{partsOf}
 use Rattle.table_view.specs.Rows.{length-listOf, sum-suc}
-use Rattle.table_view.specs.View.{limitOf, stateOf, Laid}
+use Rattle.table_view.specs.View.{limitOf, stateOf}
 use Rattle.table_view.specs.Reads.{read-range}
-use Rattle.tasks.specs.Tasks.{taskMade, narrowOf, cutTo, JobFits, Read}
+use Rattle.tasks.specs.Tasks.{taskMade, narrowOf, cutTo, Read}
 use Rattle.tasks.specs.declared.Task.the-variants as T
 use Rattle.tasks.specs.declared.Job.{Job}
-use Rattle.operands.specs.Reads.{IsWhole, WholeIn, Parts, partsWidth, MuxIn, CarryIn, OperandsIn, AddIn, addMade}
+use Rattle.operands.specs.Reads.{IsWhole, WholeIn, Parts, partsWidth, MuxIn, OperandsIn, AddIn, addMade}
 use Rattle.whole_reads.specs.Asked.{AllWhole, SignalIn, Tabled, Asked, BinaryIn}
 
 -- ---- operators with two operands ----
@@ -156,22 +156,22 @@ copied-read model f s v j xs ys least most q m n = rw q (record {
   fits = record { least = least; most = most; narrow = omega arith; task = tt };
 })
 
-length-from : (b w : ℕ) → length (from b w) ≡ w
+pub length-from : (b w : ℕ) → length (from b w) ≡ w
 unfolding from
 length-from b zero = refl
 length-from b (suc w) = ap suc (length-from (suc b) w)
 
-signals-long : (st : State) (p lsb n : ℕ) → length (signalNets st p lsb n) ≡ n
+pub signals-long : (st : State) (p lsb n : ℕ) → length (signalNets st p lsb n) ≡ n
 unfolding signalNets
 signals-long st p lsb n = length-map (from lsb n) _ ∙ length-from lsb n
 
-range-long : (s w : List ℕ) (l : Netlist) (a lsb n : ℕ) → a < countAt s 1 → lsb + n ≤ exprWidth s a → length (rangeNets (stateOf s l w) a lsb n) ≡ n
+pub range-long : (s w : List ℕ) (l : Netlist) (a lsb n : ℕ) → a < countAt s 1 → lsb + n ≤ exprWidth s a → length (rangeNets (stateOf s l w) a lsb n) ≡ n
 range-long s w l a lsb n u v = ap length (read-range s (limitOf w) l w a u lsb n v) ∙ length-listOf n _
 
 -- ---- by kind ----
 
 -- the sum of a list's widths, and of its places
-sums : (f g h : ℕ → ℕ) (b n : ℕ) → ((i : ℕ) → i < n → g (f (b + i)) ≡ h (b + i)) → sumTo h (b + n) ≡ sumTo h b + sumOf g (each f b n)
+pub sums : (f g h : ℕ → ℕ) (b n : ℕ) → ((i : ℕ) → i < n → g (f (b + i)) ≡ h (b + i)) → sumTo h (b + n) ≡ sumTo h b + sumOf g (each f b n)
 unfolding each
 sums f g h b zero q = let m : b + 0 ≡ b = omega arith in ap (sumTo h) m ∙ omega arith
 sums f g h b (suc n) q =
@@ -195,7 +195,7 @@ in-each s w f b zero h i u = absurd (omega arith)
 in-each s w f b (suc n) h zero u = let m : b + 0 ≡ b = omega arith in rw m (h .0)
 in-each s w f b (suc n) h (suc i) u = let m : b + suc i ≡ suc b + i = omega arith in rw m (in-each s w f (suc b) n (h .1) i (omega arith))
 
-below-each : (x : ℕ) (f : ℕ → ℕ) (b n : ℕ) → AllBelow x (each f b n) → (i : ℕ) → i < n → f (b + i) < x
+pub below-each : (x : ℕ) (f : ℕ → ℕ) (b n : ℕ) → AllBelow x (each f b n) → (i : ℕ) → i < n → f (b + i) < x
 unfolding each
 below-each x f b zero h i u = absurd (omega arith)
 below-each x f b (suc n) h zero u = let m : b + 0 ≡ b = omega arith in rw m (h .0)

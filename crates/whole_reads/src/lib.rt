@@ -1,7 +1,6 @@
 // What a whole expression is made of: its operands, read from the tables by its kind.
 ghost use mathlib.Core.Path.{_≡_};
 ghost use mathlib.Core.Bool.{false};
-ghost use Prim.Native.Nat.{_≤_, _<_};
 ghost use lib.ListN.{length};
 ghost use Rattle.meaning.specs.Image.{exprWidth};
 ghost use Rattle.model.specs.Lowering.{buildWhole, buildBinary};
@@ -41,7 +40,7 @@ fn two_operands(
 }
 
 // The nets themselves.
-fn copied() -> Job
+pub fn copied() -> Job
     ensures { λ r. ⌜ r ≡ record { task = Copied; narrow = 0 } ⌝ }
 {
     Job {

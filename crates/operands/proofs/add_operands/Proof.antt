@@ -1,16 +1,8 @@
 use borrow.Author.Needs.{needs}
 use Rattle.operands.proofs.add_operands.Statement.{statement}
 use Rattle.operands.proofs.add_operands.Tie as tie
-use Rattle.operands.proofs.add_operands.Reads as reads
-use Rattle.operands.proofs.add_operands.Lts as lts
-use Rattle.fusion.proofs.fusion_test.Reads as fusion-test-reads
-use Rattle.operands.proofs.copy_whole.Reads as copy-whole-reads
-use Rattle.operands.proofs.cut.Reads as cut-reads
-use Rattle.tables.proofs.expr_net.Reads as expr-net-reads
 use native.Mathlib.Omega.{arith}
-use mathlib.Core.Path.{_≡_, refl, sym, ap, _∙_}
-use mathlib.Core.Option.{none, some}
-use lib.ListN.{getD}
+use mathlib.Core.Path.{refl, sym, ap, _∙_}
 use Rattle.fusion.specs.Fusion.{fusionOf, operands-are}
 use Rattle.operands.proofs.Ways.{lhs-in, rhs-in, sides-in, carry-in, plain-read, carried-read, narrow-word}
 

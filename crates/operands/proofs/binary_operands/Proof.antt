@@ -1,9 +1,6 @@
 use borrow.Author.Needs.{needs}
 use Rattle.operands.proofs.binary_operands.Statement.{statement}
 use Rattle.operands.proofs.binary_operands.Tie as tie
-use Rattle.operands.proofs.binary_operands.Reads as reads
-use Rattle.operands.proofs.binary_operands.Lts as lts
-use Rattle.operands.proofs.copy_whole.Reads as copy-whole-reads
 use native.Mathlib.Omega.{arith}
 use Rattle.operands.proofs.Ways.{binary-read}
 

@@ -1,14 +1,7 @@
 use Rattle.operands.proofs.copy_parts.Statement.{statement}
 use Rattle.operands.proofs.copy_parts.Tie as tie
-use Rattle.operands.proofs.copy_parts.Reads as reads
-use Rattle.operands.proofs.copy_parts.Lts as lts
-use Rattle.fields.proofs.list_word.Reads as list-word-reads
-use Rattle.operands.proofs.copy_whole.Reads as copy-whole-reads
 use borrow.Author.Needs.{needs}
 use native.Mathlib.Omega.{arith}
-use mathlib.Core.Path.{ap}
-use Rattle.meaning.specs.Image.{exprWidth}
-use lib.ListN.{length}
 use Rattle.operands.proofs.Ways.{PartsAt, parts-begin, parts-turn, parts-room, parts-end}
 
 abbrev Inv-loop : tie.InvT-loop

@@ -1,10 +1,6 @@
 use borrow.Author.Needs.{needs}
 use Rattle.operands.proofs.copy_whole.Statement.{statement}
 use Rattle.operands.proofs.copy_whole.Tie as tie
-use Rattle.operands.proofs.copy_whole.Reads as reads
-use Rattle.operands.proofs.copy_whole.Lts as lts
-use Rattle.fields.proofs.expr_width.Reads as expr-width-reads
-use Rattle.tables.proofs.copy_range.Reads as copy-range-reads
 use Rattle.operands.proofs.Ways.{whole-copied}
 
 -- src/lib.rt:20:9

@@ -1,9 +1,5 @@
 use Rattle.operands.proofs.cut.Statement.{statement}
 use Rattle.operands.proofs.cut.Tie as tie
-use Rattle.operands.proofs.cut.Reads as reads
-use Rattle.operands.proofs.cut.Lts as lts
-use native.Mathlib.Omega.{arith}
-use mathlib.Core.Path.{sym, ap}
 use Rattle.operands.proofs.Ways.{cut-none, cut-some}
 
 -- src/lib.rt:103:1

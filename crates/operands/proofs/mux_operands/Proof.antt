@@ -1,10 +1,6 @@
 use borrow.Author.Needs.{needs}
 use Rattle.operands.proofs.mux_operands.Statement.{statement}
 use Rattle.operands.proofs.mux_operands.Tie as tie
-use Rattle.operands.proofs.mux_operands.Reads as reads
-use Rattle.operands.proofs.mux_operands.Lts as lts
-use Rattle.operands.proofs.copy_whole.Reads as copy-whole-reads
-use Rattle.tables.proofs.expr_net.Reads as expr-net-reads
 use native.Mathlib.Omega.{arith}
 use Rattle.operands.proofs.Ways.{mux-read}
 

@@ -1,18 +1,8 @@
 use borrow.Author.Needs.{needs}
 use Rattle.whole_reads.proofs.read_whole.Statement.{statement}
 use Rattle.whole_reads.proofs.read_whole.Tie as tie
-use Rattle.whole_reads.proofs.read_whole.Reads as reads
-use Rattle.whole_reads.proofs.read_whole.Lts as lts
-use Rattle.operands.proofs.copy_parts.Reads as copy-parts-reads
-use Rattle.operands.proofs.mux_operands.Reads as mux-operands-reads
-use Rattle.operands.proofs.unary_operand.Reads as unary-operand-reads
-use Rattle.records.proofs.expression_at.Reads as expression-at-reads
-use Rattle.tables.proofs.copy_range.Reads as copy-range-reads
-use Rattle.tables.proofs.copy_signal.Reads as copy-signal-reads
-use Rattle.whole_reads.proofs.copied.Reads as copied-reads
-use Rattle.whole_reads.proofs.two_operands.Reads as two-operands-reads
 use native.Mathlib.Omega.{arith}
-use Rattle.whole_reads.proofs.Ways.{least, most, width-is, signal-in, signal-read, slice-in, slice-read, constant-read, unary-in, unary-width, unary-made, binary-in, binary-made, mux-in, mux-made, parts-in, parts-wide, parts-read}
+use Rattle.whole_reads.proofs.Ways.{least, most, signal-in, signal-read, slice-in, slice-read, constant-read, unary-in, unary-width, unary-made, binary-in, binary-made, mux-in, mux-made, parts-in, parts-wide, parts-read}
 
 -- src/lib.rt:57:9
 expression-at-requires : tie.Need-expression-at-requires

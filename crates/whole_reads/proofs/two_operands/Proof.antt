@@ -1,14 +1,6 @@
 use borrow.Author.Needs.{needs}
 use Rattle.whole_reads.proofs.two_operands.Statement.{statement}
 use Rattle.whole_reads.proofs.two_operands.Tie as tie
-use Rattle.whole_reads.proofs.two_operands.Reads as reads
-use Rattle.whole_reads.proofs.two_operands.Lts as lts
-use Rattle.fields.proofs.expr_width.Reads as expr-width-reads
-use Rattle.op_class.proofs.op_class.Reads as op-class-reads
-use Rattle.operands.proofs.add_operands.Reads as add-operands-reads
-use Rattle.operands.proofs.binary_operands.Reads as binary-operands-reads
-use mathlib.Core.Path.{refl, sym, ap, _∙_}
-use native.Mathlib.Omega.{arith}
 use Rattle.expr_laws.specs.Exprs.{width-least}
 use Rattle.whole_reads.proofs.Ways.{add-in, add-made, no-add, not-adds, plain-sides, plain-width, plain-made}
 

@@ -1,0 +1,2 @@
+-- What must stand in the tables before a range of an expression is made.
+pub mod Asked
