@@ -28,10 +28,14 @@ returns c =
     rw (c4 .before .x .given .1) (kept-run _ (c8 .before .args .p) (c8 .before .args .n) _ _ _ (c .before .before .keep-run .ensures))
 
 returns-2 : tie.Need-returns-2
-returns-2 c = rw (c .enum-told .given .1) (kept-nets (c .before .before .before .before .args .p) (c .before .before .before .before .args .n) _ _ (c .before .before .before .before .pre .0))
+returns-2 c =
+    let start = c .before .before .before .before in
+    rw (c .enum-told .given .1) (kept-nets (start .args .p) (start .args .n) _ _ (start .pre .0))
 
 returns-3 : tie.Need-returns-3
-returns-3 c = rw (c .enum-told2 .given .1) (kept-list (c .before .before .before .before .args .p) (c .before .before .before .before .args .n) _ _ (c .before .before .before .before .pre .0))
+returns-3 c =
+    let start = c .before .before .before .before in
+    rw (c .enum-told2 .given .1) (kept-list (start .args .p) (start .args .n) _ _ (start .pre .0))
 
 pub keep-added-spec : {M : Type 1} → statement M
 keep-added-spec =

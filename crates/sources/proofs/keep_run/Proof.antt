@@ -12,29 +12,32 @@ slice-aggregate-put-run c = search needs
 
 put-run-requires : tie.Need-put-run-requires
 put-run-requires c κs =
-    let a = c .before .before .before .args in
-    let m = c .before .before .before .pre .0 .image .signalMost (a .p) (c .before .before .before .pre .1) in
-    (omega (arith, m, c .before .before .before .pre .2), omega (arith, c .before .before .before .pre .3))
+    let start = c .before .before .before in
+    let a = start .args in
+    let m = start .pre .0 .image .signalMost (a .p) (start .pre .1) in
+    (omega (arith, m, start .pre .2), omega (arith, start .pre .3))
 
 slice-aggregate-keep-signals : tie.Need-slice-aggregate-keep-signals
 slice-aggregate-keep-signals c = search needs
 
 keep-signals-requires : tie.Need-keep-signals-requires
 keep-signals-requires c κs =
-    let a = c .before .before .before .before .before .before .before .args in
-    let m = c .before .before .before .before .before .before .before .pre .0 .image .signalMost (a .p) (c .before .before .before .before .before .before .before .pre .1) in
-    let n : a .n ≤ length {A = ℕ} (replicate 1024 0) = omega (arith, m, c .before .before .before .before .before .before .before .pre .2) in
+    let start = c .before .before .before .before .before .before .before in
+    let a = start .args in
+    let m = start .pre .0 .image .signalMost (a .p) (start .pre .1) in
+    let n : a .n ≤ length {A = ℕ} (replicate 1024 0) = omega (arith, m, start .pre .2) in
     let z = c .before .before .before .put-run .ensures in
-    (c .before .before .before .before .before .before .before .pre .0, c .before .before .before .before .before .before .before .pre .1, c .before .before .before .before .before .before .before .pre .2, rw z (run-long (replicate 1024 0) (a .first) (a .n) n), rw z (run-small (replicate 1024 0) (a .first) (a .n) n (c .before .before .before .before .before .before .before .pre .3)))
+    (start .pre .0, start .pre .1, start .pre .2, rw z (run-long (replicate 1024 0) (a .first) (a .n) n), rw z (run-small (replicate 1024 0) (a .first) (a .n) n (start .pre .3)))
 
 same-length : tie.Need-same-length
 same-length c = search needs
 
 returns : tie.Need-returns
 returns c =
-    let a = c .before .before .before .before .before .before .before .before .before .before .args in
-    let m = c .before .before .before .before .before .before .before .before .before .before .pre .0 .image .signalMost (a .p) (c .before .before .before .before .before .before .before .before .before .before .pre .1) in
-    let n : a .n ≤ length {A = ℕ} (replicate 1024 0) = omega (arith, m, c .before .before .before .before .before .before .before .before .before .before .pre .2) in
+    let start = c .before .before .before .before .before .before .before .before .before .before in
+    let a = start .args in
+    let m = start .pre .0 .image .signalMost (a .p) (start .pre .1) in
+    let n : a .n ≤ length {A = ℕ} (replicate 1024 0) = omega (arith, m, start .pre .2) in
     rw (c .before .before .before .before .before .before .put-run .ensures, run-taken (replicate 1024 0) (a .first) (a .n) n) at (c .before .before .keep-signals .ensures)
 
 pub keep-run-spec : {M : Type 1} → statement M

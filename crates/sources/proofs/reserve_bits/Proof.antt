@@ -13,13 +13,15 @@ slice-read-add-nodes c = search needs
 
 add-nodes-requires : tie.Need-add-nodes-requires
 add-nodes-requires c κs =
-    let m = c .before .before .before .before .before .before .pre .0 .laid .image .signalMost (c .before .before .before .before .before .before .args .p) (c .before .before .before .before .before .before .pre .1) in
-    (c .before .before .before .before .before .before .pre .0 .held .built, c .before .before .before .before .before .before .pre .2, omega (arith, m, c .before .before .before .before .before .before .pre .3, c .before .before .signal-width .ensures))
+    let start = c .before .before .before .before .before .before in
+    let m = start .pre .0 .laid .image .signalMost (start .args .p) (start .pre .1) in
+    (start .pre .0 .held .built, start .pre .2, omega (arith, m, start .pre .3, c .before .before .signal-width .ensures))
 
 keep-added-requires : tie.Need-keep-added-requires
 keep-added-requires c κs =
-    let g = c .before .before .before .before .before .before .before .before .before .before .pre .0 in
-    (g .laid, c .before .before .before .before .before .before .before .before .before .before .pre .1, c .before .before .before .before .before .before .signal-width .ensures, λ k e. let b = c .before .before .before .add-nodes .ensures .below k e in omega (arith, b, g .laid .limited))
+    let start = c .before .before .before .before .before .before .before .before .before .before in
+    let g = start .pre .0 in
+    (g .laid, start .pre .1, c .before .before .before .before .before .before .signal-width .ensures, λ k e. let b = c .before .before .before .add-nodes .ensures .below k e in omega (arith, b, g .laid .limited))
 
 same-length : tie.Need-same-length
 same-length c = search needs
@@ -29,8 +31,9 @@ same-length-2 c = search needs
 
 returns : tie.Need-returns
 returns c =
-    let a = c .before .before .before .before .before .before .before .before .before .before .before .before .before .args in
-    reserved-bits (a .kind) (a .owner) (a .b) (a .p) _ _ _ _ _ _ _ _ (c .before .before .before .before .before .before .before .before .before .before .before .before .before .pre .1) (c .before .before .before .before .before .before .before .before .before .signal-width .ensures) (c .before .before .before .before .before .before .before .before .before .before .before .before .before .pre .0) (c .before .before .before .before .before .before .add-nodes .ensures) (c .before .before .before .before .before .before .add-nodes .kept .0) (c .before .before .keep-added .ensures) (c .before .before .keep-added .kept .1 .0)
+    let start = c .before .before .before .before .before .before .before .before .before .before .before .before .before in
+    let a = start .args in
+    reserved-bits (a .kind) (a .owner) (a .b) (a .p) _ _ _ _ _ _ _ _ (start .pre .1) (c .before .before .before .before .before .before .before .before .before .signal-width .ensures) (start .pre .0) (c .before .before .before .before .before .before .add-nodes .ensures) (c .before .before .before .before .before .before .add-nodes .kept .0) (c .before .before .keep-added .ensures) (c .before .before .keep-added .kept .1 .0)
 
 pub reserve-bits-spec : {M : Type 1} → statement M
 reserve-bits-spec =

@@ -13,7 +13,9 @@ record-field-requires c κs = search needs
 
 reserve-bits-requires : tie.Need-reserve-bits-requires
 unfolding isGate
-reserve-bits-requires c κs = (c .before .before .before .before .before .before .pre .0, rw (c .before .before .record-field .ensures) (first-there (c .before .before .before .before .before .before .args .image .now) (c .before .before .before .before .before .before .args .k) (c .before .before .before .before .before .before .pre .0 .accepted) (c .before .before .before .before .before .before .pre .1)), refl, omega arith)
+reserve-bits-requires c κs =
+    let start = c .before .before .before .before .before .before in
+    (start .pre .0, rw (c .before .before .record-field .ensures) (first-there (start .args .image .now) (start .args .k) (start .pre .0 .accepted) (start .pre .1)), refl, omega arith)
 
 enum-told : tie.Need-enum-told
 enum-told c = search needs
@@ -36,10 +38,11 @@ signal-width-requires c κs = search needs
 
 reserve-second-requires : tie.Need-reserve-second-requires
 reserve-second-requires c κs =
-    let a = c .before .before .before .before .before .before .before .before .before .before .before .before .before .before .before .before .args in
-    let t = first-there (a .image .now) (a .k) (c .before .before .before .before .before .before .before .before .before .before .before .before .before .before .before .before .pre .0 .accepted) (c .before .before .before .before .before .before .before .before .before .before .before .before .before .before .before .before .pre .1) in
-    let m = c .before .before .before .before .before .before .before .before .before .before .before .before .before .before .before .before .pre .0 .laid .image .signalMost _ t in
-    (c .before .before .before .before .before .before .before .before .before .reserve-bits .ensures .ready, c .before .before .before .before .before .before .before .before .before .before .before .before .before .before .before .before .pre .1, rw (c .before .before .signal-width .ensures, c .before .before .before .before .before .before .before .before .before .before .before .before .record-field .ensures) m)
+    let start = c .before .before .before .before .before .before .before .before .before .before .before .before .before .before .before .before in
+    let a = start .args in
+    let t = first-there (a .image .now) (a .k) (start .pre .0 .accepted) (start .pre .1) in
+    let m = start .pre .0 .laid .image .signalMost _ t in
+    (c .before .before .before .before .before .before .before .before .before .reserve-bits .ensures .ready, start .pre .1, rw (c .before .before .signal-width .ensures, c .before .before .before .before .before .before .before .before .before .before .before .before .record-field .ensures) m)
 
 same-length-3 : tie.Need-same-length-3
 same-length-3 c = search needs
@@ -49,8 +52,9 @@ same-length-4 c = search needs
 
 returns-2 : tie.Need-returns-2
 returns-2 c =
-    let a = c .before .before .before .before .before .before .before .before .before .before .before .before .before .before .before .before .before .before .before .before .before .args in
-    let t = first-there (a .image .now) (a .k) (c .before .before .before .before .before .before .before .before .before .before .before .before .before .before .before .before .before .before .before .before .before .pre .0 .accepted) (c .before .before .before .before .before .before .before .before .before .before .before .before .before .before .before .before .before .before .before .before .before .pre .1) in
+    let start = c .before .before .before .before .before .before .before .before .before .before .before .before .before .before .before .before .before .before .before .before .before in
+    let a = start .args in
+    let t = first-there (a .image .now) (a .k) (start .pre .0 .accepted) (start .pre .1) in
     memory-both _ _ _ _ _ (a .k) _ _ (c .before .before .before .before .before .before .before .before .before .before .before .before .before .before .before .before .before .record-field .ensures) (c .before .before .before .before .before .before .before .before .before .before .before .before .before .before .reserve-bits .ensures) _ _ _ _ (c .before .before .before .before .before .before .before .before .enum-told .given .1) (rw (c .before .before .before .before .before .before .before .before .before .before .before .before .before .before .before .before .before .record-field .ensures) t) (c .before .before .before .before .before .before .before .signal-width .ensures) (c .before .before .before .before .reserve-second .ensures)
 
 pub reserve-memory-spec : {M : Type 1} → statement M

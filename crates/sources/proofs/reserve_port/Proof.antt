@@ -10,13 +10,15 @@ slice-read-add-input-port c = search needs
 
 add-input-port-requires : tie.Need-add-input-port-requires
 add-input-port-requires c κs =
-    let m = c .before .before .before .before .before .pre .0 .laid .image .signalMost (c .before .before .before .before .before .args .p) (c .before .before .before .before .before .pre .1) in
-    (c .before .before .before .before .before .pre .0 .held .built, omega (arith, m, c .before .before .before .before .before .pre .2))
+    let start = c .before .before .before .before .before in
+    let m = start .pre .0 .laid .image .signalMost (start .args .p) (start .pre .1) in
+    (start .pre .0 .held .built, omega (arith, m, start .pre .2))
 
 keep-added-requires : tie.Need-keep-added-requires
 keep-added-requires c κs =
-    let g = c .before .before .before .before .before .before .before .before .before .pre .0 in
-    (g .laid, c .before .before .before .before .before .before .before .before .before .pre .1, c .before .before .before .before .before .before .before .before .before .pre .2, λ k e. let b = c .before .before .before .add-input-port .ensures .below k e in omega (arith, b, g .laid .limited))
+    let start = c .before .before .before .before .before .before .before .before .before in
+    let g = start .pre .0 in
+    (g .laid, start .pre .1, start .pre .2, λ k e. let b = c .before .before .before .add-input-port .ensures .below k e in omega (arith, b, g .laid .limited))
 
 same-length : tie.Need-same-length
 same-length c = search needs

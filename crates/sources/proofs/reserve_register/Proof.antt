@@ -13,8 +13,9 @@ record-field-requires c κs = search needs
 reserve-bits-requires : tie.Need-reserve-bits-requires
 unfolding isGate
 reserve-bits-requires c κs =
-    let g = c .before .before .before .before .before .before .pre .0 .accepted .registers (c .before .before .before .before .before .before .args .k) (c .before .before .before .before .before .before .pre .1) in
-    (c .before .before .before .before .before .before .pre .0, rw (c .before .before .record-field .ensures) (g .rest .there), refl, omega arith)
+    let start = c .before .before .before .before .before .before in
+    let g = start .pre .0 .accepted .registers (start .args .k) (start .pre .1) in
+    (start .pre .0, rw (c .before .before .record-field .ensures) (g .rest .there), refl, omega arith)
 
 same-length : tie.Need-same-length
 same-length c = search needs

@@ -2,6 +2,7 @@
 use borrow.Author.Needs.{needs}
 use Rattle.sources.proofs.reserve_second.Statement.{statement}
 use Rattle.sources.proofs.reserve_second.Tie as tie
+use native.Mathlib.Omega.{arith}
 use mathlib.Core.Path.{refl, sym, _∙_}
 use Rattle.netlist_index.specs.Index.{isGate}
 use Rattle.sources.proofs.Laws.{second-none, second-there, second-some}
@@ -10,7 +11,9 @@ record-field-requires : tie.Need-record-field-requires
 record-field-requires c κs = search needs
 
 returns : tie.Need-returns
-returns c = second-none _ _ _ (c .before .before .before .before .before .args .k) (c .before .before .before .before .before .args .b) (sym (c .before .record-field .ensures) ∙ c .if1 .taken) (c .before .before .before .before .before .pre .0)
+returns c =
+    let start = c .before .before .before .before .before in
+    second-none _ _ _ (start .args .k) (start .args .b) (sym (c .before .record-field .ensures) ∙ c .if1 .taken) (start .pre .0)
 
 record-field-requires-2 : tie.Need-record-field-requires-2
 record-field-requires-2 c κs = search needs
@@ -18,9 +21,10 @@ record-field-requires-2 c κs = search needs
 reserve-bits-requires : tie.Need-reserve-bits-requires
 unfolding isGate
 reserve-bits-requires c κs =
-    let a = c .before .before .before .before .before .before .before .before .args in
-    let t = second-there (a .image .now) (a .net .now) (a .scr .now) (a .k) (a .b) (λ e. c .before .before .before .if1 .left (c .before .before .before .before .record-field .ensures ∙ e)) (c .before .before .before .before .before .before .before .before .pre .0 .accepted) (c .before .before .before .before .before .before .before .before .pre .1) in
-    (c .before .before .before .before .before .before .before .before .pre .0, rw (c .before .before .record-field2 .ensures) t, refl, c .before .before .before .before .before .before .before .before .pre .2)
+    let start = c .before .before .before .before .before .before .before .before in
+    let a = start .args in
+    let t = second-there (a .image .now) (a .net .now) (a .scr .now) (a .k) (a .b) (λ e. c .before .before .before .if1 .left (c .before .before .before .before .record-field .ensures ∙ e)) (start .pre .0 .accepted) (start .pre .1) in
+    (start .pre .0, rw (c .before .before .record-field2 .ensures) t, refl, omega (arith, start .pre .2))
 
 same-length : tie.Need-same-length
 same-length c = search needs
