@@ -66,61 +66,50 @@ const MODES: u32 = 2;
 
 /// What document 01 leaves to the Rust: "Where no number is given, an enum's
 /// values number from 0 in the Rust's declared order", "Kinds 0 to 6 follow
-/// `ExprKind`", "Operators are numbered from 0 in declared order".
+/// `ExprKind`", "Operators are numbered from 0 in declared order". These numbers
+/// are the only ones here that do not come from document 01 (QUESTIONS.md, 1).
 mod declared {
     pub const SIGNAL: u32 = 0;
     pub const CONSTANT: u32 = 1;
     pub const UNARY: u32 = 2;
     pub const BINARY: u32 = 3;
     pub const MUX: u32 = 4;
-    pub const SLICE: u32 = 5;
-    pub const CONCAT: u32 = 6;
+    pub const CONCAT: u32 = 5;
+    pub const SLICE: u32 = 6;
 
-    /// What the width of a unary operator's result is.
-    #[derive(Clone, Copy)]
+    /// The unary operators by the rule for their widths.
     pub enum Unary {
-        /// BitNot.
-        OfOperand,
+        BitNot,
         /// LogicNot and the reductions.
-        One,
+        Judging,
     }
 
-    pub const UNARY_OPERATORS: [Unary; 5] = [
-        Unary::OfOperand, // BitNot
-        Unary::One,       // LogicNot
-        Unary::One,       // ReduceAnd
-        Unary::One,       // ReduceOr
-        Unary::One,       // ReduceXor
-    ];
+    pub fn unary(operator: u32) -> Option<Unary> {
+        match operator {
+            0 => Some(Unary::BitNot),
+            1..=4 => Some(Unary::Judging),
+            _ => None,
+        }
+    }
 
-    /// What the widths of a binary operator's sides and result are.
-    #[derive(Clone, Copy)]
+    /// The binary operators by the rule for their widths.
     pub enum Binary {
-        /// And, Or, Xor, Add, Sub, Mul: all three equal.
-        Equal,
-        /// Comparisons: sides equal, result 1.
-        Compared,
-        /// Shifts: result as the left side.
+        /// And, Or, Xor, Add, Sub, Mul.
+        Plain,
+        Comparison,
         Shift,
     }
 
-    pub const BINARY_OPERATORS: [Binary; 13] = [
-        Binary::Equal,    // And
-        Binary::Equal,    // Or
-        Binary::Equal,    // Xor
-        Binary::Equal,    // Add
-        Binary::Equal,    // Sub
-        Binary::Equal,    // Mul
-        Binary::Compared, // equal
-        Binary::Compared, // not equal
-        Binary::Compared, // below, unsigned
-        Binary::Compared, // below, signed
-        Binary::Shift,    // left
-        Binary::Shift,    // right
-        Binary::Shift,    // right, arithmetic
-    ];
+    pub fn binary(operator: u32) -> Option<Binary> {
+        match operator {
+            0..=5 => Some(Binary::Plain),
+            6..=15 => Some(Binary::Comparison),
+            16..=18 => Some(Binary::Shift),
+            _ => None,
+        }
+    }
 
-    /// The values of a memory's style.
+    /// How many values a memory's style has.
     pub const STYLES: u32 = 3;
 }
 
@@ -564,27 +553,27 @@ impl<'a> Check<'a> {
             }
             declared::UNARY => {
                 unused(c)?;
-                let operator = declared::UNARY_OPERATORS.get(index(a)).ok_or(Broken)?;
+                let operator = declared::unary(a).ok_or(Broken)?;
                 let operand = self.operand(b, number)?;
                 match operator {
                     // Image: "And, Or, Xor, Add, Sub, Mul, BitNot and Mux
                     // branches equal the result."
-                    declared::Unary::OfOperand => rule(operand.width == width),
+                    declared::Unary::BitNot => rule(operand.width == width),
                     // Image: "Comparisons, LogicNot and reductions give 1".
-                    declared::Unary::One => rule(width == 1),
+                    declared::Unary::Judging => rule(width == 1),
                 }
             }
             declared::BINARY => {
-                let operator = declared::BINARY_OPERATORS.get(index(a)).ok_or(Broken)?;
+                let operator = declared::binary(a).ok_or(Broken)?;
                 let left = self.operand(b, number)?;
                 let right = self.operand(c, number)?;
                 match operator {
                     // Image: "And, Or, Xor, Add, Sub, Mul, BitNot and Mux
                     // branches equal the result."
-                    declared::Binary::Equal => rule(left.width == width && right.width == width),
+                    declared::Binary::Plain => rule(left.width == width && right.width == width),
                     // Image: "Comparisons, LogicNot and reductions give 1;
                     // compared sides are equal."
-                    declared::Binary::Compared => rule(width == 1 && left.width == right.width),
+                    declared::Binary::Comparison => rule(width == 1 && left.width == right.width),
                     // Image: "A shift keeps its left width, the amount any
                     // width."
                     declared::Binary::Shift => rule(left.width == width),

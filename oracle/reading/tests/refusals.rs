@@ -15,17 +15,17 @@ const CONSTANT: u32 = 1;
 const UNARY: u32 = 2;
 const BINARY: u32 = 3;
 const MUX: u32 = 4;
-const SLICE: u32 = 5;
-const CONCAT: u32 = 6;
+const CONCAT: u32 = 5;
+const SLICE: u32 = 6;
 
 const BIT_NOT: u32 = 0;
 const ONE_WIDE_UNARY: [u32; 4] = [1, 2, 3, 4];
 const UNARY_OPERATORS: u32 = 5;
 
 const EQUAL_WIDTHS: [u32; 6] = [0, 1, 2, 3, 4, 5];
-const COMPARISONS: [u32; 4] = [6, 7, 8, 9];
-const SHIFTS: [u32; 3] = [10, 11, 12];
-const BINARY_OPERATORS: u32 = 13;
+const COMPARISONS: [u32; 10] = [6, 7, 8, 9, 10, 11, 12, 13, 14, 15];
+const SHIFTS: [u32; 3] = [16, 17, 18];
+const BINARY_OPERATORS: u32 = 19;
 
 const STYLES: u32 = 3;
 
