@@ -696,7 +696,6 @@ impl<'a> Check<'a> {
     /// section.
     fn name(&self, name: &Name) -> Result<&'a [u8], Broken> {
         rule((1..=MOST_NAME_BYTES).contains(&name.length))?;
-        rule(is_inside(name.offset, name.length, long(self.module.names.len())))?;
         let bytes = stretch(self.module.names, name.offset, name.length)?;
         rule(bytes.iter().all(|byte| (33..=126).contains(byte)))?;
         Ok(bytes)
@@ -721,7 +720,6 @@ impl<'a> Check<'a> {
     /// Image: "a field that names [..] a list word [..] names one that is
     /// there".
     fn list_words(&self, start: u32, count: u32) -> Result<&'a [u32], Broken> {
-        rule(is_inside(start, count, long(self.module.list.len())))?;
         stretch(&self.module.list, start, count)
     }
 
@@ -787,7 +785,7 @@ fn index(number: u32) -> usize {
     usize::try_from(number).unwrap_or(usize::MAX)
 }
 
-/// `count` things from `start` on.
+/// `count` things from `start` on, if they are all there.
 fn stretch<Thing>(things: &[Thing], start: u32, count: u32) -> Result<&[Thing], Broken> {
     let rest = things.get(index(start)..).ok_or(Broken)?;
     rest.get(..index(count)).ok_or(Broken)

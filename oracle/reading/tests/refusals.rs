@@ -1,7 +1,14 @@
 //! Each refusal from 1 to 5 and its place, each limit at its most and one past
-//! it, on small images built by hand from the text of document 01.
+//! it, on small images built by hand from the text of document 01. The reference
+//! checks must answer alike on each of them.
 
-use reading::refusal;
+/// This reading's answer, once the reference has given the same.
+fn refusal(image: &[u8], n: u32, p: u32, netlist_words: usize, scratch_words: usize) -> [u32; 3] {
+    let read = reading::refusal(image, n, p, netlist_words, scratch_words);
+    let reference = reference::check(image, n, p, netlist_words, scratch_words);
+    assert_eq!(read, reference, "this reading and the reference");
+    read
+}
 
 const ABSENT: u32 = 4_294_967_295;
 
