@@ -28,7 +28,7 @@ same-length-3 c = search needs
 
 -- src/lib.rt:219:1
 returns : tie.Need-returns
-returns c = ?
+returns c = λ v h. rw (c .before .before .before .before .before .before .before .before .before .before .before .before .put-bits .ensures v h) at (c .before .before .before .before .before .before .add-constants .ensures)
 
 pub add-bits-spec : {M : Type 1} → statement M
 add-bits-spec =

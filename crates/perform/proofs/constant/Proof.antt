@@ -5,6 +5,14 @@ use Rattle.perform.proofs.constant.Reads as reads
 use Rattle.perform.proofs.constant.Lts as lts
 use Rattle.perform.proofs.add_bits.Reads as add-bits-reads
 use Rattle.perform.proofs.lesser.Reads as lesser-reads
+use mathlib.Core.Path.{sym, ap, _∙_}
+use Prim.Native.Nat.{ℕ, _-_}
+use native.Mathlib.Omega.{arith}
+use lib.ListN.{length-drop}
+use lib.Seq.{length-take-le}
+use Rattle.rtl.specs.Word.{bits, length-bits}
+use Rattle.meaning.specs.Image.{constantOf}
+use Rattle.perform.proofs.Bits.{back-constant}
 
 -- src/lib.rt:256:23
 sub-lesser : tie.Need-sub-lesser
@@ -24,11 +32,11 @@ slice-relend-prefix-add-bits c = search needs
 
 -- src/lib.rt:257:46
 slice-aggregate-add-bits : tie.Need-slice-aggregate-add-bits
-slice-aggregate-add-bits c = ?
+slice-aggregate-add-bits c = sym (length-take-le (c .before .before .before .lesser .result) (c .before .before .before .before .before .before .before .before .args .xs .now) (omega (arith, c .before .before .before .lesser .ensures, c .before .before .before .before .before .before .before .before .pre .4)))
 
 -- src/lib.rt:257:5
 add-bits-requires : tie.Need-add-bits-requires
-add-bits-requires c κs = ?
+add-bits-requires c κs = (c .before .before .before .before .before .before .before .before .pre .0, c .before .before .before .before .before .before .before .before .pre .1, rw (length-take-le (c .before .before .before .lesser .result) (c .before .before .before .before .before .before .before .before .args .xs .now) (omega (arith, c .before .before .before .lesser .ensures, c .before .before .before .before .before .before .before .before .pre .4))) (omega (arith, c .before .before .before .lesser .ensures, c .before .before .before .before .before .before .before .before .pre .2, c .before .before .before .before .before .before .before .before .pre .3)))
 
 -- src/lib.rt:242:1
 same-length : tie.Need-same-length
@@ -44,7 +52,13 @@ same-length-3 c = search needs
 
 -- src/lib.rt:242:1
 returns : tie.Need-returns
-returns c = ?
+returns c =
+    let s = c .before .before .before .before .before .before .before .before .before .before .before .before .before .before .before .args in
+    let q = c .before .before .before .before .before .before .before .before .before .before .lesser .ensures in
+    let e = length-take-le (c .before .before .before .before .before .before .before .before .before .before .lesser .result) (s .xs .now) (omega (arith, q, c .before .before .before .before .before .before .before .before .before .before .before .before .before .before .before .pre .4)) in
+    let w = constantOf (s .image .now) (s .v) (s .start) in
+    back-constant _ (s .v - s .lsb) _ _ _ (c .before .before .before .before .before .before .before .before .before .before .lesser .result) _ (s .xs .now) _ _ _ _ (length-drop (s .lsb) (bits (s .v) w) ∙ ap (λ (x : ℕ). x - s .lsb) (length-bits (s .v) w)) q (omega (arith, q, c .before .before .before .before .before .before .before .before .before .before .before .before .before .before .before .pre .4)) (c .before .before .before .before .before .before .add-bits .kept .1 .1 .1 .1 .1 .1 .0)
+    (c .before .before .before .before .before .before .add-bits .ensures (s .v) (rw e (omega (arith, q, c .before .before .before .before .before .before .before .before .before .before .before .before .before .before .before .pre .2))))
 
 pub constant-spec : {M : Type 1} → statement M
 constant-spec =

@@ -19,7 +19,7 @@ shr-result c = search needs
 
 -- src/lib.rt:92:1
 returns : tie.Need-returns
-returns c = ?
+returns c = rw (c .list-word .ensures)
 
 pub constant-bit-spec : {M : Type 1} → statement M
 constant-bit-spec = tie.close (tie.spec add-list-word list-word-requires shr-result returns)

@@ -1,41 +1,33 @@
+-- `perform::copy_outputs` meets its contract. Assumes nothing.
 use borrow.Author.Needs.{needs}
 use Rattle.perform.proofs.copy_outputs.Statement.{statement}
 use Rattle.perform.proofs.copy_outputs.Tie as tie
-use Rattle.perform.proofs.copy_outputs.Reads as reads
-use Rattle.perform.proofs.copy_outputs.Lts as lts
-use Rattle.lists.proofs.put_words.Reads as put-words-reads
+use mathlib.Core.Path.{_∙_}
+use Rattle.word_cells.proofs.Laws.{copied}
 
--- src/lib.rt:94:15
 add-end : tie.Need-add-end
 add-end c = search needs
 
--- src/lib.rt:95:30
 mul-put-words : tie.Need-mul-put-words
 mul-put-words c = search needs
 
--- src/lib.rt:95:30
 sub-put-words : tie.Need-sub-put-words
 sub-put-words c = search needs
 
--- src/lib.rt:95:30
 part-put-words-start : tie.Need-part-put-words-start
 part-put-words-start c = search needs
 
--- src/lib.rt:95:30
 part-put-words-end : tie.Need-part-put-words-end
 part-put-words-end c = search needs
 
--- src/lib.rt:95:5
 put-words-requires : tie.Need-put-words-requires
 put-words-requires c κs = search needs
 
--- src/lib.rt:90:1
 same-length : tie.Need-same-length
 same-length c = search needs
 
--- src/lib.rt:90:1
 returns : tie.Need-returns
-returns c = ?
+returns c = c .before .before .put-words .ensures ∙ copied (c .before .before .before .before .before .before .before .args .net .now) (c .before .before .before .before .before .before .before .args .out .now) (c .before .before .before .before .before .before .before .args .p) (c .before .before .before .before .before .before .before .pre)
 
 pub copy-outputs-spec : {M : Type 1} → statement M
 copy-outputs-spec =

@@ -1,49 +1,44 @@
+-- `perform::put_key` meets its contract. Assumes nothing.
 use borrow.Author.Needs.{needs}
 use Rattle.perform.proofs.put_key.Statement.{statement}
 use Rattle.perform.proofs.put_key.Tie as tie
-use Rattle.perform.proofs.put_key.Reads as reads
-use Rattle.perform.proofs.put_key.Lts as lts
-use Rattle.lists.proofs.put_words.Reads as put-words-reads
+use mathlib.Core.Path.{_∙_}
+use native.Mathlib.Omega.{arith}
+use lib.ListN.{length, set, length-set}
+use Rattle.model.specs.Words.{absent}
+use Rattle.word_cells.proofs.Laws.{arithmetic-put}
 
--- src/lib.rt:80:5
 slice-write-buffer : tie.Need-slice-write-buffer
 slice-write-buffer c = search needs
 
--- src/lib.rt:81:5
 slice-write-buffer-2 : tie.Need-slice-write-buffer-2
-slice-write-buffer-2 c = ?
+slice-write-buffer-2 c = simp length-set (omega arith)
 
--- src/lib.rt:82:17
 cast-buffer : tie.Need-cast-buffer
 cast-buffer c = search needs
 
--- src/lib.rt:82:5
 slice-write-buffer-3 : tie.Need-slice-write-buffer-3
-slice-write-buffer-3 c = ?
+slice-write-buffer-3 c = simp length-set (omega arith)
 
--- src/lib.rt:83:5
 slice-write-buffer-4 : tie.Need-slice-write-buffer-4
-slice-write-buffer-4 c = ?
+slice-write-buffer-4 c = simp length-set (omega arith)
 
--- src/lib.rt:84:5
 put-words-requires : tie.Need-put-words-requires
-put-words-requires c κs = ?
+put-words-requires c κs = simp length-set (omega arith)
 
--- src/lib.rt:85:14
 add-at : tie.Need-add-at
 add-at c = search needs
 
--- src/lib.rt:86:5
 put-words-requires-2 : tie.Need-put-words-requires-2
-put-words-requires-2 c κs = ?
+put-words-requires-2 c κs = omega (arith, c .before .before .before .put-words .kept .0, length-set (set (set (set (c .before .before .before .before .before .before .before .before .args .buffer .now) 0 3) 1 0) 2 (length (c .before .before .before .before .before .before .before .before .args .lhs .now))) 3 absent, length-set (set (set (c .before .before .before .before .before .before .before .before .args .buffer .now) 0 3) 1 0) 2 (length (c .before .before .before .before .before .before .before .before .args .lhs .now)), length-set (set (c .before .before .before .before .before .before .before .before .args .buffer .now) 0 3) 1 0, length-set (c .before .before .before .before .before .before .before .before .args .buffer .now) 0 3)
 
--- src/lib.rt:76:1
 same-length : tie.Need-same-length
-same-length c = ?
+same-length c = c .before .before .put-words2 .kept .0 ∙ c .before .before .before .before .before .before .put-words .kept .0 ∙ simp length-set
 
--- src/lib.rt:76:1
 returns : tie.Need-returns
-returns c = ?
+returns c =
+    let s = c .before .before .before .before .before .before .before .before .before .before .before .args in
+    rw (c .before .before .put-words2 .ensures, c .before .before .before .before .before .before .put-words .ensures) (arithmetic-put (s .buffer .now) 0 absent (s .lhs .now) (s .rhs .now) (c .before .before .before .before .before .before .before .before .before .before .before .pre .0) (c .before .before .before .before .before .before .before .before .before .before .before .pre .2))
 
 pub put-key-spec : {M : Type 1} → statement M
 put-key-spec =

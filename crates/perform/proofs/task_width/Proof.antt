@@ -4,6 +4,7 @@ use Rattle.perform.proofs.task_width.Tie as tie
 use Rattle.perform.proofs.task_width.Reads as reads
 use Rattle.perform.proofs.task_width.Lts as lts
 use Rattle.perform.proofs.lesser.Reads as lesser-reads
+use native.Mathlib.Omega.{arith}
 
 -- src/lib.rt:184:25
 enum-told : tie.Need-enum-told
@@ -15,7 +16,7 @@ enum-known-task c = search needs
 
 -- src/lib.rt:185:48
 sub-lesser : tie.Need-sub-lesser
-sub-lesser c = ?
+sub-lesser c = let f = rw (c .before .task .given .1) at (c .before .before .before .pre) in omega (arith, f .0)
 
 -- src/lib.rt:185:38
 lesser-requires : tie.Need-lesser-requires
@@ -43,7 +44,7 @@ returns c = search needs
 
 -- src/lib.rt:179:1
 returns-2 : tie.Need-returns-2
-returns-2 c = ?
+returns-2 c = rw (c .before .before .task .given .1) (c .lesser .ensures)
 
 -- src/lib.rt:179:1
 returns-3 : tie.Need-returns-3

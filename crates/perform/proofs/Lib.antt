@@ -1,0 +1,3 @@
+pub mod Laws
+pub mod Bits
+pub mod Jobs
