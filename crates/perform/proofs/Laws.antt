@@ -27,6 +27,10 @@ module _ (m : Made (List ℕ)) (n : ℕ) (r : Filled) (ns rest w idx : List ℕ)
   pub back-whole : (k : ℕ) → length ns ≡ k → Fills m n r ns w idx → Fills m n r (take k (ns ++ rest)) w idx
   back-whole k e g = rw (take-at ns rest k e) g
 
+-- the same width
+pub width-by : (m : Made (List ℕ)) (n : ℕ) (r : Filled) (k v : ℕ) (ns w idx : List ℕ) → k ≡ v → Fills m n r (take k ns) w idx → Fills m n r (take v ns) w idx
+width-by m n r k v ns w idx e g = rw e at g
+
 -- ---- widths of results ----
 
 unary-le : (op : UnaryOp) (k : ℕ) → 0 < k → unaryWidth op k ≤ k
