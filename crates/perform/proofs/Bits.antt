@@ -3,7 +3,7 @@ use mathlib.Core.Path.{_≡_, refl, sym, ap, _∙_}
 use mathlib.Core.Bool.{Bool, true, false}
 use mathlib.Core.List.{List, [], _∷_, _++_, append-assoc, append-nil}
 use Prim.Native.Nat.{ℕ, zero, suc, _+_, _*_, _-_, _^_, _/_, _%_, _≤_, _<_, min}
-use native.Mathlib.Nat.{div-one, div-div-eq-div-mul, pow-succ', mod-mod, le-of-suc-le-suc, not-suc-le-zero}
+use native.Mathlib.Nat.{div-one, mod-mod, le-of-suc-le-suc, not-suc-le-zero}
 use native.Mathlib.Omega.{arith}
 use borrow.Author.Tests.{eqb-true, eqb-false, leb-true, leb-false}
 use lib.Dec.{eqb, leb}
@@ -11,7 +11,6 @@ use lib.ListN.{length, getD, set, take, drop, replicate, length-set, length-map,
 use lib.Pow.{high, field, shr-shr}
 use lib.Seq.{length-take-le, take-all, take-suc-set, getD-set-same, getD-set-other, getD-take, getD-drop, ext-getD}
 use Rattle.rtl.specs.Word.{odd, bits, length-bits, bits-eq}
-use Rattle.rules.specs.Rules.{sumTo}
 use Rattle.meaning.specs.Image.{listWord, constantWords, constantOf}
 use Rattle.folding.specs.Digits.{held}
 use Rattle.model.specs.Words.{Netlist}
@@ -90,9 +89,9 @@ module _ (s : List ℕ) (start lsb : ℕ) (out₀ : List ℕ) where
       let lt : length (take (length out₀) (drop lsb bs)) ≡ length out₀ = length-take-le (length out₀) (drop lsb bs) (omega arith) in
       let lo : length (held out) ≡ length out₀ = length-map out (λ n. eqb n 1) ∙ p .sized in
       ext-getD false (held out) (take (length out₀) (drop lsb bs)) (lo ∙ sym lt) (λ k l.
-        List·getD-map (λ n. eqb n 1) out k 0
-        ∙ ap (λ (x : ℕ). eqb x 1) (p .says k (omega (arith, lo, p .sized)))
-        ∙ sym (getD-take (length out₀) (drop lsb bs) k false (omega (arith, lo)) ∙ getD-drop lsb bs k false ∙ constant-bit s y start v (lsb + k) (omega (arith, lo))))
+      List·getD-map (λ n. eqb n 1) out k 0
+      ∙ ap (λ (x : ℕ). eqb x 1) (p .says k (omega (arith, lo, p .sized)))
+      ∙ sym (getD-take (length out₀) (drop lsb bs) k false (omega (arith, lo)) ∙ getD-drop lsb bs k false ∙ constant-bit s y start v (lsb + k) (omega (arith, lo))))
 
 -- ---- the words from a to e filled with z ----
 

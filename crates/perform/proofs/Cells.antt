@@ -1,9 +1,9 @@
 -- A cell shared or made; a carry that is no net is no constant. Assumes nothing.
-use mathlib.Core.Path.{_≡_, refl, sym, ap, _∙_}
+use mathlib.Core.Path.{_≡_, sym, ap, _∙_}
 use mathlib.Core.Bool.{Bool, false, cond}
 use mathlib.Core.List.{List}
 use mathlib.Core.Option.{Option, none, some}
-use Prim.Native.Nat.{ℕ, _≤_, _<_}
+use Prim.Native.Nat.{ℕ, _≤_}
 use native.Mathlib.Omega.{arith}
 use borrow.Author.Tests.{le-ltb, ne-eqb}
 use lib.Dec.{ltb}
@@ -41,7 +41,7 @@ no-node l h = let e : ltb absent (length (l .nodes)) ≡ false = le-ltb absent (
 
 pub absent-made : (lhs rhs : List ℕ) (l : Netlist) → length (l .nodes) ≤ 65535
     → W.arithmetic B.Add lhs rhs (some absent) l
-      ≡ orMade (findCell (arithmeticKey 0 lhs rhs (some absent)) (l .records)) l (addRecorded (arithmeticKey 0 lhs rhs (some absent)) (addNodes (source 10 (count 3 (l .records))) 0 (length lhs) l))
+    ≡ orMade (findCell (arithmeticKey 0 lhs rhs (some absent)) (l .records)) l (addRecorded (arithmeticKey 0 lhs rhs (some absent)) (addNodes (source 10 (count 3 (l .records))) 0 (length lhs) l))
 unfolding W.arithmetic addArithmetic foldConstantArithmetic
 absent-made lhs rhs l h = let e = no-node l h in rw e
 

@@ -2,8 +2,7 @@
 use mathlib.Core.Path.{_≡_, refl, sym, ap, _∙_}
 use mathlib.Core.Bool.{false}
 use mathlib.Core.List.{List, _++_}
-use mathlib.Core.Option.{Option, some}
-use Prim.Native.Nat.{ℕ, zero, suc, _-_, _≤_, min}
+use Prim.Native.Nat.{ℕ, zero, suc, _-_, _≤_}
 use native.Mathlib.Omega.{arith}
 use lib.ListN.{length, take, replicate}
 use lib.Seq.{length-take-le}
@@ -11,7 +10,7 @@ use Rattle.model.specs.Words.{Netlist}
 use Rattle.model.specs.Builder.{Made, done, andThen, addConstant}
 use Rattle.model.specs.Lowering.{resized}
 use Rattle.netlist_view.specs.View.{netlistOf}
-use Rattle.nodes.specs.Gives.{outOf, Gives}
+use Rattle.nodes.specs.Gives.{Gives}
 use Rattle.nodes.specs.declared.Added.{Added}
 use Rattle.nodes.specs.declared.Added.the-variants as A
 use Rattle.ports.proofs.Laws.{Refusal}

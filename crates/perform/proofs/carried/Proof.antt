@@ -1,44 +1,46 @@
+-- `perform::carried` meets its contract. Assumes nothing.
 use borrow.Author.Needs.{needs}
 use Rattle.perform.proofs.carried.Statement.{statement}
 use Rattle.perform.proofs.carried.Tie as tie
-use Rattle.perform.proofs.carried.Reads as reads
-use Rattle.perform.proofs.carried.Lts as lts
-use Rattle.perform.proofs.add_carried.Reads as add-carried-reads
 use mathlib.Core.Path.{refl, sym, _∙_}
 use lib.Seq.{length-take-le}
 use Rattle.perform.proofs.Laws.{back-whole}
 
--- src/lib.rt:195:33
 slice-relend-prefix-add-carried : tie.Need-slice-relend-prefix-add-carried
 slice-relend-prefix-add-carried c = search needs
 
--- src/lib.rt:195:33
 slice-aggregate-add-carried : tie.Need-slice-aggregate-add-carried
-slice-aggregate-add-carried c = sym (length-take-le (c .before .before .before .before .before .before .before .args .k) (c .before .before .before .before .before .before .before .args .xs .now) (c .before .before .before .before .before .before .before .pre .3))
+slice-aggregate-add-carried c =
+    let c4 = c .before .before .before .before in
+    sym (length-take-le (c4 .before .before .before .args .k) (c4 .before .before .before .args .xs .now) (c4 .before .before .before .pre .3))
 
--- src/lib.rt:195:47
 slice-aggregate-add-carried-2 : tie.Need-slice-aggregate-add-carried-2
-slice-aggregate-add-carried-2 c = sym (length-take-le (c .before .before .before .before .before .before .before .before .args .k) (c .before .before .before .before .before .before .before .before .args .ys .now) (c .before .before .before .before .before .before .before .before .pre .4))
+slice-aggregate-add-carried-2 c =
+    let c4 = c .before .before .before .before in
+    let c8 = c4 .before .before .before .before in
+    sym (length-take-le (c8 .args .k) (c8 .args .ys .now) (c8 .pre .4))
 
--- src/lib.rt:195:5
 add-carried-requires : tie.Need-add-carried-requires
-add-carried-requires c κs = rw (length-take-le (c .before .before .before .before .before .before .before .before .args .k) (c .before .before .before .before .before .before .before .before .args .xs .now) (c .before .before .before .before .before .before .before .before .pre .3), length-take-le (c .before .before .before .before .before .before .before .before .args .k) (c .before .before .before .before .before .before .before .before .args .ys .now) (c .before .before .before .before .before .before .before .before .pre .4)) (c .before .before .before .before .before .before .before .before .pre .0, c .before .before .before .before .before .before .before .before .pre .1, refl, c .before .before .before .before .before .before .before .before .pre .2)
+add-carried-requires c κs =
+    let c4 = c .before .before .before .before in
+    let c8 = c4 .before .before .before .before in
+    rw (length-take-le (c8 .args .k) (c8 .args .xs .now) (c8 .pre .3), length-take-le (c8 .args .k) (c8 .args .ys .now) (c8 .pre .4)) (c8 .pre .0, c8 .pre .1, refl, c8 .pre .2)
 
--- src/lib.rt:182:1
 same-length : tie.Need-same-length
 same-length c = search needs
 
--- src/lib.rt:182:1
 same-length-2 : tie.Need-same-length-2
 same-length-2 c = search needs
 
--- src/lib.rt:182:1
 same-length-3 : tie.Need-same-length-3
 same-length-3 c = search needs
 
--- src/lib.rt:182:1
 returns : tie.Need-returns
-returns c = back-whole _ _ _ _ _ _ _ (c .before .before .before .before .before .before .before .before .before .before .before .before .before .before .before .args .k) (c .before .before .before .before .before .before .add-carried .kept .1 .1 .1 .1 .0 ∙ length-take-le (c .before .before .before .before .before .before .before .before .before .before .before .before .before .before .before .args .k) (c .before .before .before .before .before .before .before .before .before .before .before .before .before .before .before .args .xs .now) (c .before .before .before .before .before .before .before .before .before .before .before .before .before .before .before .pre .3)) (c .before .before .before .before .before .before .add-carried .ensures)
+returns c =
+    let c4 = c .before .before .before .before in
+    let c8 = c4 .before .before .before .before in
+    let c12 = c8 .before .before .before .before in
+    back-whole _ _ _ _ _ _ _ (c12 .before .before .before .args .k) (c4 .before .before .add-carried .kept .1 .1 .1 .1 .0 ∙ length-take-le (c12 .before .before .before .args .k) (c12 .before .before .before .args .xs .now) (c12 .before .before .before .pre .3)) (c4 .before .before .add-carried .ensures)
 
 pub carried-spec : {M : Type 1} → statement M
 carried-spec =

@@ -27,7 +27,9 @@ same-length : tie.Need-same-length
 same-length c = search needs
 
 returns : tie.Need-returns
-returns c = c .before .before .put-words .ensures ∙ copied (c .before .before .before .before .before .before .before .args .net .now) (c .before .before .before .before .before .before .before .args .out .now) (c .before .before .before .before .before .before .before .args .p) (c .before .before .before .before .before .before .before .pre)
+returns c =
+    let c4 = c .before .before .before .before in
+    c .before .before .put-words .ensures ∙ copied (c4 .before .before .before .args .net .now) (c4 .before .before .before .args .out .now) (c4 .before .before .before .args .p) (c4 .before .before .before .pre)
 
 pub copy-outputs-spec : {M : Type 1} → statement M
 copy-outputs-spec =

@@ -33,7 +33,9 @@ put-words-requires-2 : tie.Need-put-words-requires-2
 put-words-requires-2 c κs = omega (arith, c .before .before .before .put-words .kept .0, length-set (set (set (set (c .before .before .before .before .before .before .before .before .args .buffer .now) 0 3) 1 0) 2 (length (c .before .before .before .before .before .before .before .before .args .lhs .now))) 3 absent, length-set (set (set (c .before .before .before .before .before .before .before .before .args .buffer .now) 0 3) 1 0) 2 (length (c .before .before .before .before .before .before .before .before .args .lhs .now)), length-set (set (c .before .before .before .before .before .before .before .before .args .buffer .now) 0 3) 1 0, length-set (c .before .before .before .before .before .before .before .before .args .buffer .now) 0 3)
 
 same-length : tie.Need-same-length
-same-length c = c .before .before .put-words2 .kept .0 ∙ c .before .before .before .before .before .before .put-words .kept .0 ∙ simp length-set
+same-length c =
+    let c4 = c .before .before .before .before in
+    c .before .before .put-words2 .kept .0 ∙ c4 .before .before .put-words .kept .0 ∙ simp length-set
 
 returns : tie.Need-returns
 returns c =
