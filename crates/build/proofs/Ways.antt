@@ -1,7 +1,7 @@
 -- From what is known on the way through building to what it promises: what the reads ask, that the nets made are numbers of nets, and what
 -- is left at the end. Assumes nothing.
 use mathlib.Core.Path.{_≡_, refl, sym, ap, subst, _∙_}
-use mathlib.Core.Bool.{Bool, true, false}
+use mathlib.Core.Bool.{Bool, true}
 use mathlib.Core.List.{List, [], _∷_}
 use mathlib.Core.Option.{none}
 use Prim.Native.Nat.{ℕ, _+_, _*_, _-_, _≤_, _<_}
@@ -9,19 +9,17 @@ use native.Mathlib.Omega.{arith}
 use borrow.Rule.Slice.PartMut.{putMid}
 use lib.ListN.{length, getD, take, drop}
 use lib.Seq.{length-take-le, getD-take}
-use Rattle.rtl.specs.Rtl as R
 use Rattle.rtl.specs.Rtl.{Valuation}
-use Rattle.meaning.specs.Image.{countAt, exprWidth, decode}
+use Rattle.meaning.specs.Image.{countAt, exprWidth}
 use Rattle.model.specs.Words.{Netlist}
 use Rattle.model.specs.Builder.{Made, Out, refused, done}
 use Rattle.model.specs.Ranges as ranges
-use Rattle.model.specs.Lowering.{State, Need, Bit, Whole, Range, Step, Always, Unless, withNetlist, whole, wholeSteps, rangeSteps, buildWhole, buildRange, setWhole, setRange, keepWhole, keepRange}
+use Rattle.model.specs.Lowering.{State, Need, Bit, Whole, Range, Step, Always, Unless, withNetlist, whole, wholeSteps, rangeSteps, setWhole, setRange, keepWhole, keepRange}
 use Rattle.records.specs.Expr.{kindMeans, expressionOf, decoded}
 use Rattle.records.specs.declared.ExprKind.{ExprKind}
 use Rattle.records.specs.declared.ExprKind.the-variants as K
 use Rattle.accepted.specs.Fits.{kindFits}
 use Rattle.accepted.specs.Formed.{readable}
-use Rattle.word_laws.specs.Widths.{AllBelow}
 use Rattle.expr_laws.specs.Exprs.{exprsOf, kind-read}
 use Rattle.netlist_laws.specs.Sound.{count}
 use Rattle.netlist_view.specs.View.{netlistOf}
@@ -29,7 +27,7 @@ use Rattle.netlist_index.specs.Index.{Held}
 use Rattle.constant_fold.specs.Values.{filledOf, Fills}
 use Rattle.constant_fold.specs.declared.Filled.{Filled}
 use Rattle.constant_fold.specs.declared.Filled.the-variants as F
-use Rattle.table_view.specs.View.{limitOf, stateOf, Laid, Writes}
+use Rattle.table_view.specs.View.{limitOf, Laid, Writes}
 use Rattle.table_view.specs.Bounds.{whole-told, expr-count, expr-width}
 use Rattle.tables.specs.Answers.{Small}
 use Rattle.tasks.specs.Tasks.{Read, jobMade}
@@ -42,11 +40,11 @@ use Rattle.plan.specs.Plan.{stepNeeds}
 use Rattle.plan.specs.Fits.{AllFit}
 use Rattle.walk_view.specs.Image.{fits, width-is}
 use Rattle.walk_view.specs.Met.{met, AllMet, Grows, grows-netlist, grows-whole, grows-range, meets-whole, meets-range}
-use Rattle.walk_view.specs.View.{indexOf, walkState, There, Ready, Sure, Kept, Builds, outOf}
+use Rattle.walk_view.specs.View.{indexOf, walkState, There, Ready, Sure, Builds, outOf}
 use Rattle.walk_view.specs.declared.Lowered.{Lowered}
 use Rattle.walk_view.specs.declared.Lowered.the-variants as L
 use Rattle.sure_laws.specs.Stores.{kept-then, no-store, stored-ready, stored-kept, stored-state, lent-stays, lent-ready, lent-kept, lent-state}
-use Rattle.sure_laws.specs.Makes.{has, whole-there, range-there, whole-makes, range-makes, makes-below}
+use Rattle.sure_laws.specs.Makes.{has, whole-there, range-there, makes-below}
 use Rattle.build.specs.Built.{Performed, loweredOf, storedBy, Keeps}
 
 -- ---- what the reads ask ----
@@ -118,6 +116,10 @@ make-way model s net w net′ idx out r g l f = record {
 -- the width as it was read
 pub read-at : (model : Netlist → Made (List ℕ)) (s xs ys : List ℕ) (k v : ℕ) (j : Job) → k ≡ v → Read model s v j xs ys → Read model s k j xs ys
 read-at model s xs ys k v j q a = subst (λ (n : ℕ). Read model s n j xs ys) (sym q) a
+
+-- the nets made have room in the list
+pub room : (k : ℕ) (xs′ xs : List ℕ) → k ≤ 1024 → length xs′ ≡ length xs → length xs ≡ 1024 → k ≤ length xs′
+room k xs′ xs h l m = omega arith
 
 -- a job's nets are what the model makes
 pub job-model : (model : Netlist → Made (List ℕ)) (s net w xs ys : List ℕ) (k : ℕ) (j : Job) (l : Netlist) (r : Filled) (out net′ w′ : List ℕ) → Read model s k j xs ys

