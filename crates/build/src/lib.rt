@@ -8,8 +8,6 @@ ghost use Rattle.meaning.specs.Image.{countAt, exprWidth};
 ghost use Rattle.model.specs.Lowering as model;
 ghost use Rattle.expr_laws.specs.Exprs.{exprsOf};
 ghost use Rattle.netlist_view.specs.View.{netlistOf};
-ghost use Rattle.netlist_index.specs.Index.{Held};
-ghost use Rattle.constant_fold.specs.Values.{Fills};
 ghost use Rattle.constant_fold.specs.declared.Filled.the-variants as F;
 ghost use Rattle.table_view.specs.View.{limitOf, Laid};
 ghost use Rattle.tables.specs.Answers.{Small};
@@ -20,23 +18,6 @@ ghost use Rattle.build.specs.Built.{Performed, Keeps};
 use constant_fold::Filled;
 use tasks::Job;
 use walk_view::Lowered;
-
-// Stand-in: crate `perform` is to come in its place.
-fn perform(
-    image: &[u8],
-    net: &mut [u32],
-    idx: &mut [u32],
-    n: u32,
-    job: Job,
-    w: u32,
-    xs: &mut [u32],
-    ys: &[u32],
-) -> Filled
-    requires { ⌜ (Held n (now net) (now idx)) × (JobFits w job) × (length (now xs) ≡ 1024) × (length (now ys) ≡ 1024) ⌝ }
-    ensures { λ r. ⌜ Fills (jobMade (now (image .entry)) w job (now (xs .entry)) (now (ys .entry)) (netlistOf n (now (net .entry)))) n r (take w (now (xs .exit))) (now (net .exit)) (now (idx .exit)) ⌝ }
-{
-    Filled::ListFull
-}
 
 // What a job makes of the nets read; the index is a part of the scratch.
 fn make(
@@ -53,7 +34,7 @@ fn make(
 {
     let n = scr[0];
     let end = 64 + 4 * (n as usize);
-    perform(image, net, &mut scr[64..end], n, job, w, xs, ys)
+    perform::perform(image, net, &mut scr[64..end], n, job, w, xs, ys)
 }
 
 // The nets made are those of the whole expression.
