@@ -1,0 +1,2 @@
+-- What the walk's calls keep of its invariant.
+pub mod Sure
