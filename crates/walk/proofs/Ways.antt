@@ -2,12 +2,10 @@
 use mathlib.Core.Path.{_≡_, refl, sym, ap, _∙_, subst}
 use mathlib.Core.Bool.{Bool, true, false, true≢false}
 use mathlib.Core.List.{List, [], _∷_, _++_}
-use mathlib.Core.Logic.{⊎-elim}
 use mathlib.Core.Option.{Option, none, some}
 use Prim.Native.Nat.{ℕ, zero, suc, _+_, _*_, _≤_, _<_}
 use native.Mathlib.Nat.{mul-le-mul-right, suc-mul}
 use native.Mathlib.Omega.{arith}
-use borrow.Author.Tests.{eqb-false}
 use lib.ListN.{length, getD, drop}
 use Rattle.rules.specs.Rules.{listOf, sumTo}
 use Rattle.meaning.specs.Image.{countAt, signalWidth, exprWidth, decode}
@@ -23,9 +21,6 @@ use Rattle.table_view.specs.Drivers.{driver-inside}
 use Rattle.meaning.specs.Checks.{exprBits}
 use Rattle.netlist_view.specs.View.{netlistOf}
 use Rattle.tables.specs.Answers.{ExprNet}
-use types.Run.{OneOf}
-use denote.Enum.Declared.{tagOf}
-use Rattle.walk_view.proofs.Lowered.{the-type}
 use Rattle.accepted.specs.Formed.{readable}
 use Rattle.walk_view.specs.declared.Lowered.{Lowered}
 use Rattle.walk_view.specs.declared.Lowered.the-variants.{Done, Undriven, Loop, Reset, TooManyNets, ListFull}
@@ -38,8 +33,9 @@ use Rattle.plan.specs.Plan.{needsOf, stepNeeds, wholeNeeds, rangeRest}
 use Rattle.plan.specs.Kinds.{range-begins}
 use Rattle.plan.specs.Fits.{AllFit, whole-fits, range-fits}
 use Rattle.walk.specs.Walk.{ThereNeed, GivesNeed, costNeed, driven, Keeps}
-use Rattle.walk.proofs.Stores.{no-store, stored-ready, stored-kept, stored-state, stored-grows, kept-same, kept-then}
-use Rattle.walk.proofs.Steps.{Refused, out, not-done, lowerNeeds, needs-none, needs-on, needs-out, NeedsMet, all-needs, need-suc, whole-there, whole-open, range-there, range-open, bit-there, bit-undriven, bit-loop, bit-driven}
+use Rattle.sure_laws.specs.Stores.{no-store, stored-ready, stored-kept, stored-state, stored-grows, kept-same, kept-then}
+use Rattle.walk_steps.specs.Answers.{Refused, out, not-done}
+use Rattle.walk.proofs.Steps.{lowerNeeds, needs-none, needs-on, needs-out, NeedsMet, all-needs, need-suc, whole-there, whole-open, range-there, range-open, bit-there, bit-undriven, bit-loop, bit-driven}
 
 pub enough : (model : ℕ → Out State) (cost : ℕ) (x : Out State) → ((f : ℕ) → cost ≤ f → model (suc f) ≡ x) → (f : ℕ) → cost < f → model f ≡ x
 enough model cost x g zero h = absurd (omega arith)
@@ -320,15 +316,6 @@ module _ (s net w : List ℕ) (e : ℕ) (r : Ready s net w) (i : Sure s net w) (
       (subst (AllFit s (2 * e + 2)) (sym b) (range-fits s (r .accepted) e lsb k h room)))
 
 -- ---- the net of a driven bit ----
-
--- the `else` of `let Lowered::Done = x else` knows the tag
-pub not-done-tag : (x : Lowered) → OneOf (1 ∷ 2 ∷ 3 ∷ 4 ∷ 5 ∷ []) (tagOf the-type x) → Refused x
-not-done-tag Done k = ⊎-elim (eqb-false 0 1 refl) (⊎-elim (eqb-false 0 2 refl) (⊎-elim (eqb-false 0 3 refl) (⊎-elim (eqb-false 0 4 refl) (eqb-false 0 5 refl)))) k
-not-done-tag (Undriven p b) k = tt
-not-done-tag (Loop p b) k = tt
-not-done-tag (Reset p b) k = tt
-not-done-tag TooManyNets k = tt
-not-done-tag ListFull k = tt
 
 pub keep-refused : (s w : List ℕ) (p b e o : ℕ) (x : Lowered) → Laid s w → Refused x → Keeps s w p b e o x x w
 keep-refused s w p b e o Done h q = absurd q

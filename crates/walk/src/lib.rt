@@ -9,6 +9,7 @@ ghost use Rattle.expr_laws.specs.Exprs.{exprsOf};
 ghost use Rattle.table_view.specs.View.{limitOf, isWhole, Laid};
 ghost use Rattle.walk_view.specs.Met.{AllMet};
 ghost use Rattle.walk_view.specs.View.{walkState, Ready, Sure, Builds, Gives};
+ghost use Rattle.walk_steps.specs.Steps.{GivesAll};
 ghost use Rattle.walk_view.specs.declared.Lowered.the-variants as L;
 ghost use Rattle.walk.specs.Walk.{ThereNeed, GivesNeed, Keeps};
 use plan::Need;
@@ -108,6 +109,22 @@ pub fn lower_expression_range(
         k += 1;
     }
     build_range(image, net, scr, e, lsb, w)
+}
+
+// The lowest w bits of signal p, in turn.
+pub fn resolve_signal(image: &[u8], net: &mut [u32], scr: &mut [u32], p: u32, w: u32) -> Lowered
+    requires { ⌜ (Ready (now image) (now net) (now scr)) × (Sure (now image) (now net) (now scr)) × (p < countAt (now image) 0) × (w ≤ signalWidth (now image) p) ⌝ }
+    ensures { λ r. ⌜ GivesAll (now (image .entry)) (now (net .entry)) (now (scr .entry)) (model.signalSteps p 0 w) r (now (net .exit)) (now (scr .exit)) ⌝ }
+{
+    let mut b = 0;
+    while b < w {
+        let x = resolve_signal_bit(image, net, scr, p, b);
+        let Lowered::Done = x else {
+            return x;
+        };
+        b += 1;
+    }
+    Lowered::Done
 }
 
 // What a need names.

@@ -1,14 +1,14 @@
 -- The model's fuel is more than any need of an image costs. Assumes nothing.
-use mathlib.Core.Path.{_≡_, ap}
+use mathlib.Core.Path.{_≡_}
 use mathlib.Core.List.{List}
 use Prim.Native.Nat.{ℕ, zero, suc, _+_, _*_, _≤_, _<_}
 use native.Mathlib.Nat.{mul-le-mul-right, suc-mul}
 use native.Mathlib.Omega.{arith}
-use lib.ListN.{length, getD}
+use lib.ListN.{getD}
 use Rattle.rules.specs.Rules.{sumTo}
 use Rattle.meaning.specs.Image.{countAt, decode}
 use Rattle.meaning.specs.Checks.{signalBits}
-use Rattle.model.specs.Lowering.{Need, Bit, Whole, Range, sumWidths, plenty}
+use Rattle.model.specs.Lowering.{Need, Bit, Whole, Range, plenty}
 use Rattle.table_view.specs.View.{limitOf, signalColumn, unset, freeAt, free}
 use Rattle.table_view.specs.Bounds.{expr-count, signal-sum}
 use Rattle.walk_view.specs.View.{rankOf, costOf, There}

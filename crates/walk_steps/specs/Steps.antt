@@ -4,29 +4,19 @@
 use mathlib.Core.Path.{_≡_, refl, sym, ap, _∙_, subst}
 use mathlib.Core.Bool.{false}
 use mathlib.Core.List.{List, [], _∷_, _++_}
-use Prim.Native.Nat.{ℕ, zero, suc, _+_, _-_, _≤_, _<_}
+use Prim.Native.Nat.{ℕ, suc, _+_, _-_, _≤_, _<_}
 use native.Mathlib.Omega.{arith}
-use Rattle.meaning.specs.Image.{countAt, signalWidth, decode}
+use Rattle.meaning.specs.Image.{decode}
 use Rattle.model.specs.Builder.{Out, refused, done, andThen, from}
 use Rattle.model.specs.Lowering.{State, Need, Bit, Step, Always, Unless, signalSteps, lowerSteps, lowerNeed, plenty, lowerAll}
-use Rattle.walk_view.specs.Met.{met, stepNeed, AllMet, Grows, all-grow}
+use Rattle.walk_view.specs.Met.{stepNeed, AllMet, Grows, all-grow}
 use Rattle.walk_view.specs.View.{walkState, Ready, Sure, Kept, outOf, There, Gives}
 use Rattle.walk_view.specs.declared.Lowered.{Lowered}
 use Rattle.walk_view.specs.declared.Lowered.the-variants.{Done}
 use Rattle.sure_laws.specs.Sure.{sure-done}
+use Rattle.sure_laws.specs.Stores.{kept-same, kept-then}
 use Rattle.walk_steps.specs.Answers.{Refused, out, not-done}
 use Rattle.walk_steps.specs.Fuel.{cost-enough}
-
-kept-same : (s net w : List ℕ) → Kept s net w net w
-kept-same s net w = record { netLong = refl; long = refl; fixed = refl; fewer = omega arith }
-
-kept-then : (s net w net₁ w₁ net₂ w₂ : List ℕ) → Kept s net w net₁ w₁ → Kept s net₁ w₁ net₂ w₂ → Kept s net w net₂ w₂
-kept-then s net w net₁ w₁ net₂ w₂ a b = record {
-  netLong = b .netLong ∙ a .netLong;
-  long = b .long ∙ a .long;
-  fixed = b .fixed ∙ a .fixed;
-  fewer = omega (arith, a .fewer, b .fewer);
-}
 
 -- ---- the model's steps ----
 

@@ -49,7 +49,8 @@ use Rattle.plan.specs.Plan.{wholeNeeds, rangeTurns, rangeRest}
 use Rattle.plan.specs.Kinds.{range-ends}
 use Rattle.plan.specs.Fits.{next-asked}
 use Rattle.walk.specs.Walk.{costNeed}
-use Rattle.walk.proofs.Ways.{LoopAt, loop-turn, loop-out, need-there, need-less, loop-met, loop-end, whole-known, met-whole, range-known, range-some, whole-start, range-start, bit-known, bit-none, bit-marked, driver-there, marked-ready, marked-sure, marked-less, bit-lowered, not-done-tag}
+use Rattle.walk_steps.specs.Answers.{not-done-tag}
+use Rattle.walk.proofs.Ways.{LoopAt, loop-turn, loop-out, need-there, need-less, loop-met, loop-end, whole-known, met-whole, range-known, range-some, whole-start, range-start, bit-known, bit-none, bit-marked, driver-there, marked-ready, marked-sure, marked-less, bit-lowered}
 
 abbrev μ-lower-expression : Measures 3 lower-expression-kinds.ps ℕ
 μ-lower-expression κs a = 2 * costOf (a .0 .now) (a .1 .1 .0 .now) (M.Whole (a .1 .1 .1 .0))
