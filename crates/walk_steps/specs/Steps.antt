@@ -158,10 +158,18 @@ module _ (s net₀ w₀ : List ℕ) (all left : List Step) (net w : List ℕ) (h
 
 -- ---- the bits of a signal, from bit b on ----
 
-pub bits-next : (p b w : ℕ) → b < w → signalSteps p b (w - b) ≡ Always (Bit p b) ∷ signalSteps p (suc b) (w - suc b)
-unfolding signalSteps from
-bits-next p b w h = let k : w - b ≡ suc (w - suc b) = omega arith in ap (signalSteps p b) k
+pub bits-start : (s net w : List ℕ) (p k : ℕ) → Ready s net w → Sure s net w → StepsAt s net w (signalSteps p 0 k) (signalSteps p 0 (k - 0)) net w
+bits-start s net w p k r i =
+    let n : k - 0 ≡ k = omega arith in
+    rw n (steps-start s net w (signalSteps p 0 k) r i)
 
-pub bits-end : (p b w : ℕ) → w ≤ b → signalSteps p b (w - b) ≡ []
+pub bits-next : (p b k : ℕ) → b < k → signalSteps p b (k - b) ≡ Always (Bit p b) ∷ signalSteps p (b + 1) (k - (b + 1))
 unfolding signalSteps from
-bits-end p b w h = let k : w - b ≡ 0 = omega arith in ap (signalSteps p b) k
+bits-next p b k h =
+    let n : k - b ≡ suc (k - (b + 1)) = omega arith in
+    let m : suc b ≡ b + 1 = omega arith in
+    ap (signalSteps p b) n ∙ ap (λ (j : ℕ). Always (Bit p b) ∷ signalSteps p j (k - (b + 1))) m
+
+pub bits-end : (p b k : ℕ) → k ≤ b → signalSteps p b (k - b) ≡ []
+unfolding signalSteps from
+bits-end p b k h = let n : k - b ≡ 0 = omega arith in ap (signalSteps p b) n

@@ -1,61 +1,78 @@
+-- `walk::resolve_signal` meets its contract. Assumes nothing.
+use Prim.Native.Nat.{_-_, _<_}
+use native.Mathlib.Omega.{arith}
+use borrow.Author.Needs.{needs}
+use Rattle.meaning.specs.Image.{signalWidth}
+use Rattle.model.specs.Lowering.{Bit, signalSteps}
+use Rattle.walk_steps.specs.Answers.{not-done-tag}
+use Rattle.walk_steps.specs.Steps.{StepsAt, steps-next, steps-out, steps-end, bits-start, bits-next, bits-end}
 use Rattle.walk.proofs.resolve_signal.Statement.{statement}
 use Rattle.walk.proofs.resolve_signal.Tie as tie
-use Rattle.walk.proofs.resolve_signal.Reads as reads
-use Rattle.walk.proofs.resolve_signal.Lts as lts
-use Rattle.walk.proofs.resolve_signal_bit.Reads as resolve-signal-bit-reads
 
 abbrev Inv-loop : tie.InvT-loop
-Inv-loop image net₀ scr₀ p w b₀ net scr b = ?
+Inv-loop image net₀ scr₀ p w b₀ net scr b = StepsAt image net₀ scr₀ (signalSteps p 0 w) (signalSteps p b (w - b)) net scr
 
 abbrev μ-loop : tie.MeasureT-loop
-μ-loop image net₀ scr₀ p w b₀ net scr b = ?
+μ-loop image net₀ scr₀ p w b₀ net scr b = w - b
 
--- src/lib.rt:120:5
 loop-holds : tie.Need-loop-holds Inv-loop μ-loop
-loop-holds c = ?
+loop-holds c =
+    let a = c .before .before .before .args in
+    let pre = c .before .before .before .pre in
+    bits-start (a .image .now) (a .net .now) (a .scr .now) (a .p) (a .w) (pre .0) (pre .1)
 
--- src/lib.rt:121:13
 resolve-signal-bit-requires : tie.Need-resolve-signal-bit-requires Inv-loop μ-loop
-resolve-signal-bit-requires c κs = ?
+resolve-signal-bit-requires c κs =
+    let q = c .before .before .before .loop in
+    let pre = c .before .before .before .before .before .before .before .pre in
+    (q .inv .ready, q .inv .sure, pre .2, omega (arith, pre .3, c .before .before .loop-test .taken))
 
 enum-told : tie.Need-enum-told Inv-loop μ-loop
-enum-told c = ?
+enum-told c = search needs
 
--- src/lib.rt:123:13
 same-length : tie.Need-same-length Inv-loop μ-loop
-same-length c = ?
+same-length c = search needs
 
--- src/lib.rt:123:13
 same-length-2 : tie.Need-same-length-2 Inv-loop μ-loop
-same-length-2 c = ?
+same-length-2 c = search needs
 
--- src/lib.rt:123:13
 returns : tie.Need-returns Inv-loop μ-loop
-returns c = ?
+returns c =
+    let call = c .before .before .before .before .before .resolve-signal-bit in
+    let more = c .before .before .before .before .before .before .before .before .loop-test .taken in
+    let q = c .before .before .before .before .before .before .before .before .before .loop in
+    let a = c .before .before .before .before .before .before .before .before .before .before .before .before .before .args in
+    let pre = c .before .before .before .before .before .before .before .before .before .before .before .before .before .pre in
+    let here : q .b < signalWidth (a .image .now) (a .p) = omega (arith, pre .3, more) in
+    steps-out (a .image .now) (a .net .now) (a .scr .now) _ _ (q .net) (q .scr) (q .inv) (Bit (a .p) (q .b)) _ (bits-next (a .p) (q .b) (a .w) more) (pre .2, here) (call .result) _ _ (call .ensures) (not-done-tag (call .result) (c .match .keys2))
 
--- src/lib.rt:125:9
 add-b : tie.Need-add-b Inv-loop μ-loop
-add-b c = ?
+add-b c = search needs
 
--- src/lib.rt:120:5
 loop-less : tie.Need-loop-less Inv-loop μ-loop
-loop-less c = ?
+loop-less c = search needs
 
--- src/lib.rt:120:5
 loop-again : tie.Need-loop-again Inv-loop μ-loop
-loop-again c = ?
+loop-again c =
+    let call = c .before .before .before .before .before .before .resolve-signal-bit in
+    let more = c .before .before .before .before .before .before .before .before .before .loop-test .taken in
+    let q = c .before .before .before .before .before .before .before .before .before .before .loop in
+    let a = c .before .before .before .before .before .before .before .before .before .before .before .before .before .before .args in
+    let pre = c .before .before .before .before .before .before .before .before .before .before .before .before .before .before .pre in
+    let here : q .b < signalWidth (a .image .now) (a .p) = omega (arith, pre .3, more) in
+    steps-next (a .image .now) (a .net .now) (a .scr .now) _ _ (q .net) (q .scr) (q .inv) (Bit (a .p) (q .b)) _ (bits-next (a .p) (q .b) (a .w) more) (pre .2, here) (call .result) _ _ (call .ensures) (c .enum-told .given .1)
 
--- src/lib.rt:115:1
 same-length-3 : tie.Need-same-length-3 Inv-loop μ-loop
-same-length-3 c = ?
+same-length-3 c = search needs
 
--- src/lib.rt:115:1
 same-length-4 : tie.Need-same-length-4 Inv-loop μ-loop
-same-length-4 c = ?
+same-length-4 c = search needs
 
--- src/lib.rt:115:1
 returns-2 : tie.Need-returns-2 Inv-loop μ-loop
-returns-2 c = ?
+returns-2 c =
+    let q = c .before .loop in
+    let a = c .before .before .before .before .before .args in
+    steps-end (a .image .now) (a .net .now) (a .scr .now) _ _ (q .net) (q .scr) (q .inv) (bits-end (a .p) (q .b) (a .w) (omega (arith, c .loop-test .left)))
 
 pub resolve-signal-spec : {M : Type 1} → statement M
 resolve-signal-spec =
