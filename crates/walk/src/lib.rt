@@ -17,20 +17,6 @@ use tables::Driver;
 use tables::Known;
 use walk_view::Lowered;
 
-fn build_whole(image: &[u8], net: &mut [u32], scr: &mut [u32], e: u32) -> Lowered
-    requires { ⌜ (Ready (now image) (now net) (now scr)) × (Sure (now image) (now net) (now scr)) × (e < countAt (now image) 1) × AllMet (walkState (now image) (now net) (now scr)) (model.wholeSteps (exprsOf (now image)) e) ⌝ }
-    ensures { λ r. ⌜ Builds (model.keepWhole (walkState (now (image .entry)) (now (net .entry)) (now (scr .entry))) e (model.buildWhole (exprsOf (now (image .entry))) false (walkState (now (image .entry)) (now (net .entry)) (now (scr .entry))) e)) (now (image .entry)) (now (net .entry)) (now (scr .entry)) (model.Whole e) r (now (net .exit)) (now (scr .exit)) ⌝ }
-{
-    Lowered::ListFull
-}
-
-fn build_range(image: &[u8], net: &mut [u32], scr: &mut [u32], e: u32, lsb: u32, w: u32) -> Lowered
-    requires { ⌜ (Ready (now image) (now net) (now scr)) × (Sure (now image) (now net) (now scr)) × (e < countAt (now image) 1) × (1 ≤ w) × (lsb + w ≤ exprWidth (now image) e) × AllMet (walkState (now image) (now net) (now scr)) (model.rangeSteps (exprsOf (now image)) e lsb w) ⌝ }
-    ensures { λ r. ⌜ Builds (model.keepRange (walkState (now (image .entry)) (now (net .entry)) (now (scr .entry))) e lsb (model.buildRange (exprsOf (now (image .entry))) false (walkState (now (image .entry)) (now (net .entry)) (now (scr .entry))) e lsb w)) (now (image .entry)) (now (net .entry)) (now (scr .entry)) (model.Range e lsb w) r (now (net .exit)) (now (scr .exit)) ⌝ }
-{
-    Lowered::ListFull
-}
-
 // The net of bit o of expression e, once it is lowered, for bit b of signal p.
 fn keep_driven(image: &[u8], scr: &mut [u32], p: u32, b: u32, e: u32, o: u32, x: Lowered) -> Lowered
     requires { ⌜ (Laid (now image) (now scr)) × (p < countAt (now image) 0) × (b < signalWidth (now image) p) × (e < countAt (now image) 1) × (o < exprWidth (now image) e) × (x ≡ L.Done → isWhole (now image) (limitOf (now scr)) (now scr) e ≡ true) ⌝ }
@@ -80,7 +66,7 @@ pub fn lower_expression(image: &[u8], net: &mut [u32], scr: &mut [u32], e: u32) 
         };
         k += 1;
     }
-    build_whole(image, net, scr, e)
+    build::build_whole(image, net, scr, e)
 }
 
 pub fn lower_expression_range(
@@ -108,7 +94,7 @@ pub fn lower_expression_range(
         at = plan::range_next(image, e, k, at);
         k += 1;
     }
-    build_range(image, net, scr, e, lsb, w)
+    build::build_range(image, net, scr, e, lsb, w)
 }
 
 // The lowest w bits of signal p, in turn.

@@ -25,8 +25,8 @@ use Rattle.tables.proofs.mark_signal.Reads as mark-signal-reads
 use Rattle.tables.proofs.marked.Reads as marked-reads
 use Rattle.tables.proofs.range_known.Reads as range-known-reads
 use Rattle.tables.proofs.signal_net.Reads as signal-net-reads
-use Rattle.walk.proofs.build_range.Reads as build-range-reads
-use Rattle.walk.proofs.build_whole.Reads as build-whole-reads
+use Rattle.build.proofs.build_range.Reads as build-range-reads
+use Rattle.build.proofs.build_whole.Reads as build-whole-reads
 use Rattle.walk.proofs.keep_driven.Reads as keep-driven-reads
 use Rattle.walk.proofs.+lower_expression+lower_expression_range+lower_need+resolve_signal_bit.{statement}
 use Rattle.walk.proofs.+lower_expression+lower_expression_range+lower_need+resolve_signal_bit.Tie.{close}
