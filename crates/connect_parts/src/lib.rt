@@ -1,0 +1,1 @@
+// What connecting memories, registers and outputs has in common.
