@@ -1,5 +1,5 @@
 -- The model's steps as a list of needs, run one by one, and how each of its three functions begins. Assumes nothing.
-use mathlib.Core.Path.{_≡_, refl, ap, subst}
+use mathlib.Core.Path.{_≡_, refl, ap}
 use mathlib.Core.Bool.{true, false}
 use mathlib.Core.List.{List, [], _∷_}
 use mathlib.Core.Option.{none, some}
@@ -10,31 +10,9 @@ use Rattle.model.specs.Lowering as M
 use Rattle.model.specs.Lowering.{State, Step, Always, Unless, lowerSteps, lowerNeed, lowerBy, lowerExpression, lowerExpressionRange, resolveSignalBit, drive, whole, rangeKnown, signalBit, cell, mark, driverOf, setSignalBit, wholeNet, wholeSteps, rangeSteps, keepWhole, keepRange, buildWhole, buildRange}
 use Rattle.walk_view.specs.Met.{met, AllMet}
 use Rattle.walk_view.specs.declared.Lowered.{Lowered}
-use Rattle.walk_view.specs.declared.Lowered.the-variants.{Done, Undriven, Loop, Reset, TooManyNets, ListFull}
 use Rattle.walk_view.specs.View.{outOf}
+use Rattle.walk_steps.specs.Answers.{Refused, out}
 use Rattle.plan.specs.Plan.{stepNeeds}
-
--- ---- answers ----
-
-abbrev pub Refused : Lowered → Type 0
-Refused Done = ⊥
-Refused (Undriven p b) = Unit {0}
-Refused (Loop p b) = Unit {0}
-Refused (Reset p b) = Unit {0}
-Refused TooManyNets = Unit {0}
-Refused ListFull = Unit {0}
-
--- a refusal goes through, whatever the state
-pub out : (x : Lowered) → Refused x → (k : State → Out State) (st st′ : State) → andThen (outOf x st) k ≡ outOf x st′
-out Done r k st st′ = absurd r
-out (Undriven p b) r k st st′ = refl
-out (Loop p b) r k st st′ = refl
-out (Reset p b) r k st st′ = refl
-out TooManyNets r k st st′ = refl
-out ListFull r k st st′ = refl
-
-pub not-done : (x : Lowered) → Refused x → x ≡ Done → {A : Type 0} → A
-not-done x r e = absurd (subst Refused e r)
 
 -- ---- needs ----
 

@@ -2,18 +2,16 @@
 use mathlib.Core.Path.{_≡_, refl, sym, ap, _∙_, subst}
 use mathlib.Core.Bool.{Bool, true, false, true≢false}
 use mathlib.Core.List.{List, [], _∷_, _++_}
-use mathlib.Core.Logic.{⊎-elim}
 use mathlib.Core.Option.{Option, none, some}
 use Prim.Native.Nat.{ℕ, zero, suc, _+_, _*_, _≤_, _<_}
 use native.Mathlib.Nat.{mul-le-mul-right, suc-mul}
 use native.Mathlib.Omega.{arith}
-use borrow.Author.Tests.{eqb-false}
 use lib.ListN.{length, getD, drop}
 use Rattle.rules.specs.Rules.{listOf, sumTo}
 use Rattle.meaning.specs.Image.{countAt, signalWidth, exprWidth, decode}
 use Rattle.model.specs.Builder.{Out, done, andThen}
 use Rattle.model.specs.Lowering as M
-use Rattle.model.specs.Lowering.{State, Step, lowerNeed, lowerBy, whole, rangeKnown, signalBit, cell, driverOf, setSignalBit, wholeNet, wholeSteps, rangeSteps, keepWhole, keepRange, buildWhole, buildRange}
+use Rattle.model.specs.Lowering.{State, Step, lowerNeed, lowerBy, whole, knownBy, rangeKnown, signalBit, cell, driverOf, setSignalBit, wholeNet, wholeSteps, rangeSteps, keepWhole, keepRange, buildWhole, buildRange}
 use Rattle.expr_laws.specs.Exprs.{exprsOf}
 use Rattle.table_view.specs.Rows.{rows, row-at, length-listOf}
 use Rattle.table_view.specs.View.{limitOf, signalColumn, exprBit, bitAt, known, netWord, isWhole, stateOf, free, Laid, Writes, Marks}
@@ -23,22 +21,21 @@ use Rattle.table_view.specs.Drivers.{driver-inside}
 use Rattle.meaning.specs.Checks.{exprBits}
 use Rattle.netlist_view.specs.View.{netlistOf}
 use Rattle.tables.specs.Answers.{ExprNet}
-use types.Run.{OneOf}
-use denote.Enum.Declared.{tagOf}
-use Rattle.walk_view.proofs.Lowered.{the-type}
-use Rattle.walk_view.specs.Image.{readable}
+use Rattle.accepted.specs.Formed.{readable}
 use Rattle.walk_view.specs.declared.Lowered.{Lowered}
 use Rattle.walk_view.specs.declared.Lowered.the-variants.{Done, Undriven, Loop, Reset, TooManyNets, ListFull}
 use Rattle.walk_view.specs.Met.{met, isSome, AllMet, Grows, grows-mark, grows-signal, meets-signal}
-use Rattle.walk_view.specs.View.{walkState, Ready, Kept, outOf, Builds, rankOf, costOf, Gives}
+use Rattle.walk_view.specs.View.{walkState, Ready, Sure, Kept, outOf, Builds, rankOf, costOf, Gives}
+use Rattle.sure_laws.specs.Sure.{sure-done, sure-marks}
 use Rattle.plan.specs.declared.Need.{Need}
 use Rattle.plan.specs.declared.Need.the-variants.{Bit, Whole, Range, Nothing}
 use Rattle.plan.specs.Plan.{needsOf, stepNeeds, wholeNeeds, rangeRest}
 use Rattle.plan.specs.Kinds.{range-begins}
 use Rattle.plan.specs.Fits.{AllFit, whole-fits, range-fits}
 use Rattle.walk.specs.Walk.{ThereNeed, GivesNeed, costNeed, driven, Keeps}
-use Rattle.walk.proofs.Stores.{no-store, stored-ready, stored-kept, stored-state, stored-grows, kept-same, kept-then}
-use Rattle.walk.proofs.Steps.{Refused, out, not-done, lowerNeeds, needs-none, needs-on, needs-out, NeedsMet, all-needs, need-suc, whole-there, whole-open, range-there, range-open, bit-there, bit-undriven, bit-loop, bit-driven}
+use Rattle.sure_laws.specs.Stores.{no-store, stored-ready, stored-kept, stored-state, stored-grows, kept-same, kept-then}
+use Rattle.walk_steps.specs.Answers.{Refused, out, not-done}
+use Rattle.walk.proofs.Steps.{lowerNeeds, needs-none, needs-on, needs-out, NeedsMet, all-needs, need-suc, whole-there, whole-open, range-there, range-open, bit-there, bit-undriven, bit-loop, bit-driven}
 
 pub enough : (model : ℕ → Out State) (cost : ℕ) (x : Out State) → ((f : ℕ) → cost ≤ f → model (suc f) ≡ x) → (f : ℕ) → cost < f → model f ≡ x
 enough model cost x g zero h = absurd (omega arith)
@@ -56,18 +53,20 @@ pub record LoopAt (s net₀ w₀ : List ℕ) (n₀ : M.Need) (all : List Step) (
   pub says : (f : ℕ) → costOf s w₀ n₀ ≤ f → lowerNeed (suc f) (decode s) false n₀ (walkState s net₀ w₀)
       ≡ andThen (lowerNeeds (λ n st. lowerNeed f (decode s) false n st) rest (walkState s net w)) cont
   pub ready : Ready s net w
+  pub sure : Sure s net w
   pub kept : Kept s net₀ w₀ net w
   pub grows : Grows (walkState s net₀ w₀) (walkState s net w)
   pub done-then : (st : State) → Grows (walkState s net w) st → NeedsMet st rest → AllMet st all
   pub fits : AllFit s (rankOf n₀) rest
 
-module _ (s net w : List ℕ) (n₀ : M.Need) (ss : List Step) (cont : State → Out State) (r : Ready s net w) where
+module _ (s net w : List ℕ) (n₀ : M.Need) (ss : List Step) (cont : State → Out State) (r : Ready s net w) (sure : Sure s net w) where
   pub loop-start : ((f : ℕ) → lowerBy (λ n st. lowerNeed f (decode s) false n st) (decode s) false n₀ (walkState s net w)
       ≡ andThen (lowerNeeds (λ n st. lowerNeed f (decode s) false n st) (stepNeeds ss) (walkState s net w)) cont)
       → AllFit s (rankOf n₀) (stepNeeds ss) → LoopAt s net w n₀ ss cont (stepNeeds ss) net w
   loop-start open-it fits = record {
     says = λ f h. need-suc f (decode s) n₀ (walkState s net w) ∙ open-it f;
     ready = r;
+    sure = sure;
     kept = kept-same s net w;
     grows = λ n m. m;
     done-then = λ st g m. all-needs st ss m;
@@ -91,6 +90,7 @@ module _ (s net₀ w₀ : List ℕ) (n₀ : M.Need) (all : List Step) (cont : St
           ∙ ap (λ (z : Out State). andThen z cont)
           (needs-on (λ n st. lowerNeed f (decode s) false n st) rest rest₁ n (walkState s net w) (walkState s net₁ w₁) split (said f c ∙ ap (λ (y : Lowered). outOf y (walkState s net₁ w₁)) d));
       ready = g .ready;
+      sure = sure-done s net w net₁ w₁ n x d (h .ready .accepted) (h .sure) (fits-here .0 .0) g;
       kept = kept-then s net₀ w₀ net w net₁ w₁ (h .kept) (g .kept);
       grows = λ y m. g .grows y (h .grows y m);
       done-then = λ st k m. h .done-then st (λ y q. k y (g .grows y q)) (subst (NeedsMet st) (sym split) (k n (g .meets d), m));
@@ -198,6 +198,16 @@ pub range-known : (s net w : List ℕ) (e lsb k : ℕ) → Ready s net w → ran
 unfolding met
 range-known s net w e lsb k r t = there s net w (M.Range e lsb k) r (λ f. range-there _ (decode s) e lsb k (walkState s net w) t) t
 
+-- a range that is not known has a bit
+pub range-some : (st : State) (e lsb k : ℕ) → rangeKnown st e lsb k ≡ false → 1 ≤ k
+unfolding rangeKnown
+range-some st e lsb zero t = go (whole st e) t
+  where
+    go : (o : Option (List ℕ)) → knownBy o [] ≡ false → 1 ≤ 0
+    go none t = absurd (true≢false t)
+    go (some ns) t = absurd (true≢false t)
+range-some st e lsb (suc k) t = omega arith
+
 -- ---- a signal's bit ----
 
 -- the rows of signal bits are as long as the signals are many and wide
@@ -232,6 +242,9 @@ module _ (s net w : List ℕ) (p b : ℕ) (r : Ready s net w) (hp : p < countAt 
       module _ (w₁ : List ℕ) (c : cell false (walkState s net w .resolving) p b ≡ false) (mk : Marks s p b w w₁) (long₁ : length w₁ ≡ length w) where
         pub marked-ready : Ready s net w₁
         marked-ready = stored-ready _ s net w w₁ r (mk .writes) long₁
+
+        pub marked-sure : Sure s net w → Sure s net w₁
+        marked-sure i = sure-marks s net w w₁ p b (mk .writes) i
 
         pub marked-less : costOf s w₁ (M.Whole e) < costOf s w (M.Bit p b)
         marked-less =
@@ -285,12 +298,12 @@ module _ (s net w : List ℕ) (p b : ℕ) (r : Ready s net w) (hp : p < countAt 
 
 -- ---- the loops' starts ----
 
-module _ (s net w : List ℕ) (e : ℕ) (r : Ready s net w) (h : e < countAt s 1) where
+module _ (s net w : List ℕ) (e : ℕ) (r : Ready s net w) (i : Sure s net w) (h : e < countAt s 1) where
   pub whole-start : isWhole s (limitOf w) w e ≡ false
       → LoopAt s net w (M.Whole e) (wholeSteps (exprsOf s) e) (λ st₁. keepWhole st₁ e (buildWhole (exprsOf s) false st₁ e)) (drop 0 (wholeNeeds s e)) net w
   unfolding wholeNeeds
   whole-start t =
-      loop-start s net w (M.Whole e) (wholeSteps (exprsOf s) e) (λ st₁. keepWhole st₁ e (buildWhole (exprsOf s) false st₁ e)) r
+      loop-start s net w (M.Whole e) (wholeSteps (exprsOf s) e) (λ st₁. keepWhole st₁ e (buildWhole (exprsOf s) false st₁ e)) r i
       (λ f. whole-open (λ n st. lowerNeed f (decode s) false n st) (decode s) e (walkState s net w) (whole-not s net w e r h t)) (whole-fits s (r .accepted) e h)
 
   pub range-start : (lsb k : ℕ) → lsb + k ≤ exprWidth s e → rangeKnown (walkState s net w) e lsb k ≡ false
@@ -298,20 +311,11 @@ module _ (s net w : List ℕ) (e : ℕ) (r : Ready s net w) (h : e < countAt s 1
   range-start lsb k room t =
       let b = range-begins s (readable s (r .accepted)) e lsb k h in
       subst (λ (rest : List M.Need). LoopAt s net w (M.Range e lsb k) (rangeSteps (exprsOf s) e lsb k) (λ st₁. keepRange st₁ e lsb (buildRange (exprsOf s) false st₁ e lsb k)) rest net w) b
-      (loop-start s net w (M.Range e lsb k) (rangeSteps (exprsOf s) e lsb k) (λ st₁. keepRange st₁ e lsb (buildRange (exprsOf s) false st₁ e lsb k)) r
+      (loop-start s net w (M.Range e lsb k) (rangeSteps (exprsOf s) e lsb k) (λ st₁. keepRange st₁ e lsb (buildRange (exprsOf s) false st₁ e lsb k)) r i
       (λ f. range-open (λ n st. lowerNeed f (decode s) false n st) (decode s) e lsb k (walkState s net w) t)
       (subst (AllFit s (2 * e + 2)) (sym b) (range-fits s (r .accepted) e lsb k h room)))
 
 -- ---- the net of a driven bit ----
-
--- the `else` of `let Lowered::Done = x else` knows the tag
-pub not-done-tag : (x : Lowered) → OneOf (1 ∷ 2 ∷ 3 ∷ 4 ∷ 5 ∷ []) (tagOf the-type x) → Refused x
-not-done-tag Done k = ⊎-elim (eqb-false 0 1 refl) (⊎-elim (eqb-false 0 2 refl) (⊎-elim (eqb-false 0 3 refl) (⊎-elim (eqb-false 0 4 refl) (eqb-false 0 5 refl)))) k
-not-done-tag (Undriven p b) k = tt
-not-done-tag (Loop p b) k = tt
-not-done-tag (Reset p b) k = tt
-not-done-tag TooManyNets k = tt
-not-done-tag ListFull k = tt
 
 pub keep-refused : (s w : List ℕ) (p b e o : ℕ) (x : Lowered) → Laid s w → Refused x → Keeps s w p b e o x x w
 keep-refused s w p b e o Done h q = absurd q

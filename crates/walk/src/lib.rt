@@ -8,7 +8,8 @@ ghost use Rattle.model.specs.Lowering as model;
 ghost use Rattle.expr_laws.specs.Exprs.{exprsOf};
 ghost use Rattle.table_view.specs.View.{limitOf, isWhole, Laid};
 ghost use Rattle.walk_view.specs.Met.{AllMet};
-ghost use Rattle.walk_view.specs.View.{walkState, Ready, Builds, Gives};
+ghost use Rattle.walk_view.specs.View.{walkState, Ready, Sure, Builds, Gives};
+ghost use Rattle.walk_steps.specs.Steps.{GivesAll};
 ghost use Rattle.walk_view.specs.declared.Lowered.the-variants as L;
 ghost use Rattle.walk.specs.Walk.{ThereNeed, GivesNeed, Keeps};
 use plan::Need;
@@ -17,14 +18,14 @@ use tables::Known;
 use walk_view::Lowered;
 
 fn build_whole(image: &[u8], net: &mut [u32], scr: &mut [u32], e: u32) -> Lowered
-    requires { ⌜ (Ready (now image) (now net) (now scr)) × (e < countAt (now image) 1) × AllMet (walkState (now image) (now net) (now scr)) (model.wholeSteps (exprsOf (now image)) e) ⌝ }
+    requires { ⌜ (Ready (now image) (now net) (now scr)) × (Sure (now image) (now net) (now scr)) × (e < countAt (now image) 1) × AllMet (walkState (now image) (now net) (now scr)) (model.wholeSteps (exprsOf (now image)) e) ⌝ }
     ensures { λ r. ⌜ Builds (model.keepWhole (walkState (now (image .entry)) (now (net .entry)) (now (scr .entry))) e (model.buildWhole (exprsOf (now (image .entry))) false (walkState (now (image .entry)) (now (net .entry)) (now (scr .entry))) e)) (now (image .entry)) (now (net .entry)) (now (scr .entry)) (model.Whole e) r (now (net .exit)) (now (scr .exit)) ⌝ }
 {
     Lowered::ListFull
 }
 
 fn build_range(image: &[u8], net: &mut [u32], scr: &mut [u32], e: u32, lsb: u32, w: u32) -> Lowered
-    requires { ⌜ (Ready (now image) (now net) (now scr)) × (e < countAt (now image) 1) × (lsb + w ≤ exprWidth (now image) e) × AllMet (walkState (now image) (now net) (now scr)) (model.rangeSteps (exprsOf (now image)) e lsb w) ⌝ }
+    requires { ⌜ (Ready (now image) (now net) (now scr)) × (Sure (now image) (now net) (now scr)) × (e < countAt (now image) 1) × (1 ≤ w) × (lsb + w ≤ exprWidth (now image) e) × AllMet (walkState (now image) (now net) (now scr)) (model.rangeSteps (exprsOf (now image)) e lsb w) ⌝ }
     ensures { λ r. ⌜ Builds (model.keepRange (walkState (now (image .entry)) (now (net .entry)) (now (scr .entry))) e lsb (model.buildRange (exprsOf (now (image .entry))) false (walkState (now (image .entry)) (now (net .entry)) (now (scr .entry))) e lsb w)) (now (image .entry)) (now (net .entry)) (now (scr .entry)) (model.Range e lsb w) r (now (net .exit)) (now (scr .exit)) ⌝ }
 {
     Lowered::ListFull
@@ -44,7 +45,7 @@ fn keep_driven(image: &[u8], scr: &mut [u32], p: u32, b: u32, e: u32, o: u32, x:
 }
 
 pub fn resolve_signal_bit(image: &[u8], net: &mut [u32], scr: &mut [u32], p: u32, b: u32) -> Lowered
-    requires { ⌜ (Ready (now image) (now net) (now scr)) × (p < countAt (now image) 0) × (b < signalWidth (now image) p) ⌝ }
+    requires { ⌜ (Ready (now image) (now net) (now scr)) × (Sure (now image) (now net) (now scr)) × (p < countAt (now image) 0) × (b < signalWidth (now image) p) ⌝ }
     ensures { λ r. ⌜ Gives (now (image .entry)) (now (net .entry)) (now (scr .entry)) (model.Bit p b) r (now (net .exit)) (now (scr .exit)) ⌝ }
 {
     match tables::signal_net(image, scr, p, b) {
@@ -64,7 +65,7 @@ pub fn resolve_signal_bit(image: &[u8], net: &mut [u32], scr: &mut [u32], p: u32
 }
 
 pub fn lower_expression(image: &[u8], net: &mut [u32], scr: &mut [u32], e: u32) -> Lowered
-    requires { ⌜ (Ready (now image) (now net) (now scr)) × (e < countAt (now image) 1) ⌝ }
+    requires { ⌜ (Ready (now image) (now net) (now scr)) × (Sure (now image) (now net) (now scr)) × (e < countAt (now image) 1) ⌝ }
     ensures { λ r. ⌜ Gives (now (image .entry)) (now (net .entry)) (now (scr .entry)) (model.Whole e) r (now (net .exit)) (now (scr .exit)) ⌝ }
 {
     if tables::is_whole(image, scr, e) {
@@ -90,7 +91,7 @@ pub fn lower_expression_range(
     lsb: u32,
     w: u32,
 ) -> Lowered
-    requires { ⌜ (Ready (now image) (now net) (now scr)) × (e < countAt (now image) 1) × (lsb + w ≤ exprWidth (now image) e) ⌝ }
+    requires { ⌜ (Ready (now image) (now net) (now scr)) × (Sure (now image) (now net) (now scr)) × (e < countAt (now image) 1) × (lsb + w ≤ exprWidth (now image) e) ⌝ }
     ensures { λ r. ⌜ Gives (now (image .entry)) (now (net .entry)) (now (scr .entry)) (model.Range e lsb w) r (now (net .exit)) (now (scr .exit)) ⌝ }
 {
     if tables::range_known(image, scr, e, lsb, w) {
@@ -110,9 +111,25 @@ pub fn lower_expression_range(
     build_range(image, net, scr, e, lsb, w)
 }
 
+// The lowest w bits of signal p, in turn.
+pub fn resolve_signal(image: &[u8], net: &mut [u32], scr: &mut [u32], p: u32, w: u32) -> Lowered
+    requires { ⌜ (Ready (now image) (now net) (now scr)) × (Sure (now image) (now net) (now scr)) × (p < countAt (now image) 0) × (w ≤ signalWidth (now image) p) ⌝ }
+    ensures { λ r. ⌜ GivesAll (now (image .entry)) (now (net .entry)) (now (scr .entry)) (model.signalSteps p 0 w) r (now (net .exit)) (now (scr .exit)) ⌝ }
+{
+    let mut b = 0;
+    while b < w {
+        let x = resolve_signal_bit(image, net, scr, p, b);
+        let Lowered::Done = x else {
+            return x;
+        };
+        b += 1;
+    }
+    Lowered::Done
+}
+
 // What a need names.
 fn lower_need(image: &[u8], net: &mut [u32], scr: &mut [u32], need: Need) -> Lowered
-    requires { ⌜ (Ready (now image) (now net) (now scr)) × (ThereNeed (now image) need) ⌝ }
+    requires { ⌜ (Ready (now image) (now net) (now scr)) × (Sure (now image) (now net) (now scr)) × (ThereNeed (now image) need) ⌝ }
     ensures { λ r. ⌜ GivesNeed (now (image .entry)) (now (net .entry)) (now (scr .entry)) need r (now (net .exit)) (now (scr .exit)) ⌝ }
 {
     match need {

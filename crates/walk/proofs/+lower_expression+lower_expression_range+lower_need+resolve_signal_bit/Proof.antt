@@ -49,7 +49,8 @@ use Rattle.plan.specs.Plan.{wholeNeeds, rangeTurns, rangeRest}
 use Rattle.plan.specs.Kinds.{range-ends}
 use Rattle.plan.specs.Fits.{next-asked}
 use Rattle.walk.specs.Walk.{costNeed}
-use Rattle.walk.proofs.Ways.{LoopAt, loop-turn, loop-out, need-there, need-less, loop-met, loop-end, whole-known, met-whole, range-known, whole-start, range-start, bit-known, bit-none, bit-marked, driver-there, marked-ready, marked-less, bit-lowered, not-done-tag}
+use Rattle.walk_steps.specs.Answers.{not-done-tag}
+use Rattle.walk.proofs.Ways.{LoopAt, loop-turn, loop-out, need-there, need-less, loop-met, loop-end, whole-known, met-whole, range-known, range-some, whole-start, range-start, bit-known, bit-none, bit-marked, driver-there, marked-ready, marked-sure, marked-less, bit-lowered}
 
 abbrev μ-lower-expression : Measures 3 lower-expression-kinds.ps ℕ
 μ-lower-expression κs a = 2 * costOf (a .0 .now) (a .1 .1 .0 .now) (M.Whole (a .1 .1 .1 .0))
@@ -150,24 +151,24 @@ lower-expression-returns : (t : ℕ) → lower-expression-lts.Need-returns (call
 lower-expression-returns t c =
     let a = c .before .before .before .before .before .before .args in
     let pre = c .before .before .before .before .before .before .pre in
-    whole-known (a .image .now) (a .net .now) (a .scr .now) (a .e) (pre .1 .0) (pre .1 .1) (sym (c .before .is-whole .ensures) ∙ c .if1 .taken)
+    whole-known (a .image .now) (a .net .now) (a .scr .now) (a .e) (pre .1 .0) (pre .1 .2) (sym (c .before .is-whole .ensures) ∙ c .if1 .taken)
 
 lower-expression-whole-count-requires : (t : ℕ) → lower-expression-lts.Need-whole-count-requires (calls-lower-expression t) (lower-expression-at t) lower-expression.Post lower-expression-Inv-loop lower-expression-μ-loop
 lower-expression-whole-count-requires t c κs =
     let pre = c .before .before .before .before .before .before .pre in
-    (pre .1 .0 .accepted, pre .1 .1)
+    (pre .1 .0 .accepted, pre .1 .2)
 
 lower-expression-loop-holds : (t : ℕ) → lower-expression-lts.Need-loop-holds (calls-lower-expression t) (lower-expression-at t) lower-expression.Post lower-expression-Inv-loop lower-expression-μ-loop
 lower-expression-loop-holds t c =
     let a = c .before .before .before .before .before .before .before .args in
     let pre = c .before .before .before .before .before .before .before .pre in
-    whole-start (a .image .now) (a .net .now) (a .scr .now) (a .e) (pre .1 .0) (pre .1 .1) (sym (c .before .before .is-whole .ensures) ∙ c .before .if1 .left)
+    whole-start (a .image .now) (a .net .now) (a .scr .now) (a .e) (pre .1 .0) (pre .1 .1) (pre .1 .2) (sym (c .before .before .is-whole .ensures) ∙ c .before .if1 .left)
 
 lower-expression-whole-need-requires : (t : ℕ) → lower-expression-lts.Need-whole-need-requires (calls-lower-expression t) (lower-expression-at t) lower-expression.Post lower-expression-Inv-loop lower-expression-μ-loop
 lower-expression-whole-need-requires t c κs =
     let whole-count = c .before .before .before .before .whole-count in
     let pre = c .before .before .before .before .before .before .before .before .before .before .before .pre in
-    (pre .1 .0 .accepted, pre .1 .1, omega (arith, whole-count .ensures, c .before .before .loop-test .taken))
+    (pre .1 .0 .accepted, pre .1 .2, omega (arith, whole-count .ensures, c .before .before .loop-test .taken))
 
 lower-expression-lower-need-requires : (t : ℕ) → lower-expression-lts.Need-lower-need-requires (calls-lower-expression t) (lower-expression-at t) lower-expression.Post lower-expression-Inv-loop lower-expression-μ-loop
 lower-expression-lower-need-requires t c κs =
@@ -177,7 +178,7 @@ lower-expression-lower-need-requires t c κs =
     let m : 2 * costOf (a .image .now) (a .scr .now) (M.Whole (a .e)) ≡ t = pre .0 in
     let l = need-less (a .image .now) (a .net .now) (a .scr .now) (M.Whole (a .e)) _ _ _ _ (q .net) (q .scr) (q .net) (q .scr) (q .inv) (c .whole-need .result) (omega arith) (c .whole-need .ensures) in
     let f : 2 * costNeed (a .image .now) (q .scr) (c .whole-need .result) + 1 < t = omega arith in
-    (f, (q .inv .ready, need-there (a .image .now) (a .net .now) (a .scr .now) (M.Whole (a .e)) _ _ _ _ (q .net) (q .scr) (q .net) (q .scr) (q .inv) (c .whole-need .result) (c .whole-need .ensures)))
+    (f, (q .inv .ready, q .inv .sure, need-there (a .image .now) (a .net .now) (a .scr .now) (M.Whole (a .e)) _ _ _ _ (q .net) (q .scr) (q .net) (q .scr) (q .inv) (c .whole-need .result) (c .whole-need .ensures)))
 
 lower-expression-enum-told : (t : ℕ) → lower-expression-lts.Need-enum-told (calls-lower-expression t) (lower-expression-at t) lower-expression.Post lower-expression-Inv-loop lower-expression-μ-loop
 lower-expression-enum-told t c = search needs
@@ -219,7 +220,7 @@ lower-expression-build-whole-requires t c κs =
     let a = c .before .before .before .before .before .before .before .before .before .before .before .args in
     let pre = c .before .before .before .before .before .before .before .before .before .before .before .pre in
     let over : length (wholeNeeds (a .image .now) (a .e)) ≤ q .k = omega (arith, whole-count .ensures, c .before .before .loop-test .left) in
-    (q .inv .ready, pre .1 .1, loop-met (a .image .now) (a .net .now) (a .scr .now) (M.Whole (a .e)) _ _ _ [] (q .net) (q .scr) (q .net) (q .scr) (q .inv) (drop-of-length-le (wholeNeeds (a .image .now) (a .e)) over))
+    (q .inv .ready, q .inv .sure, pre .1 .2, loop-met (a .image .now) (a .net .now) (a .scr .now) (M.Whole (a .e)) _ _ _ [] (q .net) (q .scr) (q .net) (q .scr) (q .inv) (drop-of-length-le (wholeNeeds (a .image .now) (a .e)) over))
 
 lower-expression-same-length-4 : (t : ℕ) → lower-expression-lts.Need-same-length-4 (calls-lower-expression t) (lower-expression-at t) lower-expression.Post lower-expression-Inv-loop lower-expression-μ-loop
 lower-expression-same-length-4 t c = search needs
@@ -286,7 +287,7 @@ lower-expression-range-loop-holds t c =
     let a = c .before .before .before .before .before .before .before .args in
     let pre = c .before .before .before .before .before .before .before .pre in
     let l = netlistOf (limitOf (a .scr .now)) (a .net .now) in
-    (range-start (a .image .now) (a .net .now) (a .scr .now) (a .e) (pre .1 .0) (pre .1 .1) (a .lsb) (a .w) (pre .1 .2) (sym (c .before .before .range-known .ensures l) ∙ c .before .if1 .left), omega arith)
+    (range-start (a .image .now) (a .net .now) (a .scr .now) (a .e) (pre .1 .0) (pre .1 .1) (pre .1 .2) (a .lsb) (a .w) (pre .1 .3) (sym (c .before .before .range-known .ensures l) ∙ c .before .if1 .left), omega arith)
 
 lower-expression-range-range-need-requires : (t : ℕ) → lower-expression-range-lts.Need-range-need-requires (calls-lower-expression-range t)
     (lower-expression-range-at t)
@@ -297,7 +298,7 @@ lower-expression-range-range-need-requires t c κs =
     let loop = c .before .before .before .loop in
     let range-turns = c .before .before .before .before .range-turns in
     let pre = c .before .before .before .before .before .before .before .before .before .before .before .pre in
-    (pre .1 .0 .accepted, pre .1 .1, pre .1 .2, omega (arith, range-turns .ensures, c .before .before .loop-test .taken), loop .inv .1)
+    (pre .1 .0 .accepted, pre .1 .2, pre .1 .3, omega (arith, range-turns .ensures, c .before .before .loop-test .taken), loop .inv .1)
 
 lower-expression-range-lower-need-requires : (t : ℕ) → lower-expression-range-lts.Need-lower-need-requires (calls-lower-expression-range t)
     (lower-expression-range-at t)
@@ -311,7 +312,7 @@ lower-expression-range-lower-need-requires t c κs =
     let m : 2 * costOf (a .image .now) (a .scr .now) (M.Range (a .e) (a .lsb) (a .w)) ≡ t = pre .0 in
     let l = need-less (a .image .now) (a .net .now) (a .scr .now) (M.Range (a .e) (a .lsb) (a .w)) _ _ _ _ (q .net) (q .scr) (q .net) (q .scr) (q .inv .0) (c .range-need .result) (omega arith) (c .range-need .ensures) in
     let f : 2 * costNeed (a .image .now) (q .scr) (c .range-need .result) + 1 < t = omega arith in
-    (f, (q .inv .0 .ready, need-there (a .image .now) (a .net .now) (a .scr .now) (M.Range (a .e) (a .lsb) (a .w)) _ _ _ _ (q .net) (q .scr) (q .net) (q .scr) (q .inv .0) (c .range-need .result) (c .range-need .ensures)))
+    (f, (q .inv .0 .ready, q .inv .0 .sure, need-there (a .image .now) (a .net .now) (a .scr .now) (M.Range (a .e) (a .lsb) (a .w)) _ _ _ _ (q .net) (q .scr) (q .net) (q .scr) (q .inv .0) (c .range-need .result) (c .range-need .ensures)))
 
 lower-expression-range-enum-told : (t : ℕ) → lower-expression-range-lts.Need-enum-told (calls-lower-expression-range t)
     (lower-expression-range-at t)
@@ -359,7 +360,7 @@ lower-expression-range-range-next-requires t c κs =
     let a = c .before .before .before .before .before .before .before .before .before .before .before .before .before .before .before .before .before .before .before .args in
     let pre = c .before .before .before .before .before .before .before .before .before .before .before .before .before .before .before .before .before .before .before .pre in
     let more : q .k < rangeTurns (a .image .now) (a .e) (a .w) = omega (arith, range-turns .ensures, loop-test .taken) in
-    (next-asked (a .image .now) (pre .1 .0 .accepted) (a .e) (pre .1 .1) (a .w) (q .k) more, q .inv .1)
+    (next-asked (a .image .now) (pre .1 .0 .accepted) (a .e) (pre .1 .2) (a .w) (q .k) more, q .inv .1)
 
 lower-expression-range-add-k : (t : ℕ) → lower-expression-range-lts.Need-add-k (calls-lower-expression-range t)
     (lower-expression-range-at t)
@@ -401,8 +402,10 @@ lower-expression-range-build-range-requires t c κs =
     let range-turns = c .before .before .before .before .range-turns in
     let a = c .before .before .before .before .before .before .before .before .before .before .before .args in
     let pre = c .before .before .before .before .before .before .before .before .before .before .before .pre in
+    let l = netlistOf (limitOf (a .scr .now)) (a .net .now) in
+    let some-bit = range-some (walkState (a .image .now) (a .net .now) (a .scr .now)) (a .e) (a .lsb) (a .w) (sym (c .before .before .before .before .before .before .range-known .ensures l) ∙ c .before .before .before .before .before .if1 .left) in
     let over : rangeTurns (a .image .now) (a .e) (a .w) ≤ q .k = omega (arith, range-turns .ensures, c .before .before .loop-test .left) in
-    (q .inv .0 .ready, pre .1 .1, pre .1 .2, loop-met (a .image .now) (a .net .now) (a .scr .now) (M.Range (a .e) (a .lsb) (a .w)) _ _ _ [] (q .net) (q .scr) (q .net) (q .scr) (q .inv .0) (range-ends (a .image .now) (a .e) (a .lsb) (a .w) (q .k) (q .at) over))
+    (q .inv .0 .ready, q .inv .0 .sure, pre .1 .2, some-bit, pre .1 .3, loop-met (a .image .now) (a .net .now) (a .scr .now) (M.Range (a .e) (a .lsb) (a .w)) _ _ _ [] (q .net) (q .scr) (q .net) (q .scr) (q .inv .0) (range-ends (a .image .now) (a .e) (a .lsb) (a .w) (q .k) (q .at) over))
 
 lower-expression-range-same-length-4 : (t : ℕ) → lower-expression-range-lts.Need-same-length-4 (calls-lower-expression-range t)
     (lower-expression-range-at t)
@@ -441,8 +444,8 @@ lower-need-resolve-signal-bit-requires t c κs =
     let a = c .before .before .before .before .before .before .before .before .args in
     let pre = c .before .before .before .before .before .before .before .before .pre in
     let m : 2 * costOf (a .image .now) (a .scr .now) (M.Bit (need .given .0 .0) (need .given .0 .1 .0)) + 1 ≡ t = rw (need .given .1) at (pre .0) in
-    let h : There (a .image .now) (M.Bit (need .given .0 .0) (need .given .0 .1 .0)) = rw (need .given .1) at (pre .1 .1) in
-    (omega arith, (pre .1 .0, h .0, h .1))
+    let h : There (a .image .now) (M.Bit (need .given .0 .0) (need .given .0 .1 .0)) = rw (need .given .1) at (pre .1 .2) in
+    (omega arith, (pre .1 .0, pre .1 .1, h .0, h .1))
 
 lower-need-enum-known-need-2 : (t : ℕ) → lower-need-lts.Need-enum-known-need-2 (calls-lower-need t) (lower-need-at t) lower-need.Post
 lower-need-enum-known-need-2 t c = search needs
@@ -453,8 +456,8 @@ lower-need-lower-expression-requires t c κs =
     let a = c .before .before .before .before .before .before .before .before .args in
     let pre = c .before .before .before .before .before .before .before .before .pre in
     let m : 2 * costOf (a .image .now) (a .scr .now) (M.Whole (need2 .given .0 .0)) + 1 ≡ t = rw (need2 .given .1) at (pre .0) in
-    let h : There (a .image .now) (M.Whole (need2 .given .0 .0)) = rw (need2 .given .1) at (pre .1 .1) in
-    (omega arith, (pre .1 .0, h))
+    let h : There (a .image .now) (M.Whole (need2 .given .0 .0)) = rw (need2 .given .1) at (pre .1 .2) in
+    (omega arith, (pre .1 .0, pre .1 .1, h))
 
 lower-need-enum-known-need-3 : (t : ℕ) → lower-need-lts.Need-enum-known-need-3 (calls-lower-need t) (lower-need-at t) lower-need.Post
 lower-need-enum-known-need-3 t c = search needs
@@ -465,8 +468,8 @@ lower-need-lower-expression-range-requires t c κs =
     let a = c .before .before .before .before .before .before .before .before .args in
     let pre = c .before .before .before .before .before .before .before .before .pre in
     let m : 2 * costOf (a .image .now) (a .scr .now) (M.Range (need3 .given .0 .0) (need3 .given .0 .1 .0) (need3 .given .0 .1 .1 .0)) + 1 ≡ t = rw (need3 .given .1) at (pre .0) in
-    let h : There (a .image .now) (M.Range (need3 .given .0 .0) (need3 .given .0 .1 .0) (need3 .given .0 .1 .1 .0)) = rw (need3 .given .1) at (pre .1 .1) in
-    (omega arith, (pre .1 .0, h .0, h .1))
+    let h : There (a .image .now) (M.Range (need3 .given .0 .0) (need3 .given .0 .1 .0) (need3 .given .0 .1 .1 .0)) = rw (need3 .given .1) at (pre .1 .2) in
+    (omega arith, (pre .1 .0, pre .1 .1, h .0, h .1))
 
 lower-need-enum-told : (t : ℕ) → lower-need-lts.Need-enum-told (calls-lower-need t) (lower-need-at t) lower-need.Post
 lower-need-enum-told t c = search needs
@@ -550,7 +553,7 @@ resolve-signal-bit-returns t c =
     let e = driver .given .0 .0 in
     let o = driver .given .0 .1 .0 in
     let d : driverOf (decode i) (a .p) (a .b) ≡ some (e, o) = sym (driver-of .ensures) ∙ ap drivenBy (driver .given .1) in
-    bit-marked i n w (a .p) (a .b) (pre .1 .0) (pre .1 .1) (pre .1 .2) lack e o d (sym (c .before .marked .ensures l) ∙ c .if1 .taken)
+    bit-marked i n w (a .p) (a .b) (pre .1 .0) (pre .1 .2) (pre .1 .3) lack e o d (sym (c .before .marked .ensures l) ∙ c .if1 .taken)
 
 resolve-signal-bit-mark-signal-requires : (t : ℕ) → resolve-signal-bit-lts.Need-mark-signal-requires (calls-resolve-signal-bit t) (resolve-signal-bit-at t) resolve-signal-bit.Post
 resolve-signal-bit-mark-signal-requires t c κs = search needs
@@ -577,12 +580,13 @@ resolve-signal-bit-lower-expression-requires t c κs =
     let u : cell false (walkState i n w .resolving) (a .p) (a .b) ≡ false = sym (marked .ensures l) ∙ first-test .left in
     let w₁ = mark-signal .last .1 .0 in
     let m : 2 * costOf i w (M.Bit (a .p) (a .b)) ≡ t = pre .0 in
-    let h = marked-less i n w (a .p) (a .b) (pre .1 .0) (pre .1 .1) (pre .1 .2) lack e o d w₁ u (mark-signal .ensures) (mark-signal .kept .1 .0) in
+    let h = marked-less i n w (a .p) (a .b) (pre .1 .0) (pre .1 .2) (pre .1 .3) lack e o d w₁ u (mark-signal .ensures) (mark-signal .kept .1 .0) in
     let f : 2 * costOf i w₁ (M.Whole e) < t = omega arith in (
       f,
       (
-        marked-ready i n w (a .p) (a .b) (pre .1 .0) (pre .1 .1) (pre .1 .2) lack e o d w₁ u (mark-signal .ensures) (mark-signal .kept .1 .0),
-        driver-there i n w (a .p) (a .b) (pre .1 .0) (pre .1 .1) (pre .1 .2) lack e o d .0,
+        marked-ready i n w (a .p) (a .b) (pre .1 .0) (pre .1 .2) (pre .1 .3) lack e o d w₁ u (mark-signal .ensures) (mark-signal .kept .1 .0),
+        marked-sure i n w (a .p) (a .b) (pre .1 .0) (pre .1 .2) (pre .1 .3) lack e o d w₁ u (mark-signal .ensures) (mark-signal .kept .1 .0) (pre .1 .1),
+        driver-there i n w (a .p) (a .b) (pre .1 .0) (pre .1 .2) (pre .1 .3) lack e o d .0,
       ),
     )
 
@@ -604,8 +608,8 @@ resolve-signal-bit-keep-driven-requires t c κs =
     let o = driver .given .0 .1 .0 in
     let d : driverOf (decode i) (a .p) (a .b) ≡ some (e, o) = sym (driver-of .ensures) ∙ ap drivenBy (driver .given .1) in
     let g = lower-expression .ensures in
-    let h = driver-there i n w (a .p) (a .b) (pre .1 .0) (pre .1 .1) (pre .1 .2) lack e o d in
-    (g .ready .laid, pre .1 .1, pre .1 .2, h .0, h .1, λ q. met-whole i _ _ e (g .ready) (h .0) (g .meets q))
+    let h = driver-there i n w (a .p) (a .b) (pre .1 .0) (pre .1 .2) (pre .1 .3) lack e o d in
+    (g .ready .laid, pre .1 .2, pre .1 .3, h .0, h .1, λ q. met-whole i _ _ e (g .ready) (h .0) (g .meets q))
 
 resolve-signal-bit-same-length-2 : (t : ℕ) → resolve-signal-bit-lts.Need-same-length-2 (calls-resolve-signal-bit t) (resolve-signal-bit-at t) resolve-signal-bit.Post
 resolve-signal-bit-same-length-2 t c = search needs
@@ -615,7 +619,7 @@ resolve-signal-bit-returns-2 t c =
     let a = c .before .before .before .before .before .before .before .args in
     let pre = c .before .before .before .before .before .before .before .pre in
     let l = netlistOf (limitOf (a .scr .now)) (a .net .now) in
-    bit-known (a .image .now) (a .net .now) (a .scr .now) (a .p) (a .b) (pre .1 .0) (pre .1 .1) (pre .1 .2) _ (sym (c .before .before .signal-net .ensures l) ∙ ap knownOf (c .enum-told .given .1))
+    bit-known (a .image .now) (a .net .now) (a .scr .now) (a .p) (a .b) (pre .1 .0) (pre .1 .2) (pre .1 .3) _ (sym (c .before .before .signal-net .ensures l) ∙ ap knownOf (c .enum-told .given .1))
 
 resolve-signal-bit-same-length-3 : (t : ℕ) → resolve-signal-bit-lts.Need-same-length-3 (calls-resolve-signal-bit t) (resolve-signal-bit-at t) resolve-signal-bit.Post
 resolve-signal-bit-same-length-3 t c = search needs
@@ -631,7 +635,7 @@ resolve-signal-bit-returns-3 t c =
     let w = a .scr .now in
     let l = netlistOf (limitOf w) n in
     let lack : signalBit (walkState i n w) (a .p) (a .b) ≡ none = sym (signal-net .ensures l) ∙ ap knownOf (enum-told2 .given .1) in
-    bit-none i n w (a .p) (a .b) (pre .1 .0) (pre .1 .1) (pre .1 .2) lack (sym (c .before .before .driver-of .ensures) ∙ ap drivenBy (c .enum-told3 .given .1))
+    bit-none i n w (a .p) (a .b) (pre .1 .0) (pre .1 .2) (pre .1 .3) lack (sym (c .before .before .driver-of .ensures) ∙ ap drivenBy (c .enum-told3 .given .1))
 
 resolve-signal-bit-same-length-4 : (t : ℕ) → resolve-signal-bit-lts.Need-same-length-4 (calls-resolve-signal-bit t) (resolve-signal-bit-at t) resolve-signal-bit.Post
 resolve-signal-bit-same-length-4 t c = search needs
@@ -661,7 +665,7 @@ resolve-signal-bit-returns-4 t c =
     let d : driverOf (decode i) (a .p) (a .b) ≡ some (e, o) = sym (driver-of .ensures) ∙ ap drivenBy (driver .given .1) in
     let u : cell false (walkState i n w .resolving) (a .p) (a .b) ≡ false = sym (marked .ensures l) ∙ first-test .left in
     let w₁ = mark-signal .last .1 .0 in
-    bit-lowered i n w (a .p) (a .b) (pre .1 .0) (pre .1 .1) (pre .1 .2) lack e o d w₁ u (mark-signal .ensures) (mark-signal .kept .1 .0) _ _ _ _ _ (lower-expression .ensures) (c .before .before .keep-driven .ensures) (c .before .before .keep-driven .kept .1 .0)
+    bit-lowered i n w (a .p) (a .b) (pre .1 .0) (pre .1 .2) (pre .1 .3) lack e o d w₁ u (mark-signal .ensures) (mark-signal .kept .1 .0) _ _ _ _ _ (lower-expression .ensures) (c .before .before .keep-driven .ensures) (c .before .before .keep-driven .kept .1 .0)
 
 pub +lower-expression+lower-expression-range+lower-need+resolve-signal-bit-spec :
     {M : Type 1} → statement M

@@ -2,7 +2,8 @@
 use borrow.Author.Needs.{needs}
 use Rattle.walk.proofs.keep_driven.Statement.{statement}
 use Rattle.walk.proofs.keep_driven.Tie as tie
-use Rattle.walk.proofs.Ways.{not-done-tag, keep-refused, net-small, keep-done}
+use Rattle.walk_steps.specs.Answers.{not-done-tag}
+use Rattle.walk.proofs.Ways.{keep-refused, net-small, keep-done}
 
 enum-told : tie.Need-enum-told
 enum-told c = search needs
