@@ -6,35 +6,19 @@ ghost use Rattle.rtl.specs.Rtl as R;
 ghost use Rattle.meaning.specs.Image.{countAt, signalWidth, decode};
 ghost use Rattle.model.specs.Lowering as model;
 ghost use Rattle.walk_laws.specs.Reads.{AllAfter};
-ghost use Rattle.walk_view.specs.View.{walkState, Ready, Sure, Gives, Phase};
+ghost use Rattle.walk_view.specs.View.{walkState, Ready, Sure, Phase};
+ghost use Rattle.walk_steps.specs.Steps.{GivesAll};
 ghost use Rattle.connect_parts.specs.Ran.{Ran};
-ghost use Rattle.connect_parts.specs.Steps.{Stepped};
 ghost use Rattle.connect_outputs.specs.Outputs.{outputTurn, portTurn, lowered};
 use nodes::Added;
 use records::Direction;
 use walk_view::Lowered;
 
-fn resolve_signal_bit(image: &[u8], net: &mut [u32], scr: &mut [u32], p: u32, b: u32) -> Lowered
-    requires { ⌜ (Ready (now image) (now net) (now scr)) × (Sure (now image) (now net) (now scr)) × (p < countAt (now image) 0) × (b < signalWidth (now image) p) ⌝ }
-    ensures { λ r. ⌜ Gives (now (image .entry)) (now (net .entry)) (now (scr .entry)) (model.Bit p b) r (now (net .exit)) (now (scr .exit)) ⌝ }
+fn resolve_signal(image: &[u8], net: &mut [u32], scr: &mut [u32], p: u32, w: u32) -> Lowered
+    requires { ⌜ (Ready (now image) (now net) (now scr)) × (Sure (now image) (now net) (now scr)) × (p < countAt (now image) 0) × (w ≤ signalWidth (now image) p) ⌝ }
+    ensures { λ r. ⌜ GivesAll (now (image .entry)) (now (net .entry)) (now (scr .entry)) (model.signalSteps p 0 w) r (now (net .exit)) (now (scr .exit)) ⌝ }
 {
     Lowered::ListFull
-}
-
-// All n bits of signal p.
-fn resolve_signal(image: &[u8], net: &mut [u32], scr: &mut [u32], p: u32, n: u32) -> Lowered
-    requires { ⌜ (Ready (now image) (now net) (now scr)) × (Sure (now image) (now net) (now scr)) × (p < countAt (now image) 0) × (n ≡ signalWidth (now image) p) ⌝ }
-    ensures { λ r. ⌜ Stepped (model.signalSteps p 0 n) (now (image .entry)) (now (net .entry)) (now (scr .entry)) r (now (net .exit)) (now (scr .exit)) ⌝ }
-{
-    let mut b = 0;
-    while b < n {
-        let x = resolve_signal_bit(image, net, scr, p, b);
-        let Lowered::Done = x else {
-            return x;
-        };
-        b += 1;
-    }
-    Lowered::Done
 }
 
 fn answer(x: Added) -> Lowered

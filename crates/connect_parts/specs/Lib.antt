@@ -1,4 +1,3 @@
 -- What connecting memories, registers and outputs has in common.
 pub mod Ran
 pub mod Steps
-pub mod Tags

@@ -1,13 +1,15 @@
 -- A call around the recursion that also keeps `Sure` (`Ran`), how such calls follow each other, and a loop of them (`TurnsAt`). Assumes nothing.
-use mathlib.Core.Path.{_≡_, refl, sym, ap, _∙_, subst}
+use mathlib.Core.Path.{_≡_, refl, ap, _∙_}
 use mathlib.Core.List.{List}
 use Prim.Native.Nat.{ℕ, zero, suc, _+_, _-_, _≤_, _<_}
 use native.Mathlib.Omega.{arith}
-use Rattle.model.specs.Builder.{Out, refused, done, andThen}
+use Rattle.model.specs.Builder.{Out, done, andThen}
 use Rattle.model.specs.Lowering.{State}
 use Rattle.walk_view.specs.View.{walkState, Ready, Sure, Kept, outOf, Phase}
 use Rattle.walk_view.specs.declared.Lowered.{Lowered}
-use Rattle.walk_view.specs.declared.Lowered.the-variants.{Done, Undriven, Loop, Reset, TooManyNets, ListFull}
+use Rattle.walk_view.specs.declared.Lowered.the-variants.{Done}
+use Rattle.sure_laws.specs.Stores.{kept-same, kept-then}
+use Rattle.walk_steps.specs.Answers.{Refused, out, not-done}
 
 -- from net, w a call that the model describes answered r and left net′, w′
 pub record Ran (model : Out State) (s net w : List ℕ) (r : Lowered) (net′ w′ : List ℕ) : Type 0 where
@@ -22,42 +24,10 @@ ran-phase a = record { says = a .says; ready = a .ready; kept = a .kept }
 pub ran-as : {model model′ : Out State} {s net w net′ w′ : List ℕ} {r : Lowered} → model′ ≡ model → Ran model s net w r net′ w′ → Ran model′ s net w r net′ w′
 ran-as e a = record { says = e ∙ a .says; ready = a .ready; kept = a .kept; sure = a .sure }
 
--- ---- answers ----
-
-abbrev pub Refused : Lowered → Type 0
-Refused Done = ⊥
-Refused (Undriven p b) = Unit {0}
-Refused (Loop p b) = Unit {0}
-Refused (Reset p b) = Unit {0}
-Refused TooManyNets = Unit {0}
-Refused ListFull = Unit {0}
-
-pub not-done : (x : Lowered) → Refused x → x ≡ Done → {A : Type 0} → A
-not-done x r e = absurd (subst Refused e r)
-
-out : (x : Lowered) → Refused x → (k : State → Out State) (st : State) → andThen (outOf x st) k ≡ outOf x st
-out Done r k st = absurd r
-out (Undriven p b) r k st = refl
-out (Loop p b) r k st = refl
-out (Reset p b) r k st = refl
-out TooManyNets r k st = refl
-out ListFull r k st = refl
-
 on : (x : Lowered) (k : State → Out State) (st : State) → x ≡ Done → andThen (outOf x st) k ≡ k st
 on x k st e = rw e
 
 -- ---- one call, then another ----
-
-pub kept-same : (s net w : List ℕ) → Kept s net w net w
-kept-same s net w = record { netLong = refl; long = refl; fixed = refl; fewer = omega arith }
-
-pub kept-then : {s net w net₁ w₁ net₂ w₂ : List ℕ} → Kept s net w net₁ w₁ → Kept s net₁ w₁ net₂ w₂ → Kept s net w net₂ w₂
-kept-then a b = record {
-  netLong = b .netLong ∙ a .netLong;
-  long = b .long ∙ a .long;
-  fixed = b .fixed ∙ a .fixed;
-  fewer = omega (arith, a .fewer, b .fewer);
-}
 
 pub ran-none : (s net w : List ℕ) → Ready s net w → Sure s net w → Ran (done (walkState s net w)) s net w Done net w
 ran-none s net w r i = record { says = refl; ready = r; kept = kept-same s net w; sure = λ e. i }
@@ -67,13 +37,13 @@ module _ {o : Out State} {s net w net₁ w₁ : List ℕ} {x : Lowered} (k : Sta
   ran-then e b = record {
     says = ap (λ (z : Out State). andThen z k) (a .says) ∙ on x k (walkState s net₁ w₁) e ∙ b .says;
     ready = b .ready;
-    kept = kept-then (a .kept) (b .kept);
+    kept = kept-then _ _ _ _ _ _ _ (a .kept) (b .kept);
     sure = b .sure;
   }
 
   pub ran-out : Refused x → Ran (andThen o k) s net w x net₁ w₁
   ran-out q = record {
-    says = ap (λ (z : Out State). andThen z k) (a .says) ∙ out x q k (walkState s net₁ w₁);
+    says = ap (λ (z : Out State). andThen z k) (a .says) ∙ out x q k (walkState s net₁ w₁) (walkState s net₁ w₁);
     ready = a .ready;
     kept = a .kept;
     sure = λ e. not-done x q e;
@@ -127,7 +97,7 @@ module _ (whole : Out State) (one : ℕ → State → Out State) (s net₀ w₀ 
             says = opened ∙ ap (λ (z : Out State). andThen z (λ st₁. turns one (suc k) (n - suc k) st₁)) (a .says)
                 ∙ on x (λ st₁. turns one (suc k) (n - suc k) st₁) (walkState s net₁ w₁) e ∙ ap (λ (j : ℕ). turns one j (n - j) (walkState s net₁ w₁)) z;
             ready = a .ready;
-            kept = kept-then (h .kept) (a .kept);
+            kept = kept-then _ _ _ _ _ _ _ (h .kept) (a .kept);
             sure = a .sure e;
           }
 
@@ -135,7 +105,7 @@ module _ (whole : Out State) (one : ℕ → State → Out State) (s net₀ w₀ 
       turns-out q = record {
         says = opened ∙ ran-out (λ st₁. turns one (suc k) (n - suc k) st₁) a q .says;
         ready = a .ready;
-        kept = kept-then (h .kept) (a .kept);
+        kept = kept-then _ _ _ _ _ _ _ (h .kept) (a .kept);
         sure = λ e. not-done x q e;
       }
 
