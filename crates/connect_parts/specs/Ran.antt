@@ -3,7 +3,7 @@ use mathlib.Core.Path.{_≡_, refl, ap, _∙_}
 use mathlib.Core.List.{List}
 use Prim.Native.Nat.{ℕ, zero, suc, _+_, _-_, _≤_, _<_}
 use native.Mathlib.Omega.{arith}
-use Rattle.model.specs.Builder.{Out, done, andThen}
+use Rattle.model.specs.Builder.{Out, refused, done, andThen}
 use Rattle.model.specs.Lowering.{State}
 use Rattle.walk_view.specs.View.{walkState, Ready, Sure, Kept, outOf, Phase}
 use Rattle.walk_view.specs.declared.Lowered.{Lowered}
@@ -28,6 +28,13 @@ on : (x : Lowered) (k : State → Out State) (st : State) → x ≡ Done → and
 on x k st e = rw e
 
 -- ---- one call, then another ----
+
+pub then-then : (o : Out State) (f g : State → Out State) → andThen (andThen o f) g ≡ andThen o (λ st. andThen (f st) g)
+then-then (refused n x y) f g = refl
+then-then (done st) f g = refl
+
+pub ran-refused : (model : Out State) (s net w : List ℕ) (x : Lowered) → Ready s net w → model ≡ outOf x (walkState s net w) → Refused x → Ran model s net w x net w
+ran-refused model s net w x r e q = record { says = e; ready = r; kept = kept-same s net w; sure = λ d. not-done x q d }
 
 pub ran-none : (s net w : List ℕ) → Ready s net w → Sure s net w → Ran (done (walkState s net w)) s net w Done net w
 ran-none s net w r i = record { says = refl; ready = r; kept = kept-same s net w; sure = λ e. i }
