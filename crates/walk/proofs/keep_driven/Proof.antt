@@ -1,41 +1,58 @@
--- `walk::keep_driven` meets its contract. Assumes nothing.
 use borrow.Author.Needs.{needs}
 use Rattle.walk.proofs.keep_driven.Statement.{statement}
 use Rattle.walk.proofs.keep_driven.Tie as tie
-use Rattle.walk_steps.specs.Answers.{not-done-tag}
-use Rattle.walk.proofs.Ways.{keep-refused, net-small, keep-done}
+use Rattle.walk.proofs.keep_driven.Reads as reads
+use Rattle.walk.proofs.keep_driven.Lts as lts
+use Rattle.tables.proofs.driver_of.Reads as driver-of-reads
+use Rattle.tables.proofs.expr_net.Reads as expr-net-reads
+use Rattle.tables.proofs.keep_signal.Reads as keep-signal-reads
 
+-- src/lib.rt:70:11
+driver-of-requires : tie.Need-driver-of-requires
+driver-of-requires c κs = search needs
+
+-- src/lib.rt:71:28
 enum-told : tie.Need-enum-told
 enum-told c = search needs
 
-returns : tie.Need-returns
-returns c =
-    let args = c .before .before .before .args in
-    let pre = c .before .before .before .pre in
-    let a = args in keep-refused (a .image .now) (a .scr .now) (a .p) (a .b) (a .e) (a .o) (a .x) (pre .0) (not-done-tag (a .x) (c .match .keys2))
+-- src/lib.rt:72:22
+enum-known-e : tie.Need-enum-known-e
+enum-known-e c = search needs
 
+-- src/lib.rt:73:17
 expr-net-requires : tie.Need-expr-net-requires
-expr-net-requires c κs = search needs
+expr-net-requires c κs = ?
 
+-- src/lib.rt:74:13
 keep-signal-requires : tie.Need-keep-signal-requires
-keep-signal-requires c κs =
-    let enum-told = c .before .before .before .enum-told in
-    let args = c .before .before .before .before .before .before .before .args in
-    let pre = c .before .before .before .before .before .before .before .pre in
-    let a = args in (pre .0, pre .1, pre .2, net-small (a .image .now) (a .scr .now) (a .e) (a .o) _ (pre .0) (pre .3) (pre .4) (pre .5 (enum-told .given .1)) (c .before .expr-net .ensures))
+keep-signal-requires c κs = ?
 
+-- src/lib.rt:66:1
 same-length : tie.Need-same-length
 same-length c = search needs
 
+-- src/lib.rt:66:1
+returns : tie.Need-returns
+returns c = ?
+
+-- src/lib.rt:66:1
+same-length-2 : tie.Need-same-length-2
+same-length-2 c = search needs
+
+-- src/lib.rt:66:1
 returns-2 : tie.Need-returns-2
-returns-2 c =
-    let expr-net = c .before .before .before .before .expr-net in
-    let enum-told = c .before .before .before .before .before .before .enum-told in
-    let args = c .before .before .before .before .before .before .before .before .before .before .args in
-    let pre = c .before .before .before .before .before .before .before .before .before .before .pre in
-    let a = args in keep-done (a .image .now) (a .scr .now) (a .e) (a .o) _ (pre .0) (pre .3) (pre .4) (pre .5 (enum-told .given .1)) (expr-net .ensures) (a .p) (a .b) (a .x) _ (enum-told .given .1) (c .before .before .keep-signal .ensures)
+returns-2 c = ?
 
 pub keep-driven-spec : {M : Type 1} → statement M
 keep-driven-spec =
     tie.close
-    (tie.spec enum-told returns expr-net-requires keep-signal-requires same-length returns-2)
+    (tie.spec
+    driver-of-requires
+    enum-told
+    enum-known-e
+    expr-net-requires
+    keep-signal-requires
+    same-length
+    returns
+    same-length-2
+    returns-2)
