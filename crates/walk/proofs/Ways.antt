@@ -12,30 +12,32 @@ use Rattle.meaning.specs.Image.{countAt, signalWidth, exprWidth, decode}
 use Rattle.meaning.specs.Checks.{exprBits}
 use Rattle.model.specs.Builder.{Out, done, andThen}
 use Rattle.model.specs.Lowering as M
-use Rattle.model.specs.Lowering.{State, Step, Always, lowerNeed, lowerBy, whole, knownBy, rangeKnown, signalBit, cell, driverOf, setSignalBit, wholeNet, wholeSteps, rangeSteps, keepWhole, keepRange, buildWhole, buildRange}
+use Rattle.model.specs.Lowering.{State, Step, Always, lowerNeed, lowerBy, whole, knownBy, rangeKnown, signalBit, cell, driverOf, setSignalBit, wholeNet, wholeSteps, rangeSteps, keepRange, buildRange}
 use Rattle.accepted.specs.Formed.{readable}
 use Rattle.expr_laws.specs.Exprs.{exprsOf}
 use Rattle.netlist_view.specs.View.{netlistOf}
 use Rattle.table_view.specs.Rows.{rows, row-at, length-listOf}
-use Rattle.table_view.specs.View.{limitOf, signalColumn, exprBit, bitAt, known, netWord, isWhole, stateOf, free, Laid, Writes, Marks}
+use Rattle.table_view.specs.View.{limitOf, signalColumn, exprBit, bitAt, known, netWord, isWhole, stateOf, free, Sized, Laid, Writes, Marks}
 use Rattle.table_view.specs.Laws.{whole-none, whole-some, read-whole, netWord-some, expr-ends}
 use Rattle.table_view.specs.Reads.{whole-net}
 use Rattle.table_view.specs.Drivers.{driver-inside}
 use Rattle.tables.specs.Answers.{ExprNet}
 use Rattle.walk_view.specs.declared.Lowered.{Lowered}
 use Rattle.walk_view.specs.declared.Lowered.the-variants.{Done, Undriven, Loop}
-use Rattle.walk_view.specs.Met.{met, isSome, AllMet, Grows, grows-mark, grows-signal, meets-signal}
+use Rattle.walk_view.specs.Met.{met, isSome, AllMet, grows-mark, grows-signal, meets-signal}
 use Rattle.walk_view.specs.View.{walkState, Ready, Sure, outOf, Builds, rankOf, costOf, Gives}
+use Rattle.walk_laws.specs.Tables.{none-some, some-eq}
 use Rattle.sure_laws.specs.Sure.{sure-done, sure-marks}
 use Rattle.sure_laws.specs.Stores.{stored-ready, stored-kept, stored-state, stored-grows, kept-same, kept-then}
 use Rattle.walk_steps.specs.Answers.{Refused, out, not-done}
 use Rattle.plan.specs.declared.Need.{Need}
 use Rattle.plan.specs.declared.Need.the-variants.{Bit, Whole, Range, Nothing}
-use Rattle.plan.specs.Plan.{needsOf, stepNeeds, wholeNeeds, rangeTurns, rangeRest}
+use Rattle.plan.specs.Plan.{needsOf, wholeNeeds, rangeTurns, rangeRest}
 use Rattle.plan.specs.Kinds.{range-begins}
 use Rattle.plan.specs.Fits.{AllFit, whole-fits, range-fits}
+use Rattle.walk.specs.declared.Next.{Next}
 use Rattle.walk.specs.Needs.{lowerNeeds, NeedsMet}
-use Rattle.walk.specs.Walk.{ThereNeed, GivesNeed, costNeed, LoopAt, BitLoop, WholeLoop, RangeLoop, turnsOf, Open, At, Below, FirstTurn, Keeps}
+use Rattle.walk.specs.Walk.{ThereNeed, GivesNeed, costNeed, LoopAt, BitLoop, WholeLoop, RangeLoop, At, Below, After, FirstTurn, Keeps}
 use Rattle.walk.proofs.Steps.{needs-none, needs-one, needs-on, needs-out, all-needs, need-suc, whole-there, whole-open, range-there, range-open, bit-there, bit-undriven, bit-loop, bit-driven}
 
 pub enough : (model : ℕ → Out State) (cost : ℕ) (x : Out State) → ((f : ℕ) → cost ≤ f → model (suc f) ≡ x) → (f : ℕ) → cost < f → model f ≡ x
@@ -304,6 +306,9 @@ bit-met s net w p b hp hb n =
     meets-signal (walkState s net w) p b n (rw (rows-length (signalWidth s) (countAt s 0) (knownAt w)) hp)
     (rw (row-at (signalWidth s) (countAt s 0) (knownAt w) p hp, length-listOf (signalWidth s p) (λ j. knownAt w (sumTo (signalWidth s) p + j))) hb)
 
+pub driver-fits : (s : List ℕ) (p b e o : ℕ) → Sized s → driverOf (decode s) p b ≡ some (e, o) → (e < countAt s 1) × (o < exprWidth s e)
+driver-fits s p b e o z d = let i = rw d at (driver-inside s p b z) in (i .0, i .1 .0)
+
 module _ (s net w : List ℕ) (p b : ℕ) (r : Ready s net w) where
   pub bit-known : (n : ℕ) → signalBit (walkState s net w) p b ≡ some n → Gives s net w (M.Bit p b) Done net w
   unfolding met
@@ -315,7 +320,7 @@ module _ (s net w : List ℕ) (p b : ℕ) (r : Ready s net w) where
 
     module _ (e o : ℕ) (d : driverOf (decode s) p b ≡ some (e, o)) where
       driver-there : (e < countAt s 1) × (o < exprWidth s e)
-      driver-there = let i = rw d at (driver-inside s p b (r .laid .image)) in (i .0, i .1 .0)
+      driver-there = driver-fits s p b e o (r .laid .image) d
 
       pub bit-marked : cell false (walkState s net w .resolving) p b ≡ true → Gives s net w (M.Bit p b) (Loop p b) net w
       bit-marked c = stops s net w (M.Bit p b) r (Loop p b) tt (λ f. bit-loop _ (decode s) p b (walkState s net w) e o k d c)
@@ -360,12 +365,12 @@ module _ (s net w : List ℕ) (p b : ℕ) (r : Ready s net w) where
 -- the driver is lowered
 pub driver-whole : (s net₀ w₀ : List ℕ) (p b : ℕ) (net w : List ℕ) → BitLoop s net₀ w₀ p b [] net w → (e o : ℕ) → driverOf (decode s) p b ≡ some (e, o) → isWhole s (limitOf w) w e ≡ true
 driver-whole s net₀ w₀ p b net w h e o d =
-    let i = rw d at (driver-inside s p b (h .loop .ready .laid .image)) in
-    let q : h .e ≡ e = same (sym (h .drives) ∙ d) in
-    met-whole s net w e (i .0) (rw q at (loop-met s net₀ w₀ (M.Bit p b) _ _ [] [] net w (h .loop) refl .0))
-  where
-    same : {a a′ : ℕ × ℕ} → some a ≡ some a′ → a .0 ≡ a′ .0
-    same {a} x = ap (λ (y : Option (ℕ × ℕ)). elim y [ none ↦ a .0 | some z ↦ z .0 ]) x
+    let q : h .e ≡ e = ap (λ (x : ℕ × ℕ). x .0) (some-eq (sym (h .drives) ∙ d)) in
+    met-whole s net w e (driver-fits s p b e o (h .loop .ready .laid .image) d .0) (rw q at (loop-met s net₀ w₀ (M.Bit p b) _ _ [] [] net w (h .loop) refl .0))
+
+pub bit-opened : (s net₀ w₀ : List ℕ) (p b k at : ℕ) (net w : List ℕ) → At s net₀ w₀ (Bit p b) k at net w → k ≡ 0 → (r : Next) (w₁ : List ℕ)
+    → After s net w (Bit p b) 0 r net w₁ → After s net₀ w₀ (Bit p b) k r net w₁
+bit-opened s net₀ w₀ p b k at net w h z r w₁ a = rw (h .first z .0, h .first z .1, z) a
 
 pub bit-over : (s net₀ w₀ : List ℕ) (p b : ℕ) (net w : List ℕ) (h : BitLoop s net₀ w₀ p b [] net w) → p < countAt s 0 → b < signalWidth s p → (x : Lowered) (w₁ : List ℕ)
     → ((e o : ℕ) → driverOf (decode s) p b ≡ some (e, o) → Keeps s w p b e o x w₁) → length w₁ ≡ length w → Gives s net₀ w₀ (M.Bit p b) x net w₁
@@ -406,6 +411,14 @@ module _ (s w : List ℕ) (e o n : ℕ) (h : Laid s w) (he : e < countAt s 1) (h
     };
   }
 
+-- which driver it is, the image says
+pub keep-driver : (s w : List ℕ) (p b e o e₁ o₁ : ℕ) (r : Lowered) (w′ : List ℕ) → driverOf (decode s) p b ≡ some (e₁, o₁) → Keeps s w p b e₁ o₁ r w′
+    → driverOf (decode s) p b ≡ some (e, o) → Keeps s w p b e o r w′
+keep-driver s w p b e o e₁ o₁ r w′ d₁ k d = subst (λ (x : ℕ × ℕ). Keeps s w p b (x .0) (x .1) r w′) (some-eq (sym d₁ ∙ d)) k
+
+pub keep-none : (s w : List ℕ) (p b e o : ℕ) (r : Lowered) (w′ : List ℕ) → driverOf (decode s) p b ≡ none → driverOf (decode s) p b ≡ some (e, o) → Keeps s w p b e o r w′
+keep-none s w p b e o r w′ d₁ d = absurd (none-some (sym d₁ ∙ d))
+
 -- ---- turns ----
 
 pub nothing-over : (s net₀ w₀ : List ℕ) (k at : ℕ) (net w : List ℕ) → At s net₀ w₀ Nothing k at net w → GivesNeed s net₀ w₀ Nothing Done net w
@@ -417,20 +430,63 @@ nothing-over s net₀ w₀ k at net w h = go k refl
 
 -- where a part begins plays no part
 pub whole-at : (s net₀ w₀ : List ℕ) (e k at : ℕ) (net w : List ℕ) → At s net₀ w₀ (Whole e) k at net w → At s net₀ w₀ (Whole e) k 0 net w
-whole-at s net₀ w₀ e k at net w h = record { ready = h .ready; sure = h .sure; there = h .there; place = omega arith; first = h .first; later = h .later }
+whole-at s net₀ w₀ e k at net w h = record {
+  ready = h .ready;
+  sure = h .sure;
+  there = h .there;
+  netLong = h .netLong;
+  long = h .long;
+  place = omega arith;
+  first = h .first;
+  later = h .later;
+}
 
 pub bit-at : (s net₀ w₀ : List ℕ) (p b k at : ℕ) (net w : List ℕ) → At s net₀ w₀ (Bit p b) k at net w → At s net₀ w₀ (Bit p b) k 0 net w
-bit-at s net₀ w₀ p b k at net w h = record { ready = h .ready; sure = h .sure; there = h .there; place = omega arith; first = h .first; later = h .later }
+bit-at s net₀ w₀ p b k at net w h = record {
+  ready = h .ready;
+  sure = h .sure;
+  there = h .there;
+  netLong = h .netLong;
+  long = h .long;
+  place = omega arith;
+  first = h .first;
+  later = h .later;
+}
 
 pub turn-start : (s net w : List ℕ) (need : Need) → Ready s net w → Sure s net w → ThereNeed s need → At s net w need 0 0 net w
-turn-start s net w need r i h = record { ready = r; sure = i; there = h; place = omega arith; first = λ z. (refl, refl); later = λ z. absurd (omega arith) }
-
-pub turn-next : (s net₀ w₀ : List ℕ) (need : Need) (k : ℕ) (n : Need) (at : ℕ) (net w : List ℕ) → ThereNeed s need → Below s net₀ w₀ need k n at net w
-    → (x : Lowered) (net₁ w₁ : List ℕ) → GivesNeed s net w n x net₁ w₁ → x ≡ Done → Ready s net₁ w₁ → Sure s net₁ w₁ → At s net₀ w₀ need (k + 1) at net₁ w₁
-turn-next s net₀ w₀ need k n at net w t h x net₁ w₁ g d r i = record {
+turn-start s net w need r i h = record {
   ready = r;
   sure = i;
+  there = h;
+  netLong = refl;
+  long = refl;
+  place = omega arith;
+  first = λ z. (refl, refl);
+  later = λ z. absurd (omega arith);
+}
+
+-- what a call for a need leaves
+need-ready : (s net w : List ℕ) (n : Need) (x : Lowered) (net₁ w₁ : List ℕ) → Ready s net w → GivesNeed s net w n x net₁ w₁ → Ready s net₁ w₁
+need-ready s net w (Bit p b) x net₁ w₁ r g = g .ready
+need-ready s net w (Whole e) x net₁ w₁ r g = g .ready
+need-ready s net w (Range e lsb k) x net₁ w₁ r g = g .ready
+need-ready s net w Nothing x net₁ w₁ r g = rw (g .1, g .2) r
+
+need-sure : (s net w : List ℕ) (n : Need) (x : Lowered) (net₁ w₁ : List ℕ) → Ready s net w → Sure s net w → ThereNeed s n → GivesNeed s net w n x net₁ w₁ → x ≡ Done → Sure s net₁ w₁
+need-sure s net w (Bit p b) x net₁ w₁ r i h g d = sure-done s net w net₁ w₁ (M.Bit p b) x d (r .accepted) i h g
+need-sure s net w (Whole e) x net₁ w₁ r i h g d = sure-done s net w net₁ w₁ (M.Whole e) x d (r .accepted) i h g
+need-sure s net w (Range e lsb k) x net₁ w₁ r i h g d = sure-done s net w net₁ w₁ (M.Range e lsb k) x d (r .accepted) i h g
+need-sure s net w Nothing x net₁ w₁ r i h g d = rw (g .1, g .2) i
+
+pub turn-next : (s net₀ w₀ : List ℕ) (need : Need) (k : ℕ) (n : Need) (at : ℕ) (net w : List ℕ) → ThereNeed s need → Below s net₀ w₀ need k n at net w
+    → (x : Lowered) (net₁ w₁ : List ℕ) → GivesNeed s net w n x net₁ w₁ → x ≡ Done → length net₁ ≡ length net₀ → length w₁ ≡ length w₀
+    → At s net₀ w₀ need (k + 1) at net₁ w₁
+turn-next s net₀ w₀ need k n at net w t h x net₁ w₁ g d netLong long = record {
+  ready = need-ready s net w n x net₁ w₁ (h .ready) g;
+  sure = need-sure s net w n x net₁ w₁ (h .ready) (h .sure) (h .there) g d;
   there = t;
+  netLong = netLong;
+  long = long;
   place = h .place;
   first = λ z. absurd (omega arith);
   later = λ z. h .on x net₁ w₁ g d;

@@ -1,6 +1,6 @@
 -- What a call for a need gives; within it, what stands before turn k (`At`) and after it (`After`). Assumes nothing.
 use mathlib.Core.Path.{_≡_}
-use mathlib.Core.Bool.{Bool, true, false}
+use mathlib.Core.Bool.{Bool, false}
 use mathlib.Core.List.{List, [], _∷_}
 use mathlib.Core.Option.{some}
 use Prim.Native.Nat.{ℕ, suc, _+_, _*_, _≤_, _<_}
@@ -91,6 +91,8 @@ pub record At (s net₀ w₀ : List ℕ) (need : Need) (k at : ℕ) (net w : Lis
   pub ready : Ready s net w
   pub sure : Sure s net w
   pub there : ThereNeed s need
+  pub netLong : length net ≡ length net₀
+  pub long : length w ≡ length w₀
   pub place : at ≤ 1024 * k
   pub first : k ≡ 0 → (net₀ ≡ net) × (w₀ ≡ w)
   pub later : 0 < k → Open s net₀ w₀ need k at net w

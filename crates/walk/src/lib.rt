@@ -15,7 +15,7 @@ ghost use Rattle.walk_view.specs.Met.{AllMet};
 ghost use Rattle.walk_view.specs.View.{walkState, Ready, Sure, Builds, Gives};
 ghost use Rattle.walk_steps.specs.Steps.{GivesAll};
 ghost use Rattle.plan.specs.declared.Need.the-variants as N;
-ghost use Rattle.walk.specs.Walk.{ThereNeed, GivesNeed, FirstTurn, Keeps, After, BegunBit, Begun, OpensBit, TurnsBit, Turns};
+ghost use Rattle.walk.specs.Walk.{ThereNeed, GivesNeed, FirstTurn, Keeps, BegunBit, Begun, OpensBit, TurnsBit, Turns};
 use plan::Need;
 use tables::Driver;
 use tables::Known;

@@ -1,21 +1,18 @@
+-- `walk::range_known` meets its contract. Assumes nothing.
+use mathlib.Core.Path.{refl}
+use native.Mathlib.Omega.{arith}
 use borrow.Author.Needs.{needs}
 use Rattle.walk.proofs.range_known.Statement.{statement}
 use Rattle.walk.proofs.range_known.Tie as tie
-use Rattle.walk.proofs.range_known.Reads as reads
-use Rattle.walk.proofs.range_known.Lts as lts
-use Rattle.tables.proofs.range_known.Reads as range-known-reads
 
--- src/lib.rt:122:9
 range-known-requires : tie.Need-range-known-requires
 range-known-requires c κs = search needs
 
--- src/lib.rt:122:9
 returns : tie.Need-returns
-returns c = ?
+returns c = λ l. ((λ z. c .range-known .ensures l), (λ z. absurd (omega (arith, z, c .before .if1 .taken))))
 
--- src/lib.rt:117:1
 returns-2 : tie.Need-returns-2
-returns-2 c = ?
+returns-2 c = λ l. ((λ z. absurd (c .if1 .left z)), (λ z. refl))
 
 pub range-known-spec : {M : Type 1} → statement M
 range-known-spec = tie.close (tie.spec range-known-requires returns returns-2)

@@ -1,75 +1,94 @@
+-- `walk::turn` meets its contract. Assumes nothing.
 use borrow.Author.Needs.{needs}
+use Rattle.walk.proofs.Ways.{bit-at, whole-at, nothing-over}
 use Rattle.walk.proofs.turn.Statement.{statement}
 use Rattle.walk.proofs.turn.Tie as tie
-use Rattle.walk.proofs.turn.Reads as reads
-use Rattle.walk.proofs.turn.Lts as lts
-use Rattle.walk.proofs.turn_bit.Reads as turn-bit-reads
-use Rattle.walk.proofs.turn_range.Reads as turn-range-reads
-use Rattle.walk.proofs.turn_whole.Reads as turn-whole-reads
 
--- src/lib.rt:158:19
 enum-known-need : tie.Need-enum-known-need
 enum-known-need c = search needs
 
--- src/lib.rt:158:28
 turn-bit-requires : tie.Need-turn-bit-requires
-turn-bit-requires c κs = ?
+turn-bit-requires c κs =
+    let a = c .before .before .before .before .before .before .before .args in
+    let pre = c .before .before .before .before .before .before .before .pre in
+    let i = a .image .now in
+    let n = a .net .now in
+    let w = a .scr .now in
+    let told = c .before .before .need .given in
+    let so = rw (told .1) at (pre .so) in
+    record { net = n; begun = record { net₀ = pre .net₀; w₀ = pre .w₀; so = bit-at i (pre .net₀) (pre .w₀) (told .0 .0) (told .0 .1 .0) (a .k) (a .at) n w so } }
 
--- src/lib.rt:159:21
 enum-known-need-2 : tie.Need-enum-known-need-2
 enum-known-need-2 c = search needs
 
--- src/lib.rt:159:27
 turn-whole-requires : tie.Need-turn-whole-requires
-turn-whole-requires c κs = ?
+turn-whole-requires c κs =
+    let a = c .before .before .before .before .before .before .before .before .args in
+    let pre = c .before .before .before .before .before .before .before .before .pre in
+    let i = a .image .now in
+    let n = a .net .now in
+    let w = a .scr .now in
+    let told = c .before .before .before .need2 .given in
+    let so = rw (told .1) at (pre .so) in
+    record { net₀ = pre .net₀; w₀ = pre .w₀; so = whole-at i (pre .net₀) (pre .w₀) (told .0 .0) (a .k) (a .at) n w so }
 
--- src/lib.rt:160:21
 enum-known-need-3 : tie.Need-enum-known-need-3
 enum-known-need-3 c = search needs
 
--- src/lib.rt:160:35
 turn-range-requires : tie.Need-turn-range-requires
-turn-range-requires c κs = ?
+turn-range-requires c κs =
+    let pre = c .before .before .before .before .before .before .before .before .pre in
+    let told = c .before .before .before .need3 .given in
+    record { net₀ = pre .net₀; w₀ = pre .w₀; so = rw (told .1) at (pre .so) }
 
--- src/lib.rt:161:37
 enum-told : tie.Need-enum-told
 enum-told c = search needs
 
--- src/lib.rt:153:1
 same-length : tie.Need-same-length
 same-length c = search needs
 
--- src/lib.rt:153:1
 returns : tie.Need-returns
-returns c = ?
+returns c =
+    let a = c .before .before .before .before .before .before .before .before .before .before .args in
+    let i = a .image .now in
+    let n = a .net .now in
+    let w = a .scr .now in
+    let told = c .before .before .before .before .before .need .given in
+    λ net₀ w₀ h. rw (told .1) (c .before .before .turn-bit .ensures n net₀ w₀ (bit-at i net₀ w₀ (told .0 .0) (told .0 .1 .0) (a .k) (a .at) n w (rw (told .1) at h)))
 
--- src/lib.rt:153:1
 same-length-2 : tie.Need-same-length-2
 same-length-2 c = search needs
 
--- src/lib.rt:153:1
 same-length-3 : tie.Need-same-length-3
 same-length-3 c = search needs
 
--- src/lib.rt:153:1
 returns-2 : tie.Need-returns-2
-returns-2 c = ?
+returns-2 c =
+    let a = c .before .before .before .before .before .before .before .before .before .before .before .before .before .args in
+    let i = a .image .now in
+    let n = a .net .now in
+    let w = a .scr .now in
+    let told = c .before .before .before .before .before .before .before .before .need2 .given in
+    λ net₀ w₀ h. rw (told .1) (c .before .before .before .before .turn-whole .ensures net₀ w₀ (whole-at i net₀ w₀ (told .0 .0) (a .k) (a .at) n w (rw (told .1) at h)))
 
--- src/lib.rt:153:1
 same-length-4 : tie.Need-same-length-4
 same-length-4 c = search needs
 
--- src/lib.rt:153:1
 same-length-5 : tie.Need-same-length-5
 same-length-5 c = search needs
 
--- src/lib.rt:153:1
 returns-3 : tie.Need-returns-3
-returns-3 c = ?
+returns-3 c =
+    let told = c .before .before .before .before .before .before .before .before .need3 .given in
+    λ net₀ w₀ h. rw (told .1) (c .before .before .before .before .turn-range .ensures net₀ w₀ (rw (told .1) at h))
 
--- src/lib.rt:153:1
 returns-4 : tie.Need-returns-4
-returns-4 c = ?
+returns-4 c =
+    let a = c .before .before .before .before .before .args in
+    let i = a .image .now in
+    let n = a .net .now in
+    let w = a .scr .now in
+    λ net₀ w₀ h. rw (c .enum-told .given .1) (nothing-over i net₀ w₀ (a .k) (a .at) n w (rw (c .enum-told .given .1) at h))
 
 pub turn-spec : {M : Type 1} → statement M
 turn-spec =

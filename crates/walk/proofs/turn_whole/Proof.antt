@@ -1,56 +1,85 @@
+-- `walk::turn_whole` meets its contract. Assumes nothing.
+use mathlib.Core.List.{[]}
+use Prim.Native.Nat.{_+_, _≤_, _<_}
+use native.Mathlib.Omega.{arith}
 use borrow.Author.Needs.{needs}
+use lib.ListN.{length, drop-of-length-le}
+use Rattle.model.specs.Lowering as M
+use Rattle.plan.specs.Plan.{wholeNeeds}
+use Rattle.walk.proofs.Ways.{whole-over, whole-left, whole-below, loop-met, loop-end}
 use Rattle.walk.proofs.turn_whole.Statement.{statement}
 use Rattle.walk.proofs.turn_whole.Tie as tie
-use Rattle.walk.proofs.turn_whole.Reads as reads
-use Rattle.walk.proofs.turn_whole.Lts as lts
-use Rattle.plan.proofs.whole_count.Reads as whole-count-reads
-use Rattle.plan.proofs.whole_need.Reads as whole-need-reads
-use Rattle.walk.proofs.build_whole.Reads as build-whole-reads
-use Rattle.walk.proofs.whole_known.Reads as whole-known-reads
 
--- src/lib.rt:106:8
 whole-known-requires : tie.Need-whole-known-requires
 whole-known-requires c κs = search needs
 
--- src/lib.rt:107:9
 same-length : tie.Need-same-length
 same-length c = search needs
 
--- src/lib.rt:107:9
 returns : tie.Need-returns
-returns c = ?
+returns c =
+    let a = c .before .before .before .before .before .before .args in
+    let i = a .image .now in
+    let n = a .net .now in
+    let w = a .scr .now in
+    let known = c .before .whole-known in
+    λ net₀ w₀ h. whole-over i net₀ w₀ (a .e) (a .k) 0 n w h (known .result) (known .ensures) (c .if1 .taken)
 
--- src/lib.rt:109:12
 whole-count-requires : tie.Need-whole-count-requires
 whole-count-requires c κs = search needs
 
--- src/lib.rt:110:28
 whole-need-requires : tie.Need-whole-need-requires
-whole-need-requires c κs = ?
+whole-need-requires c κs =
+    let h = c .before .before .before .before .before .before .before .before .pre .so in
+    (h .ready .accepted, h .there, omega (arith, c .before .whole-count .ensures, c .if2 .taken))
 
--- src/lib.rt:110:9
 same-length-2 : tie.Need-same-length-2
 same-length-2 c = search needs
 
--- src/lib.rt:110:9
 returns-2 : tie.Need-returns-2
-returns-2 c = ?
+returns-2 c =
+    let a = c .before .before .before .before .before .before .before .before .before .args in
+    let i = a .image .now in
+    let n = a .net .now in
+    let w = a .scr .now in
+    let known = c .before .before .before .before .whole-known in
+    let none-yet = c .before .before .before .if1 .left in
+    let count = c .before .before .whole-count in
+    let more : a .k < length (wholeNeeds i (a .e)) = omega (arith, count .ensures, c .before .if2 .taken) in
+    let small : a .k + 1 < 4294967296 = omega (arith, count .ok, c .before .if2 .taken) in
+    λ net₀ w₀ h. whole-below i net₀ w₀ (a .e) (a .k) n w (c .whole-need .result) (whole-left i net₀ w₀ (a .e) (a .k) 0 n w h (known .result) (known .ensures) none-yet) (c .whole-need .ensures) more small
 
--- src/lib.rt:112:16
 build-whole-requires : tie.Need-build-whole-requires
-build-whole-requires c κs = ?
+build-whole-requires c κs =
+    let a = c .before .before .before .before .before .before .before .before .before .before .args in
+    let pre = c .before .before .before .before .before .before .before .before .before .before .pre in
+    let i = a .image .now in
+    let n = a .net .now in
+    let w = a .scr .now in
+    let known = c .before .before .before .before .before .whole-known in
+    let none-yet = c .before .before .before .before .if1 .left in
+    let left = whole-left i (pre .net₀) (pre .w₀) (a .e) (a .k) 0 n w (pre .so) (known .result) (known .ensures) none-yet in
+    let over : length (wholeNeeds i (a .e)) ≤ a .k = omega (arith, c .before .before .before .whole-count .ensures, c .before .before .if2 .left) in
+    (left .ready, left .sure, pre .so .there, loop-met i (pre .net₀) (pre .w₀) (M.Whole (a .e)) _ _ _ [] n w left (drop-of-length-le (wholeNeeds i (a .e)) over))
 
--- src/lib.rt:102:1
 same-length-3 : tie.Need-same-length-3
 same-length-3 c = search needs
 
--- src/lib.rt:102:1
 same-length-4 : tie.Need-same-length-4
 same-length-4 c = search needs
 
--- src/lib.rt:102:1
 returns-3 : tie.Need-returns-3
-returns-3 c = ?
+returns-3 c =
+    let a = c .before .before .before .before .before .before .before .before .before .before .before .before .before .before .before .args in
+    let i = a .image .now in
+    let n = a .net .now in
+    let w = a .scr .now in
+    let known = c .before .before .before .before .before .before .before .before .before .before .whole-known in
+    let none-yet = c .before .before .before .before .before .before .before .before .before .if1 .left in
+    let build = c .before .before .before .before .build-whole in
+    let over : length (wholeNeeds i (a .e)) ≤ a .k = omega (arith, c .before .before .before .before .before .before .before .before .whole-count .ensures, c .before .before .before .before .before .before .before .if2 .left) in
+    λ net₀ w₀ h. loop-end i net₀ w₀ (M.Whole (a .e)) _ _ _ [] n w (whole-left i net₀ w₀ (a .e) (a .k) 0 n w h (known .result) (known .ensures) none-yet) _ _ (build .result)
+    (drop-of-length-le (wholeNeeds i (a .e)) over) (build .ensures)
 
 pub turn-whole-spec : {M : Type 1} → statement M
 turn-whole-spec =
