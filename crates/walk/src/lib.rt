@@ -2,17 +2,14 @@
 // `lower_expression` and `lower_expression_range` of struo-synth. Only `lower_need` calls itself: what a need does between two such calls is a
 // turn, outside of it, so that a level of the recursion keeps few words.
 ghost use mathlib.Core.Path.{_≡_};
-ghost use mathlib.Core.Bool.{true, false};
-ghost use mathlib.Core.List.{List};
+ghost use mathlib.Core.Bool.{true};
 ghost use mathlib.Core.Option.{some};
 ghost use Prim.Native.Nat.{ℕ, _+_, _≤_, _<_};
 ghost use Rattle.meaning.specs.Image.{countAt, signalWidth, exprWidth, decode};
 ghost use Rattle.model.specs.Words.{Netlist};
 ghost use Rattle.model.specs.Lowering as model;
-ghost use Rattle.expr_laws.specs.Exprs.{exprsOf};
 ghost use Rattle.table_view.specs.View.{limitOf, isWhole, stateOf, Laid};
-ghost use Rattle.walk_view.specs.Met.{AllMet};
-ghost use Rattle.walk_view.specs.View.{walkState, Ready, Sure, Builds, Gives};
+ghost use Rattle.walk_view.specs.View.{Ready, Sure, Gives};
 ghost use Rattle.walk_steps.specs.Steps.{GivesAll};
 ghost use Rattle.plan.specs.declared.Need.the-variants as N;
 ghost use Rattle.walk.specs.Walk.{ThereNeed, GivesNeed, FirstTurn, Keeps, BegunBit, Begun, OpensBit, TurnsBit, Turns};
@@ -25,20 +22,6 @@ use walk_view::Lowered;
 pub enum Next {
     Lower(Need, u32),
     Over(Lowered),
-}
-
-fn build_whole(image: &[u8], net: &mut [u32], scr: &mut [u32], e: u32) -> Lowered
-    requires { ⌜ (Ready (now image) (now net) (now scr)) × (Sure (now image) (now net) (now scr)) × (e < countAt (now image) 1) × AllMet (walkState (now image) (now net) (now scr)) (model.wholeSteps (exprsOf (now image)) e) ⌝ }
-    ensures { λ r. ⌜ Builds (model.keepWhole (walkState (now (image .entry)) (now (net .entry)) (now (scr .entry))) e (model.buildWhole (exprsOf (now (image .entry))) false (walkState (now (image .entry)) (now (net .entry)) (now (scr .entry))) e)) (now (image .entry)) (now (net .entry)) (now (scr .entry)) (model.Whole e) r (now (net .exit)) (now (scr .exit)) ⌝ }
-{
-    Lowered::ListFull
-}
-
-fn build_range(image: &[u8], net: &mut [u32], scr: &mut [u32], e: u32, lsb: u32, w: u32) -> Lowered
-    requires { ⌜ (Ready (now image) (now net) (now scr)) × (Sure (now image) (now net) (now scr)) × (e < countAt (now image) 1) × (1 ≤ w) × (lsb + w ≤ exprWidth (now image) e) × AllMet (walkState (now image) (now net) (now scr)) (model.rangeSteps (exprsOf (now image)) e lsb w) ⌝ }
-    ensures { λ r. ⌜ Builds (model.keepRange (walkState (now (image .entry)) (now (net .entry)) (now (scr .entry))) e lsb (model.buildRange (exprsOf (now (image .entry))) false (walkState (now (image .entry)) (now (net .entry)) (now (scr .entry))) e lsb w)) (now (image .entry)) (now (net .entry)) (now (scr .entry)) (model.Range e lsb w) r (now (net .exit)) (now (scr .exit)) ⌝ }
-{
-    Lowered::ListFull
 }
 
 // ---- a signal's bit: turn 0 before its driver is lowered, turn 1 after ----
@@ -109,7 +92,7 @@ fn turn_whole(image: &[u8], net: &mut [u32], scr: &mut [u32], e: u32, k: u32) ->
     if k < plan::whole_count(image, e) {
         return Next::Lower(plan::whole_need(image, e, k), 0);
     }
-    Next::Over(build_whole(image, net, scr, e))
+    Next::Over(build::build_whole(image, net, scr, e))
 }
 
 // ---- a range of an expression ----
@@ -144,7 +127,7 @@ fn turn_range(
         let need = plan::range_need(image, e, lsb, w, k, at);
         return Next::Lower(need, plan::range_next(image, e, k, at));
     }
-    Next::Over(build_range(image, net, scr, e, lsb, w))
+    Next::Over(build::build_range(image, net, scr, e, lsb, w))
 }
 
 // ---- what a need names ----
