@@ -6,12 +6,11 @@ ghost use lib.ListN.{length};
 ghost use Rattle.meaning.specs.Image.{countAt, signalWidth, exprWidth, decode};
 ghost use Rattle.model.specs.Words.{Netlist};
 ghost use Rattle.model.specs.Lowering as model;
-ghost use Rattle.records.specs.Others.{enableMeans, portMeans, secondMeans, memoryMeans};
+ghost use Rattle.records.specs.Others.{portMeans, secondMeans, memoryMeans};
 ghost use Rattle.table_view.specs.View.{limitOf, isWhole, stateOf, Laid};
-ghost use Rattle.walk_view.specs.View.{walkState, Ready, Sure, Gives, Phase};
+ghost use Rattle.walk_view.specs.View.{walkState, Ready, Sure, Phase};
 ghost use Rattle.walk_steps.specs.Steps.{GivesAll};
 ghost use Rattle.connect_parts.specs.Ran.{Ran};
-ghost use Rattle.connect_parts.specs.Parts.{ThereControl};
 ghost use Rattle.connect_memories.specs.Puts.{Puts};
 ghost use Rattle.connect_memories.specs.Memories.{firstSteps, lastSteps, memoryWords, memoryTurn, PortThere, SecondThere, MemoryThere, PortWhole, MemoryWhole, netWords, tailWords};
 use records::Enable;
@@ -20,27 +19,6 @@ use records::MemoryPort;
 use records::SecondPort;
 use walk_view::Lowered;
 
-fn resolve_signal_bit(image: &[u8], net: &mut [u32], scr: &mut [u32], p: u32, b: u32) -> Lowered
-    requires { ⌜ (Ready (now image) (now net) (now scr)) × (Sure (now image) (now net) (now scr)) × (p < countAt (now image) 0) × (b < signalWidth (now image) p) ⌝ }
-    ensures { λ r. ⌜ Gives (now (image .entry)) (now (net .entry)) (now (scr .entry)) (model.Bit p b) r (now (net .exit)) (now (scr .exit)) ⌝ }
-{
-    Lowered::ListFull
-}
-
-fn lower_expression(image: &[u8], net: &mut [u32], scr: &mut [u32], e: u32) -> Lowered
-    requires { ⌜ (Ready (now image) (now net) (now scr)) × (Sure (now image) (now net) (now scr)) × (e < countAt (now image) 1) ⌝ }
-    ensures { λ r. ⌜ Gives (now (image .entry)) (now (net .entry)) (now (scr .entry)) (model.Whole e) r (now (net .exit)) (now (scr .exit)) ⌝ }
-{
-    Lowered::ListFull
-}
-
-fn lower_control(image: &[u8], net: &mut [u32], scr: &mut [u32], e: Enable) -> Lowered
-    requires { ⌜ (Ready (now image) (now net) (now scr)) × (Sure (now image) (now net) (now scr)) × (ThereControl (now image) (enableMeans e)) ⌝ }
-    ensures { λ r. ⌜ GivesAll (now (image .entry)) (now (net .entry)) (now (scr .entry)) (model.controlSteps (enableMeans e)) r (now (net .exit)) (now (scr .exit)) ⌝ }
-{
-    Lowered::ListFull
-}
-
 // ---- what is lowered before the record ----
 
 // Addresses and data of a port.
@@ -48,15 +26,15 @@ fn lower_words(image: &[u8], net: &mut [u32], scr: &mut [u32], p: MemoryPort) ->
     requires { ⌜ (Ready (now image) (now net) (now scr)) × (Sure (now image) (now net) (now scr)) × (PortThere (now image) (portMeans p)) ⌝ }
     ensures { λ r. ⌜ GivesAll (now (image .entry)) (now (net .entry)) (now (scr .entry)) (model.wordSteps (portMeans p)) r (now (net .exit)) (now (scr .exit)) ⌝ }
 {
-    let x = lower_expression(image, net, scr, p.read_address);
+    let x = walk::lower_expression(image, net, scr, p.read_address);
     let Lowered::Done = x else {
         return x;
     };
-    let y = lower_expression(image, net, scr, p.write_address);
+    let y = walk::lower_expression(image, net, scr, p.write_address);
     let Lowered::Done = y else {
         return y;
     };
-    lower_expression(image, net, scr, p.write_data)
+    walk::lower_expression(image, net, scr, p.write_data)
 }
 
 fn lower_enables(image: &[u8], net: &mut [u32], scr: &mut [u32], p: MemoryPort) -> Lowered
@@ -64,12 +42,12 @@ fn lower_enables(image: &[u8], net: &mut [u32], scr: &mut [u32], p: MemoryPort) 
     ensures { λ r. ⌜ GivesAll (now (image .entry)) (now (net .entry)) (now (scr .entry)) (model.enableSteps (portMeans p)) r (now (net .exit)) (now (scr .exit)) ⌝ }
 {
     let write = p.write_enable;
-    let x = resolve_signal_bit(image, net, scr, write.signal, 0);
+    let x = walk::resolve_signal_bit(image, net, scr, write.signal, 0);
     let Lowered::Done = x else {
         return x;
     };
     let read = p.read_enable;
-    lower_control(image, net, scr, read)
+    connect_parts::lower_control(image, net, scr, read)
 }
 
 fn lower_first(image: &[u8], net: &mut [u32], scr: &mut [u32], p: MemoryPort) -> Lowered
@@ -80,7 +58,7 @@ fn lower_first(image: &[u8], net: &mut [u32], scr: &mut [u32], p: MemoryPort) ->
     let Lowered::Done = x else {
         return x;
     };
-    let y = resolve_signal_bit(image, net, scr, p.clock, 0);
+    let y = walk::resolve_signal_bit(image, net, scr, p.clock, 0);
     let Lowered::Done = y else {
         return y;
     };
@@ -99,7 +77,7 @@ fn lower_last(image: &[u8], net: &mut [u32], scr: &mut [u32], p: MemoryPort) -> 
     let Lowered::Done = y else {
         return y;
     };
-    resolve_signal_bit(image, net, scr, p.clock, 0)
+    walk::resolve_signal_bit(image, net, scr, p.clock, 0)
 }
 
 fn lower_second(image: &[u8], net: &mut [u32], scr: &mut [u32], o: SecondPort) -> Lowered

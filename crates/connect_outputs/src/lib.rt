@@ -7,19 +7,11 @@ ghost use Rattle.meaning.specs.Image.{countAt, signalWidth, decode};
 ghost use Rattle.model.specs.Lowering as model;
 ghost use Rattle.walk_laws.specs.Reads.{AllAfter};
 ghost use Rattle.walk_view.specs.View.{walkState, Ready, Sure, Phase};
-ghost use Rattle.walk_steps.specs.Steps.{GivesAll};
 ghost use Rattle.connect_parts.specs.Ran.{Ran};
 ghost use Rattle.connect_outputs.specs.Outputs.{outputTurn, portTurn, lowered};
 use nodes::Added;
 use records::Direction;
 use walk_view::Lowered;
-
-fn resolve_signal(image: &[u8], net: &mut [u32], scr: &mut [u32], p: u32, w: u32) -> Lowered
-    requires { ⌜ (Ready (now image) (now net) (now scr)) × (Sure (now image) (now net) (now scr)) × (p < countAt (now image) 0) × (w ≤ signalWidth (now image) p) ⌝ }
-    ensures { λ r. ⌜ GivesAll (now (image .entry)) (now (net .entry)) (now (scr .entry)) (model.signalSteps p 0 w) r (now (net .exit)) (now (scr .exit)) ⌝ }
-{
-    Lowered::ListFull
-}
 
 fn answer(x: Added) -> Lowered
     ensures { λ r. ⌜ r ≡ lowered x ⌝ }
@@ -48,7 +40,7 @@ fn connect_port(image: &[u8], net: &mut [u32], scr: &mut [u32], p: u32, n: u32) 
     requires { ⌜ (Ready (now image) (now net) (now scr)) × (Sure (now image) (now net) (now scr)) × (p < countAt (now image) 0) × (n ≡ signalWidth (now image) p) ⌝ }
     ensures { λ r. ⌜ Ran (model.connectOutput (decode (now (image .entry))) false R.Output p n (walkState (now (image .entry)) (now (net .entry)) (now (scr .entry)))) (now (image .entry)) (now (net .entry)) (now (scr .entry)) r (now (net .exit)) (now (scr .exit)) ⌝ }
 {
-    let x = resolve_signal(image, net, scr, p, n);
+    let x = walk::resolve_signal(image, net, scr, p, n);
     let Lowered::Done = x else {
         return x;
     };

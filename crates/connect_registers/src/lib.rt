@@ -7,44 +7,18 @@ ghost use Prim.Native.Nat.{_<_};
 ghost use Rattle.meaning.specs.Image.{countAt, signalWidth, exprWidth, decode};
 ghost use Rattle.shared.specs.Good.{GoodBit};
 ghost use Rattle.model.specs.Lowering as model;
-ghost use Rattle.records.specs.Others.{enableMeans, resetMeans, registerMeans};
+ghost use Rattle.records.specs.Others.{resetMeans, registerMeans};
 ghost use Rattle.table_view.specs.View.{Laid};
-ghost use Rattle.walk_view.specs.View.{walkState, Ready, Sure, Gives, Phase};
+ghost use Rattle.walk_view.specs.View.{walkState, Ready, Sure, Phase};
 ghost use Rattle.walk_steps.specs.Steps.{GivesAll};
 ghost use Rattle.connect_parts.specs.Ran.{Ran};
-ghost use Rattle.connect_parts.specs.Parts.{ThereControl};
 ghost use Rattle.connect_registers.specs.Registers.{bitsTurn, registerTurn, resetOf, ThereReset, There, WholeReset, Wholes, bitWords, fourWords, IsReset};
 use nodes::Constant;
-use records::Enable;
 use records::Register;
 use records::Reset;
 use records::ResetOption;
 use tables::ABSENT;
 use walk_view::Lowered;
-
-fn resolve_signal_bit(image: &[u8], net: &mut [u32], scr: &mut [u32], p: u32, b: u32) -> Lowered
-    requires { ⌜ (Ready (now image) (now net) (now scr)) × (Sure (now image) (now net) (now scr)) × (p < countAt (now image) 0) × (b < signalWidth (now image) p) ⌝ }
-    ensures { λ r. ⌜ Gives (now (image .entry)) (now (net .entry)) (now (scr .entry)) (model.Bit p b) r (now (net .exit)) (now (scr .exit)) ⌝ }
-{
-    Lowered::ListFull
-}
-
-fn lower_expression(image: &[u8], net: &mut [u32], scr: &mut [u32], e: u32) -> Lowered
-    requires { ⌜ (Ready (now image) (now net) (now scr)) × (Sure (now image) (now net) (now scr)) × (e < countAt (now image) 1) ⌝ }
-    ensures { λ r. ⌜ Gives (now (image .entry)) (now (net .entry)) (now (scr .entry)) (model.Whole e) r (now (net .exit)) (now (scr .exit)) ⌝ }
-{
-    Lowered::ListFull
-}
-
-fn lower_control(image: &[u8], net: &mut [u32], scr: &mut [u32], e: Enable) -> Lowered
-    requires { ⌜ (Ready (now image) (now net) (now scr)) × (Sure (now image) (now net) (now scr)) × (ThereControl (now image) (enableMeans e)) ⌝ }
-    ensures { λ r. ⌜ GivesAll (now (image .entry)) (now (net .entry)) (now (scr .entry)) (model.controlSteps (enableMeans e)) r (now (net .exit)) (now (scr .exit)) ⌝ }
-{
-    match e {
-        Enable::Absent => Lowered::Done,
-        Enable::Present(c) => resolve_signal_bit(image, net, scr, c.signal, 0),
-    }
-}
 
 // ---- what is lowered before the bits ----
 
@@ -53,12 +27,12 @@ fn lower_present(image: &[u8], net: &mut [u32], scr: &mut [u32], x: Reset) -> Lo
     requires { ⌜ (Ready (now image) (now net) (now scr)) × (Sure (now image) (now net) (now scr)) × (ThereReset (now image) (some (resetOf x))) ⌝ }
     ensures { λ r. ⌜ GivesAll (now (image .entry)) (now (net .entry)) (now (scr .entry)) (model.resetSteps (some (resetOf x))) r (now (net .exit)) (now (scr .exit)) ⌝ }
 {
-    let y = lower_expression(image, net, scr, x.value);
+    let y = walk::lower_expression(image, net, scr, x.value);
     let Lowered::Done = y else {
         return y;
     };
     let c = x.control;
-    resolve_signal_bit(image, net, scr, c.signal, 0)
+    walk::resolve_signal_bit(image, net, scr, c.signal, 0)
 }
 
 fn lower_reset(image: &[u8], net: &mut [u32], scr: &mut [u32], o: ResetOption) -> Lowered
@@ -76,16 +50,16 @@ fn lower_register(image: &[u8], net: &mut [u32], scr: &mut [u32], x: Register) -
     requires { ⌜ (Ready (now image) (now net) (now scr)) × (Sure (now image) (now net) (now scr)) × (There (now image) (registerMeans x)) ⌝ }
     ensures { λ r. ⌜ GivesAll (now (image .entry)) (now (net .entry)) (now (scr .entry)) (model.registerSteps (registerMeans x)) r (now (net .exit)) (now (scr .exit)) ⌝ }
 {
-    let y = lower_expression(image, net, scr, x.next);
+    let y = walk::lower_expression(image, net, scr, x.next);
     let Lowered::Done = y else {
         return y;
     };
-    let z = resolve_signal_bit(image, net, scr, x.clock, 0);
+    let z = walk::resolve_signal_bit(image, net, scr, x.clock, 0);
     let Lowered::Done = z else {
         return z;
     };
     let enable = x.enable;
-    let u = lower_control(image, net, scr, enable);
+    let u = connect_parts::lower_control(image, net, scr, enable);
     let Lowered::Done = u else {
         return u;
     };

@@ -1,9 +1,6 @@
+-- `connect_memories::connect_memories` meets its contract. Assumes nothing.
 use Rattle.connect_memories.proofs.connect_memories.Statement.{statement}
 use Rattle.connect_memories.proofs.connect_memories.Tie as tie
-use Rattle.connect_memories.proofs.connect_memories.Reads as reads
-use Rattle.connect_memories.proofs.connect_memories.Lts as lts
-use Rattle.connect_memories.proofs.connect_memory.Reads as connect-memory-reads
-use Rattle.fields.proofs.count.Reads as count-reads
 use borrow.Author.Needs.{needs}
 use mathlib.Core.Bool.{false}
 use Prim.Native.Nat.{_-_}
@@ -23,18 +20,15 @@ Inv-loop image net₀ scr₀ n k₀ net scr k =
 abbrev μ-loop : tie.MeasureT-loop
 μ-loop image net₀ scr₀ n k₀ net scr k = n - k
 
--- src/lib.rt:241:9
 count-requires : tie.Need-count-requires Inv-loop μ-loop
 count-requires c κs = search needs
 
--- src/lib.rt:243:5
 loop-holds : tie.Need-loop-holds Inv-loop μ-loop
 loop-holds c =
     let a = c .before .before .before .before .args in
     turns-start _ (memoryTurn (a .image .now)) (a .image .now) (a .net .now) (a .scr .now) (countAt (a .image .now) 5)
     (all-memories (a .image .now) (walkState (a .image .now) (a .net .now) (a .scr .now))) (c .before .before .before .before .pre .0) (c .before .before .before .before .pre .1)
 
--- src/lib.rt:244:13
 connect-memory-requires : tie.Need-connect-memory-requires Inv-loop μ-loop
 connect-memory-requires c κs =
     let q = c .before .before .before .loop in
@@ -43,15 +37,12 @@ connect-memory-requires c κs =
 enum-told : tie.Need-enum-told Inv-loop μ-loop
 enum-told c = search needs
 
--- src/lib.rt:246:13
 same-length : tie.Need-same-length Inv-loop μ-loop
 same-length c = search needs
 
--- src/lib.rt:246:13
 same-length-2 : tie.Need-same-length-2 Inv-loop μ-loop
 same-length-2 c = search needs
 
--- src/lib.rt:246:13
 returns : tie.Need-returns Inv-loop μ-loop
 returns c =
     let a = c .before .before .before .before .before .before .before .before .before .before .before .before .before .before .args in
@@ -60,15 +51,12 @@ returns c =
     ran-phase (turns-out _ (memoryTurn (a .image .now)) (a .image .now) (a .net .now) (a .scr .now) (countAt (a .image .now) 5) (q .k) (q .net) (q .scr) _ _ (q .inv) (g .result)
     (omega (arith, c .before .before .before .before .before .before .before .before .loop-test .taken, c .before .before .before .before .before .before .before .before .before .before .count .ensures)) (g .ensures) (not-done-tag (g .result) (c .match .keys2)))
 
--- src/lib.rt:248:9
 add-k : tie.Need-add-k Inv-loop μ-loop
 add-k c = search needs
 
--- src/lib.rt:243:5
 loop-less : tie.Need-loop-less Inv-loop μ-loop
 loop-less c = search needs
 
--- src/lib.rt:243:5
 loop-again : tie.Need-loop-again Inv-loop μ-loop
 loop-again c =
     let a = c .before .before .before .before .before .before .before .before .before .before .before .before .before .before .before .args in
@@ -77,15 +65,12 @@ loop-again c =
     turns-more _ (memoryTurn (a .image .now)) (a .image .now) (a .net .now) (a .scr .now) (countAt (a .image .now) 5) (q .k) (q .net) (q .scr) _ _ (q .inv) (g .result)
     (omega (arith, c .before .before .before .before .before .before .before .before .before .loop-test .taken, c .before .before .before .before .before .before .before .before .before .before .before .count .ensures)) (g .ensures) (c .enum-told .given .1)
 
--- src/lib.rt:237:1
 same-length-3 : tie.Need-same-length-3 Inv-loop μ-loop
 same-length-3 c = search needs
 
--- src/lib.rt:237:1
 same-length-4 : tie.Need-same-length-4 Inv-loop μ-loop
 same-length-4 c = search needs
 
--- src/lib.rt:237:1
 returns-2 : tie.Need-returns-2 Inv-loop μ-loop
 returns-2 c =
     let a = c .before .before .before .before .before .before .args in

@@ -1,11 +1,7 @@
+-- `connect_memories::connect_memory` meets its contract. Assumes nothing.
 use borrow.Author.Needs.{needs}
 use Rattle.connect_memories.proofs.connect_memory.Statement.{statement}
 use Rattle.connect_memories.proofs.connect_memory.Tie as tie
-use Rattle.connect_memories.proofs.connect_memory.Reads as reads
-use Rattle.connect_memories.proofs.connect_memory.Lts as lts
-use Rattle.connect_memories.proofs.lower_memory.Reads as lower-memory-reads
-use Rattle.connect_memories.proofs.push_memory.Reads as push-memory-reads
-use Rattle.records.proofs.memory_at.Reads as memory-at-reads
 use mathlib.Core.Path.{sym, subst}
 use Rattle.meaning.specs.Image.{decode}
 use Rattle.model.specs.Lowering.{pushRecord}
@@ -17,11 +13,9 @@ use Rattle.connect_parts.specs.Steps.{all-ran}
 use Rattle.connect_memories.specs.Memories.{memoryWords, MemoryThere}
 use Rattle.connect_memories.proofs.Laws.{memory-there, memory-whole, turn-as}
 
--- src/lib.rt:229:9
 memory-at-requires : tie.Need-memory-at-requires
 memory-at-requires c κs = search needs
 
--- src/lib.rt:230:9
 lower-memory-requires : tie.Need-lower-memory-requires
 lower-memory-requires c κs =
     let a = c .before .before .before .before .before .before .args in
@@ -30,15 +24,12 @@ lower-memory-requires c κs =
 enum-told : tie.Need-enum-told
 enum-told c = search needs
 
--- src/lib.rt:232:9
 same-length : tie.Need-same-length
 same-length c = search needs
 
--- src/lib.rt:232:9
 same-length-2 : tie.Need-same-length-2
 same-length-2 c = search needs
 
--- src/lib.rt:232:9
 returns : tie.Need-returns
 returns c =
     let a = c .before .before .before .before .before .before .before .before .before .before .before .before .args in
@@ -46,7 +37,6 @@ returns c =
     ran-as (turn-as (a .image .now) (a .k) x (walkState (a .image .now) (a .net .now) (a .scr .now)) (c .before .before .before .before .before .before .before .before .memory-at .ensures))
     (ran-out (λ st. pushRecord (memoryWords (decode (a .image .now)) (a .k) (memoryMeans x) st) st) (all-ran (c .before .before .before .before .before .lower-memory .ensures)) (not-done-tag (c .before .before .before .before .before .lower-memory .result) (c .match .keys2)))
 
--- src/lib.rt:234:5
 push-memory-requires : tie.Need-push-memory-requires
 push-memory-requires c κs =
     let a = c .before .before .before .before .before .before .before .before .before .before .before .before .before .before .before .args in
@@ -55,15 +45,12 @@ push-memory-requires c κs =
     let h = subst (MemoryThere (a .image .now)) (sym (c .before .before .before .before .before .before .before .before .before .before .before .memory-at .ensures)) (memory-there (a .image .now) (a .k) (c .before .before .before .before .before .before .before .before .before .before .before .before .before .before .before .pre .0 .accepted) (c .before .before .before .before .before .before .before .before .before .before .before .before .before .before .before .pre .2)) in
     (g .ready, g .sure d, h, memory-whole h g d)
 
--- src/lib.rt:225:1
 same-length-3 : tie.Need-same-length-3
 same-length-3 c = search needs
 
--- src/lib.rt:225:1
 same-length-4 : tie.Need-same-length-4
 same-length-4 c = search needs
 
--- src/lib.rt:225:1
 returns-2 : tie.Need-returns-2
 returns-2 c =
     let a = c .before .before .before .before .before .before .before .before .before .before .before .before .before .before .before .before .before .before .args in

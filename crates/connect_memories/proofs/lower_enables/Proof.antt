@@ -1,10 +1,7 @@
+-- `connect_memories::lower_enables` meets its contract. Assumes nothing.
 use borrow.Author.Needs.{needs}
 use Rattle.connect_memories.proofs.lower_enables.Statement.{statement}
 use Rattle.connect_memories.proofs.lower_enables.Tie as tie
-use Rattle.connect_memories.proofs.lower_enables.Reads as reads
-use Rattle.connect_memories.proofs.lower_enables.Lts as lts
-use Rattle.connect_memories.proofs.lower_control.Reads as lower-control-reads
-use Rattle.connect_memories.proofs.resolve_signal_bit.Reads as resolve-signal-bit-reads
 use native.Mathlib.Omega.{arith}
 use Rattle.model.specs.Lowering.{Bit, controlSteps}
 use Rattle.records.specs.Others.{controlMeans, enableMeans, portMeans}
@@ -12,7 +9,6 @@ use Rattle.walk_steps.specs.Answers.{not-done-tag}
 use Rattle.walk_steps.specs.Steps.{gives-one}
 use Rattle.connect_parts.specs.Steps.{gives-then, gives-out}
 
--- src/lib.rt:67:9
 resolve-signal-bit-requires : tie.Need-resolve-signal-bit-requires
 unfolding portMeans controlMeans
 resolve-signal-bit-requires c κs = (c .before .before .before .before .before .before .pre .0, c .before .before .before .before .before .before .pre .1, c .before .before .before .before .before .before .pre .2 .writeEnable .there, omega (arith, c .before .before .before .before .before .before .pre .2 .writeEnable .one))
@@ -20,15 +16,12 @@ resolve-signal-bit-requires c κs = (c .before .before .before .before .before .
 enum-told : tie.Need-enum-told
 enum-told c = search needs
 
--- src/lib.rt:69:9
 same-length : tie.Need-same-length
 same-length c = search needs
 
--- src/lib.rt:69:9
 same-length-2 : tie.Need-same-length-2
 same-length-2 c = search needs
 
--- src/lib.rt:69:9
 returns : tie.Need-returns
 unfolding portMeans controlMeans
 returns c =
@@ -36,7 +29,6 @@ returns c =
     let g = gives-one (a .image .now) (a .net .now) (a .scr .now) (Bit (a .p .«write_enable» .signal) 0) _ _ _ (c .before .before .before .before .before .before .before .before .before .before .before .before .pre .0) (c .before .before .before .before .before .before .before .before .before .before .before .before .pre .1) (c .before .before .before .before .before .before .before .before .before .before .before .before .pre .2 .writeEnable .there, omega (arith, c .before .before .before .before .before .before .before .before .before .before .before .before .pre .2 .writeEnable .one)) (c .before .before .before .before .before .resolve-signal-bit .ensures) in
     gives-out (controlSteps (enableMeans (a .p .«read_enable»))) g (not-done-tag (c .before .before .before .before .before .resolve-signal-bit .result) (c .match .keys2))
 
--- src/lib.rt:72:5
 lower-control-requires : tie.Need-lower-control-requires
 unfolding portMeans controlMeans
 lower-control-requires c κs =
@@ -44,15 +36,12 @@ lower-control-requires c κs =
     let g = gives-one (a .image .now) (a .net .now) (a .scr .now) (Bit (a .p .«write_enable» .signal) 0) _ _ _ (c .before .before .before .before .before .before .before .before .before .before .before .before .before .before .before .pre .0) (c .before .before .before .before .before .before .before .before .before .before .before .before .before .before .before .pre .1) (c .before .before .before .before .before .before .before .before .before .before .before .before .before .before .before .pre .2 .writeEnable .there, omega (arith, c .before .before .before .before .before .before .before .before .before .before .before .before .before .before .before .pre .2 .writeEnable .one)) (c .before .before .before .before .before .before .before .before .resolve-signal-bit .ensures) in
     (g .ready, g .sure (c .before .before .enum-told .given .1), c .before .before .before .before .before .before .before .before .before .before .before .before .before .before .before .pre .2 .readEnable)
 
--- src/lib.rt:62:1
 same-length-3 : tie.Need-same-length-3
 same-length-3 c = search needs
 
--- src/lib.rt:62:1
 same-length-4 : tie.Need-same-length-4
 same-length-4 c = search needs
 
--- src/lib.rt:62:1
 returns-2 : tie.Need-returns-2
 unfolding portMeans controlMeans
 returns-2 c =

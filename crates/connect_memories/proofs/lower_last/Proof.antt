@@ -1,11 +1,7 @@
+-- `connect_memories::lower_last` meets its contract. Assumes nothing.
 use borrow.Author.Needs.{needs}
 use Rattle.connect_memories.proofs.lower_last.Statement.{statement}
 use Rattle.connect_memories.proofs.lower_last.Tie as tie
-use Rattle.connect_memories.proofs.lower_last.Reads as reads
-use Rattle.connect_memories.proofs.lower_last.Lts as lts
-use Rattle.connect_memories.proofs.lower_enables.Reads as lower-enables-reads
-use Rattle.connect_memories.proofs.lower_words.Reads as lower-words-reads
-use Rattle.connect_memories.proofs.resolve_signal_bit.Reads as resolve-signal-bit-reads
 use native.Mathlib.Omega.{arith}
 use mathlib.Core.List.{_++_}
 use Rattle.model.specs.Lowering.{Bit, bitStep, enableSteps}
@@ -14,28 +10,23 @@ use Rattle.walk_steps.specs.Answers.{not-done-tag}
 use Rattle.walk_steps.specs.Steps.{gives-one}
 use Rattle.connect_parts.specs.Steps.{gives-then, gives-out}
 
--- src/lib.rt:94:9
 lower-words-requires : tie.Need-lower-words-requires
 lower-words-requires c κs = search needs
 
 enum-told : tie.Need-enum-told
 enum-told c = search needs
 
--- src/lib.rt:96:9
 same-length : tie.Need-same-length
 same-length c = search needs
 
--- src/lib.rt:96:9
 same-length-2 : tie.Need-same-length-2
 same-length-2 c = search needs
 
--- src/lib.rt:96:9
 returns : tie.Need-returns
 returns c =
     let a = c .before .before .before .before .before .before .before .before .before .before .before .args in
     gives-out (enableSteps (portMeans (a .p)) ++ bitStep (portMeans (a .p) .clock)) (c .before .before .before .before .before .lower-words .ensures) (not-done-tag (c .before .before .before .before .before .lower-words .result) (c .match .keys2))
 
--- src/lib.rt:98:9
 lower-enables-requires : tie.Need-lower-enables-requires
 lower-enables-requires c κs =
     let g = c .before .before .before .before .before .before .before .before .lower-words .ensures in
@@ -44,37 +35,30 @@ lower-enables-requires c κs =
 enum-told-2 : tie.Need-enum-told-2
 enum-told-2 c = search needs
 
--- src/lib.rt:100:9
 same-length-3 : tie.Need-same-length-3
 same-length-3 c = search needs
 
--- src/lib.rt:100:9
 same-length-4 : tie.Need-same-length-4
 same-length-4 c = search needs
 
--- src/lib.rt:100:9
 returns-2 : tie.Need-returns-2
 returns-2 c =
     let a = c .before .before .before .before .before .before .before .before .before .before .before .before .before .before .before .before .before .before .before .before .args in
     gives-out (bitStep (portMeans (a .p) .clock)) (gives-then (enableSteps (portMeans (a .p))) (c .before .before .before .before .before .before .before .before .before .before .before .before .before .before .lower-words .ensures) (c .before .before .before .before .before .before .before .before .enum-told .given .1) (c .before .before .before .before .before .lower-enables .ensures))
     (not-done-tag (c .before .before .before .before .before .lower-enables .result) (c .match2 .keys2))
 
--- src/lib.rt:102:5
 resolve-signal-bit-requires : tie.Need-resolve-signal-bit-requires
 unfolding portMeans
 resolve-signal-bit-requires c κs =
     let g = c .before .before .before .before .before .before .before .before .lower-enables .ensures in
     (g .ready, g .sure (c .before .before .enum-told2 .given .1), c .before .before .before .before .before .before .before .before .before .before .before .before .before .before .before .before .before .before .before .before .before .before .before .pre .2 .clock .there, omega (arith, c .before .before .before .before .before .before .before .before .before .before .before .before .before .before .before .before .before .before .before .before .before .before .before .pre .2 .clock .one))
 
--- src/lib.rt:90:1
 same-length-5 : tie.Need-same-length-5
 same-length-5 c = search needs
 
--- src/lib.rt:90:1
 same-length-6 : tie.Need-same-length-6
 same-length-6 c = search needs
 
--- src/lib.rt:90:1
 returns-3 : tie.Need-returns-3
 unfolding portMeans
 returns-3 c =

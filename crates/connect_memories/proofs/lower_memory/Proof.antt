@@ -1,16 +1,12 @@
+-- `connect_memories::lower_memory` meets its contract. Assumes nothing.
 use borrow.Author.Needs.{needs}
 use Rattle.connect_memories.proofs.lower_memory.Statement.{statement}
 use Rattle.connect_memories.proofs.lower_memory.Tie as tie
-use Rattle.connect_memories.proofs.lower_memory.Reads as reads
-use Rattle.connect_memories.proofs.lower_memory.Lts as lts
-use Rattle.connect_memories.proofs.lower_first.Reads as lower-first-reads
-use Rattle.connect_memories.proofs.lower_second.Reads as lower-second-reads
 use Rattle.model.specs.Lowering.{secondSteps}
 use Rattle.records.specs.Others.{secondMeans, memoryMeans}
 use Rattle.walk_steps.specs.Answers.{not-done-tag}
 use Rattle.connect_parts.specs.Steps.{gives-then, gives-out}
 
--- src/lib.rt:120:9
 lower-first-requires : tie.Need-lower-first-requires
 unfolding memoryMeans
 lower-first-requires c κs = (c .before .before .before .before .before .before .pre .0, c .before .before .before .before .before .before .pre .1, c .before .before .before .before .before .before .pre .2 .first)
@@ -18,35 +14,28 @@ lower-first-requires c κs = (c .before .before .before .before .before .before 
 enum-told : tie.Need-enum-told
 enum-told c = search needs
 
--- src/lib.rt:122:9
 same-length : tie.Need-same-length
 same-length c = search needs
 
--- src/lib.rt:122:9
 same-length-2 : tie.Need-same-length-2
 same-length-2 c = search needs
 
--- src/lib.rt:122:9
 returns : tie.Need-returns
 unfolding memoryMeans
 returns c = gives-out (secondSteps (secondMeans (c .before .before .before .before .before .before .before .before .before .before .before .before .args .x .second))) (c .before .before .before .before .before .lower-first .ensures) (not-done-tag (c .before .before .before .before .before .lower-first .result) (c .match .keys2))
 
--- src/lib.rt:125:5
 lower-second-requires : tie.Need-lower-second-requires
 unfolding memoryMeans
 lower-second-requires c κs =
     let g = c .before .before .before .before .before .before .before .before .lower-first .ensures in
     (g .ready, g .sure (c .before .before .enum-told .given .1), c .before .before .before .before .before .before .before .before .before .before .before .before .before .before .before .pre .2 .second)
 
--- src/lib.rt:115:1
 same-length-3 : tie.Need-same-length-3
 same-length-3 c = search needs
 
--- src/lib.rt:115:1
 same-length-4 : tie.Need-same-length-4
 same-length-4 c = search needs
 
--- src/lib.rt:115:1
 returns-2 : tie.Need-returns-2
 unfolding memoryMeans
 returns-2 c = gives-then (secondSteps (secondMeans (c .before .before .before .before .before .before .before .before .before .before .before .before .before .before .before .before .before .before .before .before .args .x .second))) (c .before .before .before .before .before .before .before .before .before .before .before .before .before .lower-first .ensures) (c .before .before .before .before .before .before .before .enum-told .given .1) (c .before .before .before .before .lower-second .ensures)

@@ -1,14 +1,11 @@
+-- `connect_memories::lower_words` meets its contract. Assumes nothing.
 use borrow.Author.Needs.{needs}
 use Rattle.connect_memories.proofs.lower_words.Statement.{statement}
 use Rattle.connect_memories.proofs.lower_words.Tie as tie
-use Rattle.connect_memories.proofs.lower_words.Reads as reads
-use Rattle.connect_memories.proofs.lower_words.Lts as lts
-use Rattle.connect_memories.proofs.lower_expression.Reads as lower-expression-reads
 use Rattle.records.specs.Others.{portMeans}
 use Rattle.walk_steps.specs.Answers.{not-done-tag}
 use Rattle.connect_memories.proofs.Laws.{read-given, read-out, write-given, write-out, data-given}
 
--- src/lib.rt:51:9
 lower-expression-requires : tie.Need-lower-expression-requires
 unfolding portMeans
 lower-expression-requires c κs = (c .before .before .before .before .before .pre .0, c .before .before .before .before .before .pre .1, c .before .before .before .before .before .pre .2 .readAddress .there)
@@ -16,21 +13,17 @@ lower-expression-requires c κs = (c .before .before .before .before .before .pr
 enum-told : tie.Need-enum-told
 enum-told c = search needs
 
--- src/lib.rt:53:9
 same-length : tie.Need-same-length
 same-length c = search needs
 
--- src/lib.rt:53:9
 same-length-2 : tie.Need-same-length-2
 same-length-2 c = search needs
 
--- src/lib.rt:53:9
 returns : tie.Need-returns
 returns c =
     let a = c .before .before .before .before .before .before .before .before .before .before .before .args in
     read-out (a .image .now) (a .net .now) (a .scr .now) (a .p) (c .before .before .before .before .before .before .before .before .before .before .before .pre .0) (c .before .before .before .before .before .before .before .before .before .before .before .pre .1) (c .before .before .before .before .before .before .before .before .before .before .before .pre .2) _ _ _ (c .before .before .before .before .before .lower-expression .ensures) (not-done-tag (c .before .before .before .before .before .lower-expression .result) (c .match .keys2))
 
--- src/lib.rt:55:9
 lower-expression-requires-2 : tie.Need-lower-expression-requires-2
 unfolding portMeans
 lower-expression-requires-2 c κs =
@@ -41,22 +34,18 @@ lower-expression-requires-2 c κs =
 enum-told-2 : tie.Need-enum-told-2
 enum-told-2 c = search needs
 
--- src/lib.rt:57:9
 same-length-3 : tie.Need-same-length-3
 same-length-3 c = search needs
 
--- src/lib.rt:57:9
 same-length-4 : tie.Need-same-length-4
 same-length-4 c = search needs
 
--- src/lib.rt:57:9
 returns-2 : tie.Need-returns-2
 returns-2 c =
     let a = c .before .before .before .before .before .before .before .before .before .before .before .before .before .before .before .before .before .before .before .before .args in
     write-out (a .image .now) (a .net .now) (a .scr .now) (a .p) (c .before .before .before .before .before .before .before .before .before .before .before .before .before .before .before .before .before .before .before .before .pre .0) (c .before .before .before .before .before .before .before .before .before .before .before .before .before .before .before .before .before .before .before .before .pre .1) (c .before .before .before .before .before .before .before .before .before .before .before .before .before .before .before .before .before .before .before .before .pre .2) _ _ _ (c .before .before .before .before .before .before .before .before .before .before .before .before .before .before .lower-expression .ensures) (c .before .before .before .before .before .before .before .before .enum-told .given .1) _ _ _ (c .before .before .before .before .before .lower-expression2 .ensures)
     (not-done-tag (c .before .before .before .before .before .lower-expression2 .result) (c .match2 .keys2))
 
--- src/lib.rt:59:5
 lower-expression-requires-3 : tie.Need-lower-expression-requires-3
 unfolding portMeans
 lower-expression-requires-3 c κs =
@@ -64,15 +53,12 @@ lower-expression-requires-3 c κs =
     let g = write-given (a .image .now) (a .net .now) (a .scr .now) (a .p) (c .before .before .before .before .before .before .before .before .before .before .before .before .before .before .before .before .before .before .before .before .before .before .before .pre .0) (c .before .before .before .before .before .before .before .before .before .before .before .before .before .before .before .before .before .before .before .before .before .before .before .pre .1) (c .before .before .before .before .before .before .before .before .before .before .before .before .before .before .before .before .before .before .before .before .before .before .before .pre .2) _ _ _ (c .before .before .before .before .before .before .before .before .before .before .before .before .before .before .before .before .before .lower-expression .ensures) (c .before .before .before .before .before .before .before .before .before .before .before .enum-told .given .1) _ _ _ (c .before .before .before .before .before .before .before .before .lower-expression2 .ensures) in
     (g .ready, g .sure (c .before .before .enum-told2 .given .1), c .before .before .before .before .before .before .before .before .before .before .before .before .before .before .before .before .before .before .before .before .before .before .before .pre .2 .writeData)
 
--- src/lib.rt:47:1
 same-length-5 : tie.Need-same-length-5
 same-length-5 c = search needs
 
--- src/lib.rt:47:1
 same-length-6 : tie.Need-same-length-6
 same-length-6 c = search needs
 
--- src/lib.rt:47:1
 returns-3 : tie.Need-returns-3
 returns-3 c =
     let a = c .before .before .before .before .before .before .before .before .before .before .before .before .before .before .before .before .before .before .before .before .before .before .before .before .before .before .before .before .args in

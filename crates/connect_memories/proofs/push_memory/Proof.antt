@@ -1,10 +1,7 @@
+-- `connect_memories::push_memory` meets its contract. Assumes nothing.
 use borrow.Author.Needs.{needs}
 use Rattle.connect_memories.proofs.push_memory.Statement.{statement}
 use Rattle.connect_memories.proofs.push_memory.Tie as tie
-use Rattle.connect_memories.proofs.push_memory.Reads as reads
-use Rattle.connect_memories.proofs.push_memory.Lts as lts
-use Rattle.connect_memories.proofs.put_memory.Reads as put-memory-reads
-use Rattle.connect_parts.proofs.push.Reads as push-reads
 use Rattle.meaning.specs.Image.{decode}
 use Rattle.netlist_view.specs.View.{netlistOf}
 use Rattle.table_view.specs.View.{limitOf}
@@ -13,36 +10,29 @@ use Rattle.walk_view.specs.View.{walkState}
 use Rattle.connect_memories.specs.Puts.{puts-all, puts-long}
 use Rattle.connect_memories.proofs.Laws.{record-good}
 
--- src/lib.rt:221:44
 slice-aggregate-put-memory : tie.Need-slice-aggregate-put-memory
 slice-aggregate-put-memory c = search needs
 
--- src/lib.rt:221:9
 put-memory-requires : tie.Need-put-memory-requires
 put-memory-requires c κs = search needs
 
--- src/lib.rt:222:42
 array-share-prefix-record : tie.Need-array-share-prefix-record
 array-share-prefix-record c = search needs
 
--- src/lib.rt:222:42
 slice-aggregate-push : tie.Need-slice-aggregate-push
 slice-aggregate-push c =
     let a = c .before .before .before .before .before .before .before .before .args in
     puts-long (c .before .before .before .put-memory .ensures .1 (netlistOf (limitOf (a .scr .now)) (a .net .now)))
 
--- src/lib.rt:222:5
 push-requires : tie.Need-push-requires
 push-requires c κs =
     let a = c .before .before .before .before .before .before .before .before .args in
     let g = record-good (decode (a .image .now)) (a .k) (memoryMeans (a .x)) (walkState (a .image .now) (a .net .now) (a .scr .now)) _ (puts-all (c .before .before .before .put-memory .ensures .1 (netlistOf (limitOf (a .scr .now)) (a .net .now)))) in
     (c .before .before .before .before .before .before .before .before .pre .0, c .before .before .before .before .before .before .before .before .pre .1, g .0, g .1, g .2)
 
--- src/lib.rt:216:1
 same-length : tie.Need-same-length
 same-length c = search needs
 
--- src/lib.rt:216:1
 returns : tie.Need-returns
 returns c =
     let a = c .before .before .before .before .before .before .before .before .before .before .before .args in

@@ -1,12 +1,7 @@
+-- `connect_memories::put_controls` meets its contract. Assumes nothing.
 use borrow.Author.Needs.{needs}
 use Rattle.connect_memories.proofs.put_controls.Statement.{statement}
 use Rattle.connect_memories.proofs.put_controls.Tie as tie
-use Rattle.connect_memories.proofs.put_controls.Reads as reads
-use Rattle.connect_memories.proofs.put_controls.Lts as lts
-use Rattle.connect_parts.proofs.bit_net.Reads as bit-net-reads
-use Rattle.connect_parts.proofs.control_words.Reads as control-words-reads
-use Rattle.connect_parts.proofs.low_word.Reads as low-word-reads
-use Rattle.lists.proofs.put_words.Reads as put-words-reads
 use native.Mathlib.Omega.{arith}
 use mathlib.Core.Path.{refl}
 use Rattle.table_view.specs.View.{stateOf}
@@ -14,42 +9,33 @@ use Rattle.records.specs.Others.{enableMeans, portMeans}
 use Rattle.connect_memories.specs.Puts.{puts-sets, puts-as}
 use Rattle.connect_memories.proofs.Laws.{tail-are}
 
--- src/lib.rt:172:9
 control-words-requires : tie.Need-control-words-requires
 unfolding portMeans
 control-words-requires c κs = (c .before .before .before .pre .0, c .before .before .before .pre .1 .readEnable)
 
--- src/lib.rt:174:9
 control-words-requires-2 : tie.Need-control-words-requires-2
 unfolding portMeans enableMeans
 control-words-requires-2 c κs = (c .before .before .before .before .before .pre .0, c .before .before .before .before .before .pre .1 .writeEnable)
 
--- src/lib.rt:175:9
 bit-net-requires : tie.Need-bit-net-requires
 unfolding portMeans
 bit-net-requires c κs = (c .before .before .before .before .before .before .pre .0, c .before .before .before .before .before .before .pre .1 .clock .there, omega (arith, c .before .before .before .before .before .before .pre .1 .clock .one))
 
--- src/lib.rt:176:9
 low-word-requires : tie.Need-low-word-requires
 low-word-requires c κs = search needs
 
--- src/lib.rt:180:31
 slice-aggregate-put-words : tie.Need-slice-aggregate-put-words
 slice-aggregate-put-words c = search needs
 
--- src/lib.rt:180:5
 put-words-requires : tie.Need-put-words-requires
 put-words-requires c κs = search needs
 
--- src/lib.rt:181:5
 add-result : tie.Need-add-result
 add-result c = search needs
 
--- src/lib.rt:167:1
 same-length : tie.Need-same-length
 same-length c = search needs
 
--- src/lib.rt:167:1
 returns : tie.Need-returns
 unfolding portMeans enableMeans
 returns c =

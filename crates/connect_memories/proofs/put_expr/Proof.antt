@@ -1,35 +1,26 @@
+-- `connect_memories::put_expr` meets its contract. Assumes nothing.
 use borrow.Author.Needs.{needs}
 use Rattle.connect_memories.proofs.put_expr.Statement.{statement}
 use Rattle.connect_memories.proofs.put_expr.Tie as tie
-use Rattle.connect_memories.proofs.put_expr.Reads as reads
-use Rattle.connect_memories.proofs.put_expr.Lts as lts
-use Rattle.fields.proofs.expr_width.Reads as expr-width-reads
-use Rattle.tables.proofs.copy_range.Reads as copy-range-reads
 use native.Mathlib.Omega.{arith}
 use mathlib.Core.Path.{refl}
 use Rattle.connect_memories.proofs.Laws.{expr-put}
 
--- src/lib.rt:134:9
 expr-width-requires : tie.Need-expr-width-requires
 expr-width-requires c κs = search needs
 
--- src/lib.rt:135:5
 copy-range-requires : tie.Need-copy-range-requires
 copy-range-requires c κs = search needs
 
--- src/lib.rt:136:10
 cast-result : tie.Need-cast-result
 cast-result c = search needs
 
--- src/lib.rt:136:5
 add-result : tie.Need-add-result
 add-result c = search needs
 
--- src/lib.rt:130:1
 same-length : tie.Need-same-length
 same-length c = search needs
 
--- src/lib.rt:130:1
 returns : tie.Need-returns
 returns c =
     let a = c .before .before .before .before .before .before .before .before .args in

@@ -1,10 +1,7 @@
+-- `connect_memories::put_memory` meets its contract. Assumes nothing.
 use borrow.Author.Needs.{needs}
 use Rattle.connect_memories.proofs.put_memory.Statement.{statement}
 use Rattle.connect_memories.proofs.put_memory.Tie as tie
-use Rattle.connect_memories.proofs.put_memory.Reads as reads
-use Rattle.connect_memories.proofs.put_memory.Lts as lts
-use Rattle.connect_memories.proofs.put_port.Reads as put-port-reads
-use Rattle.lists.proofs.put_words.Reads as put-words-reads
 use native.Mathlib.Omega.{arith}
 use mathlib.Core.Path.{refl}
 use Rattle.meaning.specs.Image.{decode}
@@ -12,43 +9,34 @@ use Rattle.table_view.specs.View.{stateOf}
 use Rattle.connect_memories.specs.Puts.{puts-sets, puts-then, puts-as}
 use Rattle.connect_memories.proofs.Laws.{head, there-first, whole-first, there-second, whole-second, words-one, words-two}
 
--- src/lib.rt:201:17
 enum-told : tie.Need-enum-told
 enum-told c = search needs
 
--- src/lib.rt:202:38
 slice-aggregate-put-words : tie.Need-slice-aggregate-put-words
 slice-aggregate-put-words c = search needs
 
--- src/lib.rt:202:13
 put-words-requires : tie.Need-put-words-requires
 put-words-requires c κs = search needs
 
--- src/lib.rt:203:13
 put-port-requires : tie.Need-put-port-requires
 put-port-requires c κs =
     let a = c .before .before .before .before .before .before .before .before .before .before .before .before .args in
     (c .before .before .before .before .before .before .before .before .before .before .before .before .pre .0, there-first (a .x) (a .image .now) (c .before .before .before .before .before .before .before .before .before .before .before .before .pre .1), whole-first (a .x) (a .image .now) (a .scr .now) (c .before .before .before .before .before .before .before .before .before .before .before .before .pre .2), omega (arith, c .before .before .before .before .before .before .before .before .before .before .before .before .pre .3, c .before .before .before .put-words .kept .0))
 
--- src/lib.rt:205:29
 enum-known-second : tie.Need-enum-known-second
 enum-known-second c = search needs
 
--- src/lib.rt:207:38
 slice-aggregate-put-words-2 : tie.Need-slice-aggregate-put-words-2
 slice-aggregate-put-words-2 c = search needs
 
--- src/lib.rt:207:13
 put-words-requires-2 : tie.Need-put-words-requires-2
 put-words-requires-2 c κs = search needs
 
--- src/lib.rt:208:17
 put-port-requires-2 : tie.Need-put-port-requires-2
 put-port-requires-2 c κs =
     let a = c .before .before .before .before .before .before .before .before .before .before .before .before .before .args in
     (c .before .before .before .before .before .before .before .before .before .before .before .before .before .pre .0, there-first (a .x) (a .image .now) (c .before .before .before .before .before .before .before .before .before .before .before .before .before .pre .1), whole-first (a .x) (a .image .now) (a .scr .now) (c .before .before .before .before .before .before .before .before .before .before .before .before .before .pre .2), omega (arith, c .before .before .before .before .before .before .before .before .before .before .before .before .before .pre .3, c .before .before .before .put-words2 .kept .0))
 
--- src/lib.rt:209:13
 put-port-requires-3 : tie.Need-put-port-requires-3
 put-port-requires-3 c κs =
     let a = c .before .before .before .before .before .before .before .before .before .before .before .before .before .before .before .before .before .args in
@@ -57,11 +45,9 @@ put-port-requires-3 c κs =
     (c .before .before .before .before .before .before .before .before .before .before .before .before .before .before .before .before .before .pre .0, there-second (a .x) p q (a .image .now) (c .before .before .before .before .before .before .before .before .before .before .before .before .before .before .before .before .before .pre .1), whole-second (a .x) p q (a .image .now) (a .scr .now) (c .before .before .before .before .before .before .before .before .before .before .before .before .before .before .before .before .before .pre .2),
     omega (arith, c .before .before .before .before .before .before .before .before .before .before .before .before .before .before .before .before .before .pre .3, c .before .before .before .before .before .before .before .put-words2 .kept .0, c .before .before .before .put-port2 .kept .1 .1 .1 .0, c .before .before .before .put-port2 .ensures .0))
 
--- src/lib.rt:193:1
 same-length : tie.Need-same-length
 same-length c = search needs
 
--- src/lib.rt:193:1
 returns : tie.Need-returns
 returns c =
     let a = c .before .before .before .before .before .before .before .before .before .before .before .before .before .before .before .args in
@@ -69,11 +55,9 @@ returns c =
     λ l. puts-as (words-one (a .x) (c .before .before .before .before .before .before .before .before .before .enum-told .given .1) (decode (a .image .now)) (a .k) (stateOf (a .image .now) l (a .scr .now)))
     (puts-then (puts-sets (head (a .k) (a .x) 1) _ 0 6 _ (omega (arith, c .before .before .before .before .before .before .before .before .before .before .before .before .before .before .before .pre .3)) refl (c .before .before .before .before .before .before .put-words .ensures)) (c .before .before .put-port .ensures .1 l)))
 
--- src/lib.rt:193:1
 same-length-2 : tie.Need-same-length-2
 same-length-2 c = search needs
 
--- src/lib.rt:193:1
 returns-2 : tie.Need-returns-2
 returns-2 c =
     let a = c .before .before .before .before .before .before .before .before .before .before .before .before .before .before .before .before .before .before .before .before .args in

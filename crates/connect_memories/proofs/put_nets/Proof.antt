@@ -1,13 +1,7 @@
+-- `connect_memories::put_nets` meets its contract. Assumes nothing.
 use borrow.Author.Needs.{needs}
 use Rattle.connect_memories.proofs.put_nets.Statement.{statement}
 use Rattle.connect_memories.proofs.put_nets.Tie as tie
-use Rattle.connect_memories.proofs.put_nets.Reads as reads
-use Rattle.connect_memories.proofs.put_nets.Lts as lts
-use Rattle.connect_memories.proofs.put_expr.Reads as put-expr-reads
-use Rattle.connect_memories.proofs.put_signal.Reads as put-signal-reads
-use Rattle.fields.proofs.expr_width.Reads as expr-width-reads
-use Rattle.fields.proofs.signal_width.Reads as signal-width-reads
-use Rattle.lists.proofs.put_words.Reads as put-words-reads
 use native.Mathlib.Omega.{arith}
 use mathlib.Core.Path.{refl}
 use Rattle.table_view.specs.View.{stateOf}
@@ -15,40 +9,31 @@ use Rattle.records.specs.Others.{portMeans}
 use Rattle.connect_memories.specs.Puts.{puts-sets, puts-then, puts-as}
 use Rattle.connect_memories.proofs.Laws.{widths-are}
 
--- src/lib.rt:154:9
 expr-width-requires : tie.Need-expr-width-requires
 expr-width-requires c κs = search needs
 
--- src/lib.rt:155:9
 signal-width-requires : tie.Need-signal-width-requires
 signal-width-requires c κs = search needs
 
--- src/lib.rt:156:9
 expr-width-requires-2 : tie.Need-expr-width-requires-2
 expr-width-requires-2 c κs = search needs
 
--- src/lib.rt:157:9
 expr-width-requires-3 : tie.Need-expr-width-requires-3
 expr-width-requires-3 c κs = search needs
 
--- src/lib.rt:159:31
 slice-aggregate-put-words : tie.Need-slice-aggregate-put-words
 slice-aggregate-put-words c = search needs
 
--- src/lib.rt:159:5
 put-words-requires : tie.Need-put-words-requires
 put-words-requires c κs = search needs
 
--- src/lib.rt:160:55
 add-put-expr : tie.Need-add-put-expr
 add-put-expr c = search needs
 
--- src/lib.rt:160:9
 put-expr-requires : tie.Need-put-expr-requires
 unfolding portMeans
 put-expr-requires c κs = (c .before .before .before .before .before .before .before .before .before .before .before .before .before .pre .0, c .before .before .before .before .before .before .before .before .before .before .before .before .before .pre .1 .readAddress .there, c .before .before .before .before .before .before .before .before .before .before .before .before .before .pre .2 .readAddress, omega (arith, c .before .before .before .before .before .before .before .before .before .before .before .before .before .pre .3, c .before .before .before .before .before .before .before .before .before .before .before .before .before .pre .1 .readAddress .most, c .before .before .before .put-words .kept .0))
 
--- src/lib.rt:161:9
 put-signal-requires : tie.Need-put-signal-requires
 unfolding portMeans
 put-signal-requires c κs =
@@ -56,7 +41,6 @@ put-signal-requires c κs =
     let m = c .before .before .before .before .before .before .before .before .before .before .before .before .before .before .before .before .before .pre .0 .image .signalMost (a .p .«read_data») (c .before .before .before .before .before .before .before .before .before .before .before .before .before .before .before .before .before .pre .1 .readData) in
     (c .before .before .before .before .before .before .before .before .before .before .before .before .before .before .before .before .before .pre .0, c .before .before .before .before .before .before .before .before .before .before .before .before .before .before .before .before .before .pre .1 .readData, omega (arith, c .before .before .before .before .before .before .before .before .before .before .before .before .before .before .before .before .before .pre .3, c .before .before .before .before .before .before .before .before .before .before .before .before .before .before .before .before .before .pre .1 .readAddress .most, m, c .before .before .before .before .before .before .before .put-words .kept .0, c .before .before .before .put-expr .kept .1 .1 .1 .0, c .before .before .before .put-expr .ensures .0))
 
--- src/lib.rt:162:9
 put-expr-requires-2 : tie.Need-put-expr-requires-2
 unfolding portMeans
 put-expr-requires-2 c κs =
@@ -64,7 +48,6 @@ put-expr-requires-2 c κs =
     let m = c .before .before .before .before .before .before .before .before .before .before .before .before .before .before .before .before .before .before .before .before .before .pre .0 .image .signalMost (a .p .«read_data») (c .before .before .before .before .before .before .before .before .before .before .before .before .before .before .before .before .before .before .before .before .before .pre .1 .readData) in
     (c .before .before .before .before .before .before .before .before .before .before .before .before .before .before .before .before .before .before .before .before .before .pre .0, c .before .before .before .before .before .before .before .before .before .before .before .before .before .before .before .before .before .before .before .before .before .pre .1 .writeAddress .there, c .before .before .before .before .before .before .before .before .before .before .before .before .before .before .before .before .before .before .before .before .before .pre .2 .writeAddress, omega (arith, c .before .before .before .before .before .before .before .before .before .before .before .before .before .before .before .before .before .before .before .before .before .pre .3, c .before .before .before .before .before .before .before .before .before .before .before .before .before .before .before .before .before .before .before .before .before .pre .1 .readAddress .most, c .before .before .before .before .before .before .before .before .before .before .before .before .before .before .before .before .before .before .before .before .before .pre .1 .writeAddress .most, m, c .before .before .before .before .before .before .before .before .before .before .before .put-words .kept .0, c .before .before .before .before .before .before .before .put-expr .kept .1 .1 .1 .0, c .before .before .before .put-signal .kept .1 .1 .1 .0, c .before .before .before .before .before .before .before .put-expr .ensures .0, c .before .before .before .put-signal .ensures .0))
 
--- src/lib.rt:163:5
 put-expr-requires-3 : tie.Need-put-expr-requires-3
 unfolding portMeans
 put-expr-requires-3 c κs =
@@ -73,11 +56,9 @@ put-expr-requires-3 c κs =
     let n = c .before .before .before .before .before .before .before .before .before .before .before .before .before .before .before .before .before .before .before .before .before .before .before .before .before .pre .0 .image .exprMost (a .p .«write_data») (c .before .before .before .before .before .before .before .before .before .before .before .before .before .before .before .before .before .before .before .before .before .before .before .before .before .pre .1 .writeData) in
     (c .before .before .before .before .before .before .before .before .before .before .before .before .before .before .before .before .before .before .before .before .before .before .before .before .before .pre .0, c .before .before .before .before .before .before .before .before .before .before .before .before .before .before .before .before .before .before .before .before .before .before .before .before .before .pre .1 .writeData, c .before .before .before .before .before .before .before .before .before .before .before .before .before .before .before .before .before .before .before .before .before .before .before .before .before .pre .2 .writeData, omega (arith, c .before .before .before .before .before .before .before .before .before .before .before .before .before .before .before .before .before .before .before .before .before .before .before .before .before .pre .3, c .before .before .before .before .before .before .before .before .before .before .before .before .before .before .before .before .before .before .before .before .before .before .before .before .before .pre .1 .readAddress .most, c .before .before .before .before .before .before .before .before .before .before .before .before .before .before .before .before .before .before .before .before .before .before .before .before .before .pre .1 .writeAddress .most, m, n, c .before .before .before .before .before .before .before .before .before .before .before .before .before .before .before .put-words .kept .0, c .before .before .before .before .before .before .before .before .before .before .before .put-expr .kept .1 .1 .1 .0, c .before .before .before .before .before .before .before .put-signal .kept .1 .1 .1 .0, c .before .before .before .put-expr2 .kept .1 .1 .1 .0, c .before .before .before .before .before .before .before .before .before .before .before .put-expr .ensures .0, c .before .before .before .before .before .before .before .put-signal .ensures .0, c .before .before .before .put-expr2 .ensures .0))
 
--- src/lib.rt:149:1
 same-length : tie.Need-same-length
 same-length c = search needs
 
--- src/lib.rt:149:1
 returns : tie.Need-returns
 unfolding portMeans
 returns c =

@@ -1,10 +1,7 @@
+-- `connect_memories::put_port` meets its contract. Assumes nothing.
 use borrow.Author.Needs.{needs}
 use Rattle.connect_memories.proofs.put_port.Statement.{statement}
 use Rattle.connect_memories.proofs.put_port.Tie as tie
-use Rattle.connect_memories.proofs.put_port.Reads as reads
-use Rattle.connect_memories.proofs.put_port.Lts as lts
-use Rattle.connect_memories.proofs.put_controls.Reads as put-controls-reads
-use Rattle.connect_memories.proofs.put_nets.Reads as put-nets-reads
 use native.Mathlib.Omega.{arith}
 use Rattle.meaning.specs.Image.{decode}
 use Rattle.table_view.specs.View.{stateOf}
@@ -12,19 +9,15 @@ use Rattle.records.specs.Others.{portMeans}
 use Rattle.connect_memories.specs.Puts.{puts-then, puts-as}
 use Rattle.connect_memories.proofs.Laws.{port-parts}
 
--- src/lib.rt:188:9
 put-nets-requires : tie.Need-put-nets-requires
 put-nets-requires c κs = search needs
 
--- src/lib.rt:189:5
 put-controls-requires : tie.Need-put-controls-requires
 put-controls-requires c κs = search needs
 
--- src/lib.rt:184:1
 same-length : tie.Need-same-length
 same-length c = search needs
 
--- src/lib.rt:184:1
 returns : tie.Need-returns
 returns c =
     let a = c .before .before .before .before .before .before .before .before .before .before .before .args in

@@ -1,11 +1,7 @@
+-- `connect_outputs::add_port` meets its contract. Assumes nothing.
 use borrow.Author.Needs.{needs}
 use Rattle.connect_outputs.proofs.add_port.Statement.{statement}
 use Rattle.connect_outputs.proofs.add_port.Tie as tie
-use Rattle.connect_outputs.proofs.add_port.Reads as reads
-use Rattle.connect_outputs.proofs.add_port.Lts as lts
-use Rattle.connect_outputs.proofs.answer.Reads as answer-reads
-use Rattle.ports.proofs.add_output_port.Reads as add-output-port-reads
-use Rattle.tables.proofs.copy_signal.Reads as copy-signal-reads
 use mathlib.Core.Path.{sym, ap, _∙_}
 use native.Mathlib.Omega.{arith}
 use lib.ListN.{length}
@@ -14,23 +10,18 @@ use Rattle.table_view.specs.View.{limitOf}
 use Rattle.table_view.specs.Bounds.{signals-long}
 use Rattle.connect_outputs.proofs.Laws.{copied, port-made}
 
--- src/lib.rt:56:46
 slice-aggregate-copy-signal : tie.Need-slice-aggregate-copy-signal
 slice-aggregate-copy-signal c = search needs
 
--- src/lib.rt:56:5
 copy-signal-requires : tie.Need-copy-signal-requires
 copy-signal-requires c κs = search needs
 
--- src/lib.rt:57:17
 shared-slice-read-limit : tie.Need-shared-slice-read-limit
 shared-slice-read-limit c = search needs
 
--- src/lib.rt:59:50
 array-share-prefix-nets : tie.Need-array-share-prefix-nets
 array-share-prefix-nets c = search needs
 
--- src/lib.rt:59:50
 slice-aggregate-add-output-port : tie.Need-slice-aggregate-add-output-port
 slice-aggregate-add-output-port c =
     let a = c .before .before .before .before .before .before .before .before .before .args in
@@ -38,7 +29,6 @@ slice-aggregate-add-output-port c =
     let long = signals-long (a .image .now) (a .scr .now) l (a .p) 0 (a .n) (c .before .before .before .before .before .before .before .before .before .pre .2) (omega (arith, c .before .before .before .before .before .before .before .before .before .pre .3)) in
     sym (ap length (copied _ _ (a .n) (c .before .before .before .before .before .before .before .before .before .pre .4) long (c .before .before .before .before .copy-signal .ensures l)) ∙ long)
 
--- src/lib.rt:59:12
 add-output-port-requires : tie.Need-add-output-port-requires
 add-output-port-requires c κs =
     let a = c .before .before .before .before .before .before .before .before .before .args in
@@ -46,15 +36,12 @@ add-output-port-requires c κs =
     let long = signals-long (a .image .now) (a .scr .now) l (a .p) 0 (a .n) (c .before .before .before .before .before .before .before .before .before .pre .2) (omega (arith, c .before .before .before .before .before .before .before .before .before .pre .3)) in
     (c .before .before .before .before .before .before .before .before .before .pre .0 .held .built, omega (arith, ap length (copied _ _ (a .n) (c .before .before .before .before .before .before .before .before .before .pre .4) long (c .before .before .before .before .copy-signal .ensures l)), long, c .before .before .before .before .before .before .before .before .before .pre .4))
 
--- src/lib.rt:59:5
 answer-requires : tie.Need-answer-requires
 answer-requires c κs = search needs
 
--- src/lib.rt:51:1
 same-length : tie.Need-same-length
 same-length c = search needs
 
--- src/lib.rt:51:1
 returns : tie.Need-returns
 returns c =
     let a = c .before .before .before .before .before .before .before .before .before .before .before .before .before .args in

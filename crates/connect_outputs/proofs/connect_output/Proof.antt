@@ -1,57 +1,44 @@
+-- `connect_outputs::connect_output` meets its contract. Assumes nothing.
 use borrow.Author.Needs.{needs}
 use Rattle.connect_outputs.proofs.connect_output.Statement.{statement}
 use Rattle.connect_outputs.proofs.connect_output.Tie as tie
-use Rattle.connect_outputs.proofs.connect_output.Reads as reads
-use Rattle.connect_outputs.proofs.connect_output.Lts as lts
-use Rattle.connect_outputs.proofs.connect_port.Reads as connect-port-reads
-use Rattle.records.proofs.signal_at.Reads as signal-at-reads
 use Rattle.walk_view.specs.View.{walkState}
 use Rattle.connect_parts.specs.Ran.{ran-as, ran-none}
 use Rattle.connect_outputs.proofs.Laws.{width-is, internal, input, output}
 
--- src/lib.rt:79:9
 signal-at-requires : tie.Need-signal-at-requires
 signal-at-requires c κs = search needs
 
--- src/lib.rt:82:32
 enum-told : tie.Need-enum-told
 enum-told c = search needs
 
--- src/lib.rt:83:29
 enum-told-2 : tie.Need-enum-told-2
 enum-told-2 c = search needs
 
--- src/lib.rt:84:50
 enum-told-3 : tie.Need-enum-told-3
 enum-told-3 c = search needs
 
--- src/lib.rt:84:30
 connect-port-requires : tie.Need-connect-port-requires
 connect-port-requires c κs =
     let a = c .before .before .before .before .before .before .before .before .args in
     (c .before .before .before .before .before .before .before .before .pre .0, c .before .before .before .before .before .before .before .before .pre .1, c .before .before .before .before .before .before .before .before .pre .2, width-is (a .image .now) (a .p) (c .before .before .before .before .signal-at .result) (c .before .before .before .before .signal-at .ensures) (walkState (a .image .now) (a .net .now) (a .scr .now)))
 
--- src/lib.rt:75:1
 returns : tie.Need-returns
 returns c =
     let a = c .before .before .before .before .before .before .args in
     ran-as (internal (a .image .now) (a .p) (c .before .before .signal-at .result) (c .before .before .signal-at .ensures) (walkState (a .image .now) (a .net .now) (a .scr .now)) (c .enum-told .given .1)) (ran-none (a .image .now) (a .net .now) (a .scr .now) (c .before .before .before .before .before .before .pre .0) (c .before .before .before .before .before .before .pre .1))
 
--- src/lib.rt:75:1
 returns-2 : tie.Need-returns-2
 returns-2 c =
     let a = c .before .before .before .before .before .before .args in
     ran-as (input (a .image .now) (a .p) (c .before .before .signal-at .result) (c .before .before .signal-at .ensures) (walkState (a .image .now) (a .net .now) (a .scr .now)) (c .enum-told2 .given .1)) (ran-none (a .image .now) (a .net .now) (a .scr .now) (c .before .before .before .before .before .before .pre .0) (c .before .before .before .before .before .before .pre .1))
 
--- src/lib.rt:75:1
 same-length : tie.Need-same-length
 same-length c = search needs
 
--- src/lib.rt:75:1
 same-length-2 : tie.Need-same-length-2
 same-length-2 c = search needs
 
--- src/lib.rt:75:1
 returns-3 : tie.Need-returns-3
 returns-3 c =
     let a = c .before .before .before .before .before .before .before .before .before .before .before .before .before .args in

@@ -1,9 +1,6 @@
+-- `connect_outputs::connect_outputs` meets its contract. Assumes nothing.
 use Rattle.connect_outputs.proofs.connect_outputs.Statement.{statement}
 use Rattle.connect_outputs.proofs.connect_outputs.Tie as tie
-use Rattle.connect_outputs.proofs.connect_outputs.Reads as reads
-use Rattle.connect_outputs.proofs.connect_outputs.Lts as lts
-use Rattle.connect_outputs.proofs.connect_output.Reads as connect-output-reads
-use Rattle.fields.proofs.count.Reads as count-reads
 use borrow.Author.Needs.{needs}
 use mathlib.Core.Bool.{false}
 use Prim.Native.Nat.{_-_}
@@ -24,18 +21,15 @@ Inv-loop image net₀ scr₀ n p₀ net scr p = TurnsAt (connectOutputs (decode 
 abbrev μ-loop : tie.MeasureT-loop
 μ-loop image net₀ scr₀ n p₀ net scr p = n - p
 
--- src/lib.rt:92:9
 count-requires : tie.Need-count-requires Inv-loop μ-loop
 count-requires c κs = search needs
 
--- src/lib.rt:94:5
 loop-holds : tie.Need-loop-holds Inv-loop μ-loop
 loop-holds c =
     let a = c .before .before .before .before .args in
     turns-start _ (outputTurn (a .image .now)) (a .image .now) (a .net .now) (a .scr .now) (countAt (a .image .now) 0)
     (all-outputs (a .image .now) (walkState (a .image .now) (a .net .now) (a .scr .now))) (c .before .before .before .before .pre .0) (c .before .before .before .before .pre .1)
 
--- src/lib.rt:95:13
 connect-output-requires : tie.Need-connect-output-requires Inv-loop μ-loop
 connect-output-requires c κs =
     let q = c .before .before .before .loop in
@@ -44,15 +38,12 @@ connect-output-requires c κs =
 enum-told : tie.Need-enum-told Inv-loop μ-loop
 enum-told c = search needs
 
--- src/lib.rt:97:13
 same-length : tie.Need-same-length Inv-loop μ-loop
 same-length c = search needs
 
--- src/lib.rt:97:13
 same-length-2 : tie.Need-same-length-2 Inv-loop μ-loop
 same-length-2 c = search needs
 
--- src/lib.rt:97:13
 returns : tie.Need-returns Inv-loop μ-loop
 returns c =
     let a = c .before .before .before .before .before .before .before .before .before .before .before .before .before .before .args in
@@ -61,15 +52,12 @@ returns c =
     ran-phase (turns-out _ (outputTurn (a .image .now)) (a .image .now) (a .net .now) (a .scr .now) (countAt (a .image .now) 0) (q .p) (q .net) (q .scr) _ _ (q .inv) (g .result)
     (omega (arith, c .before .before .before .before .before .before .before .before .loop-test .taken, c .before .before .before .before .before .before .before .before .before .before .count .ensures)) (g .ensures) (not-done-tag (g .result) (c .match .keys2)))
 
--- src/lib.rt:99:9
 add-p : tie.Need-add-p Inv-loop μ-loop
 add-p c = search needs
 
--- src/lib.rt:94:5
 loop-less : tie.Need-loop-less Inv-loop μ-loop
 loop-less c = search needs
 
--- src/lib.rt:94:5
 loop-again : tie.Need-loop-again Inv-loop μ-loop
 loop-again c =
     let a = c .before .before .before .before .before .before .before .before .before .before .before .before .before .before .before .args in
@@ -78,15 +66,12 @@ loop-again c =
     turns-more _ (outputTurn (a .image .now)) (a .image .now) (a .net .now) (a .scr .now) (countAt (a .image .now) 0) (q .p) (q .net) (q .scr) _ _ (q .inv) (g .result)
     (omega (arith, c .before .before .before .before .before .before .before .before .before .loop-test .taken, c .before .before .before .before .before .before .before .before .before .before .before .count .ensures)) (g .ensures) (c .enum-told .given .1)
 
--- src/lib.rt:88:1
 same-length-3 : tie.Need-same-length-3 Inv-loop μ-loop
 same-length-3 c = search needs
 
--- src/lib.rt:88:1
 same-length-4 : tie.Need-same-length-4 Inv-loop μ-loop
 same-length-4 c = search needs
 
--- src/lib.rt:88:1
 returns-2 : tie.Need-returns-2 Inv-loop μ-loop
 returns-2 c =
     let a = c .before .before .before .before .before .before .args in

@@ -1,41 +1,32 @@
+-- `connect_parts::control_words` meets its contract. Assumes nothing.
 use borrow.Author.Needs.{needs}
 use Rattle.connect_parts.proofs.control_words.Statement.{statement}
 use Rattle.connect_parts.proofs.control_words.Tie as tie
-use Rattle.connect_parts.proofs.control_words.Reads as reads
-use Rattle.connect_parts.proofs.control_words.Lts as lts
-use Rattle.connect_parts.proofs.bit_net.Reads as bit-net-reads
-use Rattle.connect_parts.proofs.low_word.Reads as low-word-reads
 use native.Mathlib.Omega.{arith}
 use Rattle.table_view.specs.View.{stateOf}
 use Rattle.connect_parts.specs.Parts.{there-present}
 use Rattle.connect_parts.proofs.Laws.{control-absent, control-present}
 
--- src/lib.rt:55:27
 enum-told : tie.Need-enum-told
 enum-told c = search needs
 
--- src/lib.rt:59:25
 enum-known-e : tie.Need-enum-known-e
 enum-known-e c = search needs
 
--- src/lib.rt:60:18
 bit-net-requires : tie.Need-bit-net-requires
 bit-net-requires c κs =
     let a = c .before .before .before .before .before .args in
     let h = there-present (a .e) (a .image .now) (c .before .e .given .0 .0) (c .before .e .given .1) (c .before .before .before .before .before .pre .1) in
     (c .before .before .before .before .before .pre .0, h .there, omega (arith, h .one))
 
--- src/lib.rt:61:20
 low-word-requires : tie.Need-low-word-requires
 low-word-requires c κs = search needs
 
--- src/lib.rt:50:1
 returns : tie.Need-returns
 returns c =
     let a = c .before .before .before .before .args in
     λ l. control-absent (stateOf (a .image .now) l (a .scr .now)) (a .e) (c .enum-told .given .1)
 
--- src/lib.rt:50:1
 returns-2 : tie.Need-returns-2
 returns-2 c =
     let a = c .before .before .before .before .before .before .before .args in

@@ -1,11 +1,7 @@
+-- `connect_registers::connect_register` meets its contract. Assumes nothing.
 use borrow.Author.Needs.{needs}
 use Rattle.connect_registers.proofs.connect_register.Statement.{statement}
 use Rattle.connect_registers.proofs.connect_register.Tie as tie
-use Rattle.connect_registers.proofs.connect_register.Reads as reads
-use Rattle.connect_registers.proofs.connect_register.Lts as lts
-use Rattle.connect_registers.proofs.lower_register.Reads as lower-register-reads
-use Rattle.connect_registers.proofs.push_bits.Reads as push-bits-reads
-use Rattle.records.proofs.register_at.Reads as register-at-reads
 use mathlib.Core.Path.{sym, subst}
 use Rattle.records.specs.Others.{registerMeans}
 use Rattle.walk_view.specs.View.{walkState}
@@ -15,11 +11,9 @@ use Rattle.connect_parts.specs.Steps.{all-ran}
 use Rattle.connect_registers.specs.Registers.{bitsTurn, There}
 use Rattle.connect_registers.proofs.Laws.{register-there, register-whole, turn-as}
 
--- src/lib.rt:196:9
 register-at-requires : tie.Need-register-at-requires
 register-at-requires c κs = search needs
 
--- src/lib.rt:197:9
 lower-register-requires : tie.Need-lower-register-requires
 lower-register-requires c κs =
     let a = c .before .before .before .before .before .before .args in
@@ -28,15 +22,12 @@ lower-register-requires c κs =
 enum-told : tie.Need-enum-told
 enum-told c = search needs
 
--- src/lib.rt:199:9
 same-length : tie.Need-same-length
 same-length c = search needs
 
--- src/lib.rt:199:9
 same-length-2 : tie.Need-same-length-2
 same-length-2 c = search needs
 
--- src/lib.rt:199:9
 returns : tie.Need-returns
 returns c =
     let a = c .before .before .before .before .before .before .before .before .before .before .before .before .args in
@@ -44,7 +35,6 @@ returns c =
     ran-as (turn-as (a .image .now) (a .k) x (walkState (a .image .now) (a .net .now) (a .scr .now)) (c .before .before .before .before .before .before .before .before .register-at .ensures))
     (ran-out (bitsTurn (a .image .now) (a .k) (registerMeans x)) (all-ran (c .before .before .before .before .before .lower-register .ensures)) (not-done-tag (c .before .before .before .before .before .lower-register .result) (c .match .keys2)))
 
--- src/lib.rt:201:5
 push-bits-requires : tie.Need-push-bits-requires
 push-bits-requires c κs =
     let a = c .before .before .before .before .before .before .before .before .before .before .before .before .before .before .before .args in
@@ -53,15 +43,12 @@ push-bits-requires c κs =
     let h = subst (There (a .image .now)) (sym (c .before .before .before .before .before .before .before .before .before .before .before .register-at .ensures)) (register-there (a .image .now) (a .k) (c .before .before .before .before .before .before .before .before .before .before .before .before .before .before .before .pre .0 .accepted) (c .before .before .before .before .before .before .before .before .before .before .before .before .before .before .before .pre .2)) in
     (g .ready, g .sure d, h, register-whole h g d)
 
--- src/lib.rt:192:1
 same-length-3 : tie.Need-same-length-3
 same-length-3 c = search needs
 
--- src/lib.rt:192:1
 same-length-4 : tie.Need-same-length-4
 same-length-4 c = search needs
 
--- src/lib.rt:192:1
 returns-2 : tie.Need-returns-2
 returns-2 c =
     let a = c .before .before .before .before .before .before .before .before .before .before .before .before .before .before .before .before .before .before .args in

@@ -1,9 +1,6 @@
+-- `connect_registers::connect_registers` meets its contract. Assumes nothing.
 use Rattle.connect_registers.proofs.connect_registers.Statement.{statement}
 use Rattle.connect_registers.proofs.connect_registers.Tie as tie
-use Rattle.connect_registers.proofs.connect_registers.Reads as reads
-use Rattle.connect_registers.proofs.connect_registers.Lts as lts
-use Rattle.connect_registers.proofs.connect_register.Reads as connect-register-reads
-use Rattle.fields.proofs.count.Reads as count-reads
 use borrow.Author.Needs.{needs}
 use mathlib.Core.Bool.{false}
 use Prim.Native.Nat.{_-_}
@@ -23,18 +20,15 @@ Inv-loop image net₀ scr₀ n k₀ net scr k =
 abbrev μ-loop : tie.MeasureT-loop
 μ-loop image net₀ scr₀ n k₀ net scr k = n - k
 
--- src/lib.rt:208:9
 count-requires : tie.Need-count-requires Inv-loop μ-loop
 count-requires c κs = search needs
 
--- src/lib.rt:210:5
 loop-holds : tie.Need-loop-holds Inv-loop μ-loop
 loop-holds c =
     let a = c .before .before .before .before .args in
     turns-start _ (registerTurn (a .image .now)) (a .image .now) (a .net .now) (a .scr .now) (countAt (a .image .now) 4)
     (all-registers (a .image .now) (walkState (a .image .now) (a .net .now) (a .scr .now))) (c .before .before .before .before .pre .0) (c .before .before .before .before .pre .1)
 
--- src/lib.rt:211:13
 connect-register-requires : tie.Need-connect-register-requires Inv-loop μ-loop
 connect-register-requires c κs =
     let q = c .before .before .before .loop in
@@ -43,15 +37,12 @@ connect-register-requires c κs =
 enum-told : tie.Need-enum-told Inv-loop μ-loop
 enum-told c = search needs
 
--- src/lib.rt:213:13
 same-length : tie.Need-same-length Inv-loop μ-loop
 same-length c = search needs
 
--- src/lib.rt:213:13
 same-length-2 : tie.Need-same-length-2 Inv-loop μ-loop
 same-length-2 c = search needs
 
--- src/lib.rt:213:13
 returns : tie.Need-returns Inv-loop μ-loop
 returns c =
     let a = c .before .before .before .before .before .before .before .before .before .before .before .before .before .before .args in
@@ -60,15 +51,12 @@ returns c =
     ran-phase (turns-out _ (registerTurn (a .image .now)) (a .image .now) (a .net .now) (a .scr .now) (countAt (a .image .now) 4) (q .k) (q .net) (q .scr) _ _ (q .inv) (g .result)
     (omega (arith, c .before .before .before .before .before .before .before .before .loop-test .taken, c .before .before .before .before .before .before .before .before .before .before .count .ensures)) (g .ensures) (not-done-tag (g .result) (c .match .keys2)))
 
--- src/lib.rt:215:9
 add-k : tie.Need-add-k Inv-loop μ-loop
 add-k c = search needs
 
--- src/lib.rt:210:5
 loop-less : tie.Need-loop-less Inv-loop μ-loop
 loop-less c = search needs
 
--- src/lib.rt:210:5
 loop-again : tie.Need-loop-again Inv-loop μ-loop
 loop-again c =
     let a = c .before .before .before .before .before .before .before .before .before .before .before .before .before .before .before .args in
@@ -77,15 +65,12 @@ loop-again c =
     turns-more _ (registerTurn (a .image .now)) (a .image .now) (a .net .now) (a .scr .now) (countAt (a .image .now) 4) (q .k) (q .net) (q .scr) _ _ (q .inv) (g .result)
     (omega (arith, c .before .before .before .before .before .before .before .before .before .loop-test .taken, c .before .before .before .before .before .before .before .before .before .before .before .count .ensures)) (g .ensures) (c .enum-told .given .1)
 
--- src/lib.rt:204:1
 same-length-3 : tie.Need-same-length-3 Inv-loop μ-loop
 same-length-3 c = search needs
 
--- src/lib.rt:204:1
 same-length-4 : tie.Need-same-length-4 Inv-loop μ-loop
 same-length-4 c = search needs
 
--- src/lib.rt:204:1
 returns-2 : tie.Need-returns-2 Inv-loop μ-loop
 returns-2 c =
     let a = c .before .before .before .before .before .before .args in

@@ -1,54 +1,43 @@
+-- `connect_registers::lower_present` meets its contract. Assumes nothing.
 use borrow.Author.Needs.{needs}
 use Rattle.connect_registers.proofs.lower_present.Statement.{statement}
 use Rattle.connect_registers.proofs.lower_present.Tie as tie
-use Rattle.connect_registers.proofs.lower_present.Reads as reads
-use Rattle.connect_registers.proofs.lower_present.Lts as lts
-use Rattle.connect_registers.proofs.lower_expression.Reads as lower-expression-reads
-use Rattle.connect_registers.proofs.resolve_signal_bit.Reads as resolve-signal-bit-reads
 use native.Mathlib.Omega.{arith}
 use Rattle.model.specs.Lowering.{Whole, Bit, bitStep}
 use Rattle.walk_steps.specs.Answers.{not-done-tag}
 use Rattle.walk_steps.specs.Steps.{gives-one}
 use Rattle.connect_parts.specs.Steps.{gives-then, gives-out}
 
--- src/lib.rt:56:9
 lower-expression-requires : tie.Need-lower-expression-requires
 lower-expression-requires c κs = search needs
 
 enum-told : tie.Need-enum-told
 enum-told c = search needs
 
--- src/lib.rt:58:9
 same-length : tie.Need-same-length
 same-length c = search needs
 
--- src/lib.rt:58:9
 same-length-2 : tie.Need-same-length-2
 same-length-2 c = search needs
 
--- src/lib.rt:58:9
 returns : tie.Need-returns
 returns c =
     let a = c .before .before .before .before .before .before .before .before .before .before .before .args in
     let g = gives-one (a .image .now) (a .net .now) (a .scr .now) (Whole (a .x .value)) _ _ _ (c .before .before .before .before .before .before .before .before .before .before .before .pre .0) (c .before .before .before .before .before .before .before .before .before .before .before .pre .1) (c .before .before .before .before .before .before .before .before .before .before .before .pre .2 .1) (c .before .before .before .before .before .lower-expression .ensures) in
     gives-out (bitStep (a .x .control .signal)) g (not-done-tag (c .before .before .before .before .before .lower-expression .result) (c .match .keys2))
 
--- src/lib.rt:61:5
 resolve-signal-bit-requires : tie.Need-resolve-signal-bit-requires
 resolve-signal-bit-requires c κs =
     let a = c .before .before .before .before .before .before .before .before .before .before .before .before .before .before .before .args in
     let g = gives-one (a .image .now) (a .net .now) (a .scr .now) (Whole (a .x .value)) _ _ _ (c .before .before .before .before .before .before .before .before .before .before .before .before .before .before .before .pre .0) (c .before .before .before .before .before .before .before .before .before .before .before .before .before .before .before .pre .1) (c .before .before .before .before .before .before .before .before .before .before .before .before .before .before .before .pre .2 .1) (c .before .before .before .before .before .before .before .before .before .lower-expression .ensures) in
     (g .ready, g .sure (c .before .before .before .enum-told .given .1), c .before .before .before .before .before .before .before .before .before .before .before .before .before .before .before .pre .2 .0 .there, omega (arith, c .before .before .before .before .before .before .before .before .before .before .before .before .before .before .before .pre .2 .0 .one))
 
--- src/lib.rt:52:1
 same-length-3 : tie.Need-same-length-3
 same-length-3 c = search needs
 
--- src/lib.rt:52:1
 same-length-4 : tie.Need-same-length-4
 same-length-4 c = search needs
 
--- src/lib.rt:52:1
 returns-2 : tie.Need-returns-2
 returns-2 c =
     let a = c .before .before .before .before .before .before .before .before .before .before .before .before .before .before .before .before .before .before .before .before .args in

@@ -1,10 +1,7 @@
+-- `connect_registers::push_bit` meets its contract. Assumes nothing.
 use borrow.Author.Needs.{needs}
 use Rattle.connect_registers.proofs.push_bit.Statement.{statement}
 use Rattle.connect_registers.proofs.push_bit.Tie as tie
-use Rattle.connect_registers.proofs.push_bit.Reads as reads
-use Rattle.connect_registers.proofs.push_bit.Lts as lts
-use Rattle.connect_registers.proofs.push_register.Reads as push-register-reads
-use Rattle.connect_registers.proofs.push_reset.Reads as push-reset-reads
 use native.Mathlib.Omega.{arith}
 use mathlib.Core.Option.{Option}
 use mathlib.Core.Path.{ap, _∙_}
@@ -15,19 +12,15 @@ use Rattle.walk_view.specs.View.{walkState}
 use Rattle.connect_parts.specs.Ran.{ran-as}
 use Rattle.connect_registers.proofs.Laws.{absent-means, register-reset, reset-is, there-reset, wide-reset, whole-reset}
 
--- src/lib.rt:162:17
 enum-told : tie.Need-enum-told
 enum-told c = search needs
 
--- src/lib.rt:168:13
 push-register-requires : tie.Need-push-register-requires
 push-register-requires c κs = search needs
 
--- src/lib.rt:170:30
 enum-known-o : tie.Need-enum-known-o
 enum-known-o c = search needs
 
--- src/lib.rt:170:36
 push-reset-requires : tie.Need-push-reset-requires
 push-reset-requires c κs =
     let a = c .before .before .before .before .before .before .before .args in
@@ -35,22 +28,18 @@ push-reset-requires c κs =
     let q = c .before .before .o .given .1 in
     (c .before .before .before .before .before .before .before .pre .0, c .before .before .before .before .before .before .before .pre .1, c .before .before .before .before .before .before .before .pre .2, c .before .before .before .before .before .before .before .pre .3, c .before .before .before .before .before .before .before .pre .4, there-reset (a .x) y q (a .image .now) (c .before .before .before .before .before .before .before .pre .2), omega (arith, c .before .before .before .before .before .before .before .pre .4, wide-reset (a .x) y q (a .image .now) (c .before .before .before .before .before .before .before .pre .2)), whole-reset (a .x) y q (a .image .now) (a .scr .now) (c .before .before .before .before .before .before .before .pre .3))
 
--- src/lib.rt:155:1
 same-length : tie.Need-same-length
 same-length c = search needs
 
--- src/lib.rt:155:1
 returns : tie.Need-returns
 returns c =
     let a = c .before .before .before .before .before .before .before .before .before .args in
     ran-as (ap (λ (o : Option R.Reset). registerBit o (a .k) (registerMeans (a .x)) (a .b) (walkState (a .image .now) (a .net .now) (a .scr .now)))
     (register-reset (a .x) ∙ absent-means (a .x .reset) (c .before .before .before .before .enum-told .given .1))) (c .before .before .push-register .ensures)
 
--- src/lib.rt:155:1
 same-length-2 : tie.Need-same-length-2
 same-length-2 c = search needs
 
--- src/lib.rt:155:1
 returns-2 : tie.Need-returns-2
 returns-2 c =
     let a = c .before .before .before .before .before .before .before .before .before .before .args in

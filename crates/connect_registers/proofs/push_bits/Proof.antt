@@ -1,9 +1,6 @@
+-- `connect_registers::push_bits` meets its contract. Assumes nothing.
 use Rattle.connect_registers.proofs.push_bits.Statement.{statement}
 use Rattle.connect_registers.proofs.push_bits.Tie as tie
-use Rattle.connect_registers.proofs.push_bits.Reads as reads
-use Rattle.connect_registers.proofs.push_bits.Lts as lts
-use Rattle.connect_registers.proofs.push_bit.Reads as push-bit-reads
-use Rattle.fields.proofs.signal_width.Reads as signal-width-reads
 use borrow.Author.Needs.{needs}
 use mathlib.Core.Path.{ap, _∙_}
 use Prim.Native.Nat.{ℕ, _-_}
@@ -25,11 +22,9 @@ Inv-loop image net₀ scr k x n b₀ net b =
 abbrev μ-loop : tie.MeasureT-loop
 μ-loop image net₀ scr k x n b₀ net b = n - b
 
--- src/lib.rt:178:9
 signal-width-requires : tie.Need-signal-width-requires Inv-loop μ-loop
 signal-width-requires c κs = search needs
 
--- src/lib.rt:180:5
 loop-holds : tie.Need-loop-holds Inv-loop μ-loop
 loop-holds c =
     let a = c .before .before .before .before .args in
@@ -38,7 +33,6 @@ loop-holds c =
     turns-start _ (registerBit (r .reset) (a .k) r) (a .image .now) (a .net .now) (a .scr .now) (signalWidth (a .image .now) (r .target))
     (bits-turns (a .k) r 0 _ st ∙ ap (λ (j : ℕ). turns (registerBit (r .reset) (a .k) r) 0 j st) (signal-width (a .image .now) (r .target) (c .before .before .before .before .pre .2 .target))) (c .before .before .before .before .pre .0) (c .before .before .before .before .pre .1)
 
--- src/lib.rt:181:13
 push-bit-requires : tie.Need-push-bit-requires Inv-loop μ-loop
 unfolding registerMeans
 push-bit-requires c κs =
@@ -48,11 +42,9 @@ push-bit-requires c κs =
 enum-told : tie.Need-enum-told Inv-loop μ-loop
 enum-told c = search needs
 
--- src/lib.rt:183:13
 same-length : tie.Need-same-length Inv-loop μ-loop
 same-length c = search needs
 
--- src/lib.rt:183:13
 returns : tie.Need-returns Inv-loop μ-loop
 unfolding registerMeans
 returns c =
@@ -63,15 +55,12 @@ returns c =
     turns-out _ (registerBit (r .reset) (a .k) r) (a .image .now) (a .net .now) (a .scr .now) (signalWidth (a .image .now) (r .target)) (q .b) (q .net) (a .scr .now) _ _ (q .inv) (g .result)
     (omega (arith, c .before .before .before .before .before .loop-test .taken, c .before .before .before .before .before .before .before .signal-width .ensures)) (g .ensures) (not-done-tag (g .result) (c .match .keys2))
 
--- src/lib.rt:185:9
 add-b : tie.Need-add-b Inv-loop μ-loop
 add-b c = search needs
 
--- src/lib.rt:180:5
 loop-less : tie.Need-loop-less Inv-loop μ-loop
 loop-less c = search needs
 
--- src/lib.rt:180:5
 loop-again : tie.Need-loop-again Inv-loop μ-loop
 unfolding registerMeans
 loop-again c =
@@ -82,11 +71,9 @@ loop-again c =
     turns-more _ (registerBit (r .reset) (a .k) r) (a .image .now) (a .net .now) (a .scr .now) (signalWidth (a .image .now) (r .target)) (q .b) (q .net) (a .scr .now) _ _ (q .inv) (g .result)
     (omega (arith, c .before .before .before .before .before .before .loop-test .taken, c .before .before .before .before .before .before .before .before .signal-width .ensures)) (g .ensures) (c .enum-told .given .1)
 
--- src/lib.rt:174:1
 same-length-2 : tie.Need-same-length-2 Inv-loop μ-loop
 same-length-2 c = search needs
 
--- src/lib.rt:174:1
 returns-2 : tie.Need-returns-2 Inv-loop μ-loop
 unfolding registerMeans
 returns-2 c =

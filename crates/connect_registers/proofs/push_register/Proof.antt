@@ -1,13 +1,7 @@
+-- `connect_registers::push_register` meets its contract. Assumes nothing.
 use borrow.Author.Needs.{needs}
 use Rattle.connect_registers.proofs.push_register.Statement.{statement}
 use Rattle.connect_registers.proofs.push_register.Tie as tie
-use Rattle.connect_registers.proofs.push_register.Reads as reads
-use Rattle.connect_registers.proofs.push_register.Lts as lts
-use Rattle.connect_parts.proofs.bit_net.Reads as bit-net-reads
-use Rattle.connect_parts.proofs.control_words.Reads as control-words-reads
-use Rattle.connect_parts.proofs.low_word.Reads as low-word-reads
-use Rattle.connect_parts.proofs.push.Reads as push-reads
-use Rattle.tables.proofs.expr_net.Reads as expr-net-reads
 use native.Mathlib.Omega.{arith}
 use mathlib.Core.Path.{sym, ap}
 use mathlib.Core.List.{List}
@@ -22,43 +16,34 @@ use Rattle.connect_parts.specs.Ran.{ran-as}
 use Rattle.connect_registers.specs.Registers.{fourWords}
 use Rattle.connect_registers.proofs.Laws.{bit-words}
 
--- src/lib.rt:124:9
 bit-net-requires : tie.Need-bit-net-requires
 unfolding registerMeans
 bit-net-requires c κs = (c .before .before .before .pre .0 .laid, c .before .before .before .pre .2 .target, c .before .before .before .pre .4)
 
--- src/lib.rt:125:9
 expr-net-requires : tie.Need-expr-net-requires
 unfolding registerMeans
 expr-net-requires c κs = (c .before .before .before .before .pre .0 .laid, c .before .before .before .before .pre .2 .next .there, omega (arith, c .before .before .before .before .pre .4, c .before .before .before .before .pre .2 .next .width))
 
--- src/lib.rt:126:9
 bit-net-requires-2 : tie.Need-bit-net-requires-2
 unfolding registerMeans
 bit-net-requires-2 c κs = (c .before .before .before .before .before .pre .0 .laid, c .before .before .before .before .before .pre .2 .clock .there, omega (arith, c .before .before .before .before .before .pre .2 .clock .one))
 
--- src/lib.rt:127:9
 low-word-requires : tie.Need-low-word-requires
 low-word-requires c κs = search needs
 
--- src/lib.rt:129:9
 control-words-requires : tie.Need-control-words-requires
 unfolding registerMeans
 control-words-requires c κs = (c .before .before .before .before .before .before .before .pre .0 .laid, c .before .before .before .before .before .before .before .pre .2 .enable)
 
--- src/lib.rt:133:42
 slice-aggregate-push : tie.Need-slice-aggregate-push
 slice-aggregate-push c = search needs
 
--- src/lib.rt:133:5
 push-requires : tie.Need-push-requires
 push-requires c κs = (c .before .before .before .before .before .before .before .before .before .before .pre .0, c .before .before .before .before .before .before .before .before .before .before .pre .1, formed-register _ (omega arith), omega arith, omega arith)
 
--- src/lib.rt:120:1
 same-length : tie.Need-same-length
 same-length c = search needs
 
--- src/lib.rt:120:1
 returns : tie.Need-returns
 unfolding registerMeans
 returns c =

@@ -1,12 +1,7 @@
+-- `connect_registers::push_reset` meets its contract. Assumes nothing.
 use borrow.Author.Needs.{needs}
 use Rattle.connect_registers.proofs.push_reset.Statement.{statement}
 use Rattle.connect_registers.proofs.push_reset.Tie as tie
-use Rattle.connect_registers.proofs.push_reset.Reads as reads
-use Rattle.connect_registers.proofs.push_reset.Lts as lts
-use Rattle.connect_registers.proofs.push_register.Reads as push-register-reads
-use Rattle.connect_registers.proofs.reset_words.Reads as reset-words-reads
-use Rattle.nodes.proofs.constant_value.Reads as constant-value-reads
-use Rattle.tables.proofs.expr_net.Reads as expr-net-reads
 use mathlib.Core.Bool.{true, false}
 use Rattle.netlist_view.specs.View.{netlistOf}
 use Rattle.table_view.specs.View.{limitOf}
@@ -17,47 +12,36 @@ use Rattle.connect_parts.specs.Ran.{ran-as, ran-refused}
 use Rattle.connect_registers.specs.Registers.{resetOf}
 use Rattle.connect_registers.proofs.Laws.{bit-other, bit-constant}
 
--- src/lib.rt:141:9
 expr-net-requires : tie.Need-expr-net-requires
 expr-net-requires c κs = search needs
 
--- src/lib.rt:142:11
 constant-value-requires : tie.Need-constant-value-requires
 constant-value-requires c κs = search needs
 
--- src/lib.rt:144:17
 enum-told : tie.Need-enum-told
 enum-told c = search needs
 
--- src/lib.rt:144:17
 reset-words-requires : tie.Need-reset-words-requires
 reset-words-requires c κs = search needs
 
--- src/lib.rt:145:13
 push-register-requires : tie.Need-push-register-requires
 push-register-requires c κs = search needs
 
--- src/lib.rt:148:17
 enum-told-2 : tie.Need-enum-told-2
 enum-told-2 c = search needs
 
--- src/lib.rt:148:17
 reset-words-requires-2 : tie.Need-reset-words-requires-2
 reset-words-requires-2 c κs = search needs
 
--- src/lib.rt:149:13
 push-register-requires-2 : tie.Need-push-register-requires-2
 push-register-requires-2 c κs = search needs
 
--- src/lib.rt:151:28
 enum-told-3 : tie.Need-enum-told-3
 enum-told-3 c = search needs
 
--- src/lib.rt:137:1
 same-length : tie.Need-same-length
 same-length c = search needs
 
--- src/lib.rt:137:1
 returns : tie.Need-returns
 returns c =
     let a = c .before .before .before .before .before .before .before .before .before .before .before .before .before .args in
@@ -66,11 +50,9 @@ returns c =
     let l = netlistOf n (a .net .now) in
     ran-as (bit-constant (a .k) (a .b) (registerMeans (a .x)) st (resetOf (a .y)) _ (c .before .before .before .before .before .before .before .before .before .expr-net .ensures .whole l (c .before .before .before .before .before .before .before .before .before .before .before .before .before .pre .7)) false _ (rw (c .before .before .before .before .before .enum-told .given .1) at (c .before .before .before .before .before .before .before .constant-value .ensures n)) (c .before .before .before .before .reset-words .ensures l)) (c .before .before .push-register .ensures)
 
--- src/lib.rt:137:1
 same-length-2 : tie.Need-same-length-2
 same-length-2 c = search needs
 
--- src/lib.rt:137:1
 returns-2 : tie.Need-returns-2
 returns-2 c =
     let a = c .before .before .before .before .before .before .before .before .before .before .before .before .before .args in
@@ -79,11 +61,9 @@ returns-2 c =
     let l = netlistOf n (a .net .now) in
     ran-as (bit-constant (a .k) (a .b) (registerMeans (a .x)) st (resetOf (a .y)) _ (c .before .before .before .before .before .before .before .before .before .expr-net .ensures .whole l (c .before .before .before .before .before .before .before .before .before .before .before .before .before .pre .7)) true _ (rw (c .before .before .before .before .before .enum-told2 .given .1) at (c .before .before .before .before .before .before .before .constant-value .ensures n)) (c .before .before .before .before .reset-words2 .ensures l)) (c .before .before .push-register2 .ensures)
 
--- src/lib.rt:137:1
 same-length-3 : tie.Need-same-length-3
 same-length-3 c = search needs
 
--- src/lib.rt:137:1
 returns-3 : tie.Need-returns-3
 returns-3 c =
     let a = c .before .before .before .before .before .before .before .before .args in

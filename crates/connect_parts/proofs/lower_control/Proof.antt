@@ -1,45 +1,36 @@
+-- `connect_parts::lower_control` meets its contract. Assumes nothing.
 use borrow.Author.Needs.{needs}
-use Rattle.connect_registers.proofs.lower_control.Statement.{statement}
-use Rattle.connect_registers.proofs.lower_control.Tie as tie
-use Rattle.connect_registers.proofs.lower_control.Reads as reads
-use Rattle.connect_registers.proofs.lower_control.Lts as lts
-use Rattle.connect_registers.proofs.resolve_signal_bit.Reads as resolve-signal-bit-reads
+use Rattle.connect_parts.proofs.lower_control.Statement.{statement}
+use Rattle.connect_parts.proofs.lower_control.Tie as tie
 use native.Mathlib.Omega.{arith}
 use Rattle.model.specs.Lowering.{Bit}
 use Rattle.walk_steps.specs.Steps.{gives-one}
 use Rattle.connect_parts.specs.Steps.{gives-none}
 use Rattle.connect_parts.specs.Parts.{there-present, steps-absent, steps-present}
 
--- src/lib.rt:44:27
 enum-told : tie.Need-enum-told
 enum-told c = search needs
 
--- src/lib.rt:45:25
 enum-known-e : tie.Need-enum-known-e
 enum-known-e c = search needs
 
--- src/lib.rt:45:31
 resolve-signal-bit-requires : tie.Need-resolve-signal-bit-requires
 resolve-signal-bit-requires c κs =
     let a = c .before .before .before .before .before .before .before .before .args in
     let h = there-present (a .e) (a .image .now) (c .before .before .before .e .given .0 .0) (c .before .before .before .e .given .1) (c .before .before .before .before .before .before .before .before .pre .2) in
     (c .before .before .before .before .before .before .before .before .pre .0, c .before .before .before .before .before .before .before .before .pre .1, h .there, omega (arith, h .one))
 
--- src/lib.rt:39:1
 returns : tie.Need-returns
 returns c =
     let a = c .before .before .before .before .before .args in
     rw (steps-absent (a .e) (c .enum-told .given .1)) (gives-none (a .image .now) (a .net .now) (a .scr .now) (c .before .before .before .before .before .pre .0) (c .before .before .before .before .before .pre .1))
 
--- src/lib.rt:39:1
 same-length : tie.Need-same-length
 same-length c = search needs
 
--- src/lib.rt:39:1
 same-length-2 : tie.Need-same-length-2
 same-length-2 c = search needs
 
--- src/lib.rt:39:1
 returns-2 : tie.Need-returns-2
 returns-2 c =
     let a = c .before .before .before .before .before .before .before .before .before .before .before .before .before .args in
