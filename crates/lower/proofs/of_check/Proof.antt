@@ -1,61 +1,48 @@
+-- `lower::of_check` meets its contract. Assumes nothing.
 use borrow.Author.Needs.{needs}
 use Rattle.lower.proofs.of_check.Statement.{statement}
 use Rattle.lower.proofs.of_check.Tie as tie
-use Rattle.lower.proofs.of_check.Reads as reads
-use Rattle.lower.proofs.of_check.Lts as lts
 use Rattle.lower.specs.Lower.{answerOf}
 use Rattle.checks.specs.Checked as checked
 
--- src/lib.rt:130:26
 enum-told : tie.Need-enum-told
 enum-told c = search needs
 
--- src/lib.rt:131:28
 enum-told-2 : tie.Need-enum-told-2
 enum-told-2 c = search needs
 
--- src/lib.rt:132:34
 enum-told-3 : tie.Need-enum-told-3
 enum-told-3 c = search needs
 
--- src/lib.rt:133:24
 enum-known-c : tie.Need-enum-known-c
 enum-known-c c = search needs
 
--- src/lib.rt:134:25
 enum-known-c-2 : tie.Need-enum-known-c-2
 enum-known-c-2 c = search needs
 
--- src/lib.rt:135:34
 enum-told-4 : tie.Need-enum-told-4
 enum-told-4 c = search needs
 
--- src/lib.rt:126:1
 returns : tie.Need-returns
 unfolding answerOf checked.answerOf
 returns c = rw (c .enum-told .given .1)
 
--- src/lib.rt:126:1
 returns-2 : tie.Need-returns-2
 unfolding answerOf checked.answerOf
 returns-2 c = rw (c .enum-told2 .given .1)
 
--- src/lib.rt:126:1
 returns-3 : tie.Need-returns-3
 unfolding answerOf checked.answerOf
 returns-3 c = rw (c .enum-told3 .given .1)
 
--- src/lib.rt:126:1
 returns-4 : tie.Need-returns-4
 unfolding answerOf checked.answerOf
 returns-4 c = rw (c .before .c .given .1)
 
--- src/lib.rt:126:1
 returns-5 : tie.Need-returns-5
 unfolding answerOf checked.answerOf
 returns-5 c = rw (c .before .c2 .given .1)
 
--- src/lib.rt:126:1
 returns-6 : tie.Need-returns-6
 unfolding answerOf checked.answerOf
 returns-6 c = rw (c .enum-told4 .given .1)

@@ -1,38 +1,28 @@
+-- `lower::phases` meets its contract. Assumes nothing.
 use borrow.Author.Needs.{needs}
 use Rattle.lower.proofs.phases.Statement.{statement}
 use Rattle.lower.proofs.phases.Tie as tie
-use Rattle.lower.proofs.phases.Reads as reads
-use Rattle.lower.proofs.phases.Lts as lts
-use Rattle.lower.proofs.connect_memories.Reads as connect-memories-reads
-use Rattle.lower.proofs.connect_outputs.Reads as connect-outputs-reads
-use Rattle.lower.proofs.connect_registers.Reads as connect-registers-reads
-use Rattle.lower.proofs.reserve_sources.Reads as reserve-sources-reads
 use mathlib.Core.Path.{_∙_}
 use Rattle.lower.proofs.Stages.{not-done, done-phase, sure-1, sure-2, sure-3, refused-1, refused-2, refused-3, ended}
 
--- src/lib.rt:78:9
 reserve-sources-requires : tie.Need-reserve-sources-requires
 reserve-sources-requires c κs = search needs
 
 enum-told : tie.Need-enum-told
 enum-told c = search needs
 
--- src/lib.rt:80:9
 same-length : tie.Need-same-length
 same-length c = search needs
 
--- src/lib.rt:80:9
 same-length-2 : tie.Need-same-length-2
 same-length-2 c = search needs
 
--- src/lib.rt:80:9
 returns : tie.Need-returns
 returns c =
     let a = c .before .before .before .before .before .before .before .before .before .before .before .args in
     let x = c .before .before .before .before .before .reserve-sources in
     refused-1 (a .image .now) (a .net .now) (a .scr .now) (c .before .before .before .before .before .before .before .before .before .before .before .pre) (x .result) _ _ (not-done (x .result) (c .match .keys2)) (x .ensures)
 
--- src/lib.rt:82:9
 connect-memories-requires : tie.Need-connect-memories-requires
 connect-memories-requires c κs =
     let a = c .before .before .before .before .before .before .before .before .before .before .before .before .before .before .args in
@@ -42,15 +32,12 @@ connect-memories-requires c κs =
 enum-told-2 : tie.Need-enum-told-2
 enum-told-2 c = search needs
 
--- src/lib.rt:84:9
 same-length-3 : tie.Need-same-length-3
 same-length-3 c = search needs
 
--- src/lib.rt:84:9
 same-length-4 : tie.Need-same-length-4
 same-length-4 c = search needs
 
--- src/lib.rt:84:9
 returns-2 : tie.Need-returns-2
 returns-2 c =
     let a = c .before .before .before .before .before .before .before .before .before .before .before .before .before .before .before .before .before .before .before .before .args in
@@ -59,7 +46,6 @@ returns-2 c =
     refused-2 (a .image .now) (a .net .now) (a .scr .now) (c .before .before .before .before .before .before .before .before .before .before .before .before .before .before .before .before .before .before .before .before .pre) _ _ (done-phase (x .result) (c .before .before .before .before .before .before .before .before .enum-told .given .1) (x .ensures))
     (y .result) _ _ (not-done (y .result) (c .match2 .keys2)) (y .ensures)
 
--- src/lib.rt:86:9
 connect-registers-requires : tie.Need-connect-registers-requires
 connect-registers-requires c κs =
     let a = c .before .before .before .before .before .before .before .before .before .before .before .before .before .before .before .before .before .before .before .before .before .before .before .args in
@@ -71,15 +57,12 @@ connect-registers-requires c κs =
 enum-told-3 : tie.Need-enum-told-3
 enum-told-3 c = search needs
 
--- src/lib.rt:88:9
 same-length-5 : tie.Need-same-length-5
 same-length-5 c = search needs
 
--- src/lib.rt:88:9
 same-length-6 : tie.Need-same-length-6
 same-length-6 c = search needs
 
--- src/lib.rt:88:9
 returns-3 : tie.Need-returns-3
 returns-3 c =
     let a = c .before .before .before .before .before .before .before .before .before .before .before .before .before .before .before .before .before .before .before .before .before .before .before .before .before .before .before .before .before .args in
@@ -89,7 +72,6 @@ returns-3 c =
     refused-3 (a .image .now) (a .net .now) (a .scr .now) (c .before .before .before .before .before .before .before .before .before .before .before .before .before .before .before .before .before .before .before .before .before .before .before .before .before .before .before .before .before .pre) _ _ (done-phase (x .result) (c .before .before .before .before .before .before .before .before .before .before .before .before .before .before .before .before .before .enum-told .given .1) (x .ensures))
     _ _ (done-phase (y .result) (c .before .before .before .before .before .before .before .before .enum-told2 .given .1) (y .ensures)) (z .result) _ _ (not-done (z .result) (c .match3 .keys2)) (z .ensures)
 
--- src/lib.rt:90:5
 connect-outputs-requires : tie.Need-connect-outputs-requires
 connect-outputs-requires c κs =
     let a = c .before .before .before .before .before .before .before .before .before .before .before .before .before .before .before .before .before .before .before .before .before .before .before .before .before .before .before .before .before .before .before .before .args in
@@ -99,17 +81,14 @@ connect-outputs-requires c κs =
     (z .ensures .ready, sure-3 (a .image .now) (a .net .now) (a .scr .now) (c .before .before .before .before .before .before .before .before .before .before .before .before .before .before .before .before .before .before .before .before .before .before .before .before .before .before .before .before .before .before .before .before .pre) _ _ (done-phase (x .result) (c .before .before .before .before .before .before .before .before .before .before .before .before .before .before .before .before .before .before .before .before .enum-told .given .1) (x .ensures))
     _ _ (done-phase (y .result) (c .before .before .before .before .before .before .before .before .before .before .before .enum-told2 .given .1) (y .ensures)) _ _ (done-phase (z .result) (c .before .before .enum-told3 .given .1) (z .ensures)))
 
--- src/lib.rt:74:1
 same-length-7 : tie.Need-same-length-7
 same-length-7 c =
     c .before .before .before .before .connect-outputs .ensures .kept .netLong ∙ c .before .before .before .before .before .before .before .before .before .before .before .before .before .connect-registers .ensures .kept .netLong ∙ c .before .before .before .before .before .before .before .before .before .before .before .before .before .before .before .before .before .before .before .before .before .before .connect-memories .ensures .kept .netLong ∙ c .before .before .before .before .before .before .before .before .before .before .before .before .before .before .before .before .before .before .before .before .before .before .before .before .before .before .before .before .before .before .before .reserve-sources .ensures .kept .netLong
 
--- src/lib.rt:74:1
 same-length-8 : tie.Need-same-length-8
 same-length-8 c =
     c .before .before .before .before .connect-outputs .ensures .kept .long ∙ c .before .before .before .before .before .before .before .before .before .before .before .before .before .connect-registers .ensures .kept .long ∙ c .before .before .before .before .before .before .before .before .before .before .before .before .before .before .before .before .before .before .before .before .before .before .connect-memories .ensures .kept .long ∙ c .before .before .before .before .before .before .before .before .before .before .before .before .before .before .before .before .before .before .before .before .before .before .before .before .before .before .before .before .before .before .before .reserve-sources .ensures .kept .long
 
--- src/lib.rt:74:1
 returns-4 : tie.Need-returns-4
 returns-4 c =
     let a = c .before .before .before .before .before .before .before .before .before .before .before .before .before .before .before .before .before .before .before .before .before .before .before .before .before .before .before .before .before .before .before .before .before .before .before .before .before .args in

@@ -1,65 +1,48 @@
+-- `lower::prepare` meets its contract. Assumes nothing.
 use borrow.Author.Needs.{needs}
 use Rattle.lower.proofs.prepare.Statement.{statement}
 use Rattle.lower.proofs.prepare.Tie as tie
-use Rattle.lower.proofs.prepare.Reads as reads
-use Rattle.lower.proofs.prepare.Lts as lts
-use Rattle.layout.proofs.lay.Reads as lay-reads
-use Rattle.nodes.proofs.start.Reads as start-reads
-use Rattle.ranges.proofs.adder_widths.Reads as adder-widths-reads
-use native.Mathlib.Omega.{arith}
 use mathlib.Core.Path.{refl}
 use Rattle.accepted.specs.Sized.{sized}
 use Rattle.accepted.specs.Formed.{readable}
 use Rattle.lower.proofs.Start.{rows-fit, prepared}
 
--- src/lib.rt:67:5
 lay-requires : tie.Need-lay-requires
 lay-requires c κs = let p = c .before .before .before .before .pre in (sized (c .before .before .before .before .args .image .now) (p .accepted), p .nets, p .long)
 
--- src/lib.rt:68:14
 slice-read-at : tie.Need-slice-read-at
 slice-read-at c = search needs
 
--- src/lib.rt:68:14
 cast-at : tie.Need-cast-at
 cast-at c = search needs
 
--- src/lib.rt:69:33
 mul-adder-widths : tie.Need-mul-adder-widths
 mul-adder-widths c = search needs
 
--- src/lib.rt:69:33
 sub-adder-widths : tie.Need-sub-adder-widths
 sub-adder-widths c = search needs
 
--- src/lib.rt:69:33
 part-adder-widths-start : tie.Need-part-adder-widths-start
 part-adder-widths-start c = search needs
 
--- src/lib.rt:69:33
 part-adder-widths-end : tie.Need-part-adder-widths-end
 part-adder-widths-end c = search needs
 
--- src/lib.rt:69:5
 adder-widths-requires : tie.Need-adder-widths-requires
 adder-widths-requires c κs =
     let a = c .before .before .before .before .before .before .before .before .before .args in
     let l = c .before .before .before .before .lay in
     (readable (a .image .now) (c .before .before .before .before .before .before .before .before .before .pre .accepted), rows-fit (a .image .now) (a .n) (l .last .1 .1 .1 .0) (l .ensures) _ refl)
 
--- src/lib.rt:70:5
 start-requires : tie.Need-start-requires
 start-requires c κs = search needs
 
--- src/lib.rt:63:1
 same-length : tie.Need-same-length
 same-length c = search needs
 
--- src/lib.rt:63:1
 same-length-2 : tie.Need-same-length-2
 same-length-2 c = search needs
 
--- src/lib.rt:63:1
 returns : tie.Need-returns
 returns c =
     let a = c .before .before .before .before .before .before .before .before .before .before .before .before .before .before .before .before .args in

@@ -1,9 +1,7 @@
+-- `lower::reserve_sources` meets its contract. Assumes nothing.
 use Rattle.lower.proofs.reserve_sources.Statement.{statement}
 use Rattle.lower.proofs.reserve_sources.Tie as tie
-use Rattle.lower.proofs.reserve_sources.Reads as reads
-use Rattle.lower.proofs.reserve_sources.Lts as lts
 
--- src/lib.rt:34:1
 returns : tie.Need-returns
 returns c = ?
 
