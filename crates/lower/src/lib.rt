@@ -31,13 +31,6 @@ pub enum Outcome {
     ListFull,
 }
 
-fn reserve_sources(image: &[u8], net: &mut [u32], scr: &mut [u32]) -> Lowered
-    requires { ⌜ Ready (now image) (now net) (now scr) ⌝ }
-    ensures { λ r. ⌜ Phase (model.reserveSources (decode (now (image .entry))) (walkState (now (image .entry)) (now (net .entry)) (now (scr .entry)))) (now (image .entry)) (now (net .entry)) (now (scr .entry)) r (now (net .exit)) (now (scr .exit)) ⌝ }
-{
-    Lowered::ListFull
-}
-
 fn connect_memories(image: &[u8], net: &mut [u32], scr: &mut [u32]) -> Lowered
     requires { ⌜ (Ready (now image) (now net) (now scr)) × (Sure (now image) (now net) (now scr)) ⌝ }
     ensures { λ r. ⌜ Phase (model.connectMemories (decode (now (image .entry))) false 0 (decode (now (image .entry)) .memories) (walkState (now (image .entry)) (now (net .entry)) (now (scr .entry)))) (now (image .entry)) (now (net .entry)) (now (scr .entry)) r (now (net .exit)) (now (scr .exit)) ⌝ }
@@ -75,7 +68,7 @@ fn phases(image: &[u8], net: &mut [u32], scr: &mut [u32]) -> Lowered
     requires { ⌜ Begun (now image) (now net) (now scr) ⌝ }
     ensures { λ r. ⌜ Phase (model.lowerState false (decode (now (image .entry))) (limitOf (now (scr .entry))) (room (limitOf (now (scr .entry))) (now (net .entry)))) (now (image .entry)) (now (net .entry)) (now (scr .entry)) r (now (net .exit)) (now (scr .exit)) ⌝ }
 {
-    let a = reserve_sources(image, net, scr);
+    let a = sources::reserve_sources(image, net, scr);
     let Lowered::Done = a else {
         return a;
     };
