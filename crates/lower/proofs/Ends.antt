@@ -108,9 +108,9 @@ not-fine (C.Field f) k e = let z : _≡_ {A = ℕ} 0 1 = cc in omega arith
 not-fine (C.Record i r) k e = let z : _≡_ {A = ℕ} 0 1 = cc in omega arith
 not-fine C.ScratchShort k e = let z : _≡_ {A = ℕ} 0 1 = cc in omega arith
 
-pub is-fine : (c : Checked) → c ≡ C.Fine → checks.answerOf c ≡ Fine
+pub passed : {c : Checked} {a : Answer} → checks.answerOf c ≡ a → c ≡ C.Fine → a ≡ Fine
 unfolding checks.answerOf
-is-fine c e = rw e
+passed {c} {a} e f = sym e ∙ rw f
 
 module _ (s : List ℕ) (N P : ℕ) (buffer scratch : List ℕ) where
   -- refused by the checks: no word is touched
@@ -124,19 +124,22 @@ module _ (s : List ℕ) (N P : ℕ) (buffer scratch : List ℕ) where
     pub good : Accepted s
     good = accepted s N P (length buffer) (length scratch) fine .0
 
-    pub space : Room s N P (length buffer) (length scratch)
+    space : Room s N P (length buffer) (length scratch)
     space = accepted s N P (length buffer) (length scratch) fine .1
 
     pub netlist-fits : 16 + 6 * N + P ≤ length buffer
     unfolding netlistNeed
     netlist-fits = space .netlist-room
 
+    pub scratch-fits : (n : ℕ) → n ≡ scratchNeed s N → n ≤ length scratch
+    scratch-fits n e = omega (arith, space .scratch-room)
+
     -- what is lent
     pub lent : (k n : ℕ) → k ≡ 16 + 6 * N + P → n ≡ scratchNeed s N → Lent s N (take k buffer) (take n scratch)
     unfolding netlistNeed
     lent k n e f =
-        let a : length (take k buffer) ≡ k = length-take-le k buffer (omega (arith, space .netlist-room)) in
-        let b : length (take n scratch) ≡ n = length-take-le n scratch (omega (arith, space .scratch-room)) in
+        let a : length (take k buffer) ≡ k = length-take-le k buffer (omega (arith, netlist-fits)) in
+        let b : length (take n scratch) ≡ n = length-take-le n scratch (scratch-fits n f) in
         record {
           accepted = good;
           some = space .some-net;
@@ -149,7 +152,7 @@ module _ (s : List ℕ) (N P : ℕ) (buffer scratch : List ℕ) where
     pub room-is : (k : ℕ) → k ≡ 16 + 6 * N + P → room N (take k buffer) ≡ P
     unfolding netlistNeed
     room-is k e =
-        let a : length (take k buffer) ≡ k = length-take-le k buffer (omega (arith, space .netlist-room)) in
+        let a : length (take k buffer) ≡ k = length-take-le k buffer (omega (arith, netlist-fits)) in
         omega arith
 
     walk-left : (o : Out Netlist) → left Fine (outcome o) (netlistNeed N P) (imageOf N P o) buffer ≡ wordsAfter N P o ++ drop (netlistNeed N P) buffer

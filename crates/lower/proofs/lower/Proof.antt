@@ -2,10 +2,9 @@
 use borrow.Author.Needs.{needs}
 use Rattle.lower.proofs.lower.Statement.{statement}
 use Rattle.lower.proofs.lower.Tie as tie
-use mathlib.Core.Path.{refl, sym, _∙_}
+use mathlib.Core.Path.{refl, sym}
 use lib.Seq.{length-take-le}
-use native.Mathlib.Omega.{arith}
-use Rattle.lower.proofs.Ends.{not-fine, is-fine, refused-way, good, space, netlist-fits, lent, room-is, lowered-way}
+use Rattle.lower.proofs.Ends.{not-fine, passed, refused-way, good, netlist-fits, scratch-fits, lent, room-is, lowered-way}
 
 check-requires : tie.Need-check-requires
 check-requires c κs = search needs
@@ -35,39 +34,37 @@ scratch-need-requires : tie.Need-scratch-need-requires
 scratch-need-requires c κs =
     let a = c .before .before .before .before .before .before .args in
     let x = c .before .before .check in
-    good (a .image .now) (a .n) (a .p) (a .netlist .now) (a .scratch .now) (sym (x .ensures) ∙ is-fine (x .result) (c .enum-told .given .1))
+    good (a .image .now) (a .n) (a .p) (a .netlist .now) (a .scratch .now) (passed (x .ensures) (c .enum-told .given .1))
 
 slice-relend-prefix-lower-accepted : tie.Need-slice-relend-prefix-lower-accepted
 slice-relend-prefix-lower-accepted c =
     let a = c .before .before .before .before .before .before .before .args in
     let x = c .before .before .before .check in
-    netlist-fits (a .image .now) (a .n) (a .p) (a .netlist .now) (a .scratch .now) (sym (x .ensures) ∙ is-fine (x .result) (c .before .enum-told .given .1))
+    netlist-fits (a .image .now) (a .n) (a .p) (a .netlist .now) (a .scratch .now) (passed (x .ensures) (c .before .enum-told .given .1))
 
 slice-aggregate-lower-accepted : tie.Need-slice-aggregate-lower-accepted
 slice-aggregate-lower-accepted c =
     let a = c .before .before .before .before .before .before .before .before .args in
     let x = c .before .before .before .before .check in
-    sym (length-take-le _ (a .netlist .now) (netlist-fits (a .image .now) (a .n) (a .p) (a .netlist .now) (a .scratch .now) (sym (x .ensures) ∙ is-fine (x .result) (c .before .before .enum-told .given .1))))
+    sym (length-take-le _ (a .netlist .now) (netlist-fits (a .image .now) (a .n) (a .p) (a .netlist .now) (a .scratch .now) (passed (x .ensures) (c .before .before .enum-told .given .1))))
 
 slice-relend-prefix-lower-accepted-2 : tie.Need-slice-relend-prefix-lower-accepted-2
 slice-relend-prefix-lower-accepted-2 c =
     let a = c .before .before .before .before .before .before .before .before .args in
     let x = c .before .before .before .before .check in
-    let r = space (a .image .now) (a .n) (a .p) (a .netlist .now) (a .scratch .now) (sym (x .ensures) ∙ is-fine (x .result) (c .before .before .enum-told .given .1)) in
-    omega (arith, r .scratch-room, c .before .scratch-need .ensures)
+    scratch-fits (a .image .now) (a .n) (a .p) (a .netlist .now) (a .scratch .now) (passed (x .ensures) (c .before .before .enum-told .given .1)) _ (c .before .scratch-need .ensures)
 
 slice-aggregate-lower-accepted-2 : tie.Need-slice-aggregate-lower-accepted-2
 slice-aggregate-lower-accepted-2 c =
     let a = c .before .before .before .before .before .before .before .before .before .args in
     let x = c .before .before .before .before .before .check in
-    let r = space (a .image .now) (a .n) (a .p) (a .netlist .now) (a .scratch .now) (sym (x .ensures) ∙ is-fine (x .result) (c .before .before .before .enum-told .given .1)) in
-    sym (length-take-le _ (a .scratch .now) (omega (arith, r .scratch-room, c .before .before .scratch-need .ensures)))
+    sym (length-take-le _ (a .scratch .now) (scratch-fits (a .image .now) (a .n) (a .p) (a .netlist .now) (a .scratch .now) (passed (x .ensures) (c .before .before .before .enum-told .given .1)) _ (c .before .before .scratch-need .ensures)))
 
 lower-accepted-requires : tie.Need-lower-accepted-requires
 lower-accepted-requires c κs =
     let a = c .before .before .before .before .before .before .before .before .before .args in
     let x = c .before .before .before .before .before .check in
-    lent (a .image .now) (a .n) (a .p) (a .netlist .now) (a .scratch .now) (sym (x .ensures) ∙ is-fine (x .result) (c .before .before .before .enum-told .given .1)) _ _ refl (c .before .before .scratch-need .ensures)
+    lent (a .image .now) (a .n) (a .p) (a .netlist .now) (a .scratch .now) (passed (x .ensures) (c .before .before .before .enum-told .given .1)) _ _ refl (c .before .before .scratch-need .ensures)
 
 of-walk-requires : tie.Need-of-walk-requires
 of-walk-requires c κs = search needs
@@ -83,7 +80,7 @@ returns-2 c =
     let a = c .before .before .before .before .before .before .before .before .before .before .before .before .before .before .before .args in
     let x = c .before .before .before .before .before .before .before .before .before .before .before .check in
     let y = c .before .before .before .before .before .lower-accepted in
-    let f = sym (x .ensures) ∙ is-fine (x .result) (c .before .before .before .before .before .before .before .before .before .enum-told .given .1) in
+    let f = passed (x .ensures) (c .before .before .before .before .before .before .before .before .before .enum-told .given .1) in
     lowered-way (a .image .now) (a .n) (a .p) (a .netlist .now) (a .scratch .now) f _ _ _ (y .result) _ (y .last .1 .1 .0) (y .last .1 .1 .1 .0) refl (c .before .before .before .before .before .before .before .before .scratch-need .ensures)
     (room-is (a .image .now) (a .n) (a .p) (a .netlist .now) (a .scratch .now) f _ refl) (y .ensures) (c .of-walk .ensures)
 

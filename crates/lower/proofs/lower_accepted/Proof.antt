@@ -25,8 +25,9 @@ same-length-2 c = search needs
 
 returns : tie.Need-returns
 returns c =
-    let a = c .before .before .before .before .before .before .before .before .before .before .before .before .before .before .before .before .before .before .before .before .before .before .before .before .before .args in
-    let p = c .before .before .before .before .before .before .before .before .before .before .before .before .before .before .before .before .before .before .before .before .before .before .before .before .before .pre in
+    let s = c .before .before .before .before .before .before .before .before .before .before .before .before .before .before .before .before .before .before .before .before .before .before .before .before .before in
+    let a = s .args in
+    let p = s .pre in
     let x = c .before .before .before .before .before .before .before .before .before .before .before .before .before .before .before .before .before .before .before .prepare in
     let y = c .before .before .before .before .before .before .before .before .before .before .before .before .phases in
     ended-way (a .image .now) (a .n) _ (x .last .1 .1 .0) (x .last .1 .1 .1 .0) (y .last .1 .0) (y .last .1 .1 .0) _ _ (y .result) (omega (arith, p .sized)) (omega (arith, p .long)) (x .ensures) (y .ensures)

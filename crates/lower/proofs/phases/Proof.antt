@@ -19,15 +19,17 @@ same-length-2 c = search needs
 
 returns : tie.Need-returns
 returns c =
-    let a = c .before .before .before .before .before .before .before .before .before .before .before .args in
+    let s = c .before .before .before .before .before .before .before .before .before .before .before in
+    let a = s .args in
     let x = c .before .before .before .before .before .reserve-sources in
-    refused-1 (a .image .now) (a .net .now) (a .scr .now) (c .before .before .before .before .before .before .before .before .before .before .before .pre) (x .result) _ _ (not-done (x .result) (c .match .keys2)) (x .ensures)
+    refused-1 (a .image .now) (a .net .now) (a .scr .now) (s .pre) (x .result) _ _ (not-done (x .result) (c .match .keys2)) (x .ensures)
 
 connect-memories-requires : tie.Need-connect-memories-requires
 connect-memories-requires c κs =
-    let a = c .before .before .before .before .before .before .before .before .before .before .before .before .before .before .args in
+    let s = c .before .before .before .before .before .before .before .before .before .before .before .before .before .before in
+    let a = s .args in
     let x = c .before .before .before .before .before .before .before .before .reserve-sources in
-    (x .ensures .ready, sure-1 (a .image .now) (a .net .now) (a .scr .now) (c .before .before .before .before .before .before .before .before .before .before .before .before .before .before .pre) _ _ (done-phase (x .result) (c .before .before .enum-told .given .1) (x .ensures)))
+    (x .ensures .ready, sure-1 (a .image .now) (a .net .now) (a .scr .now) (s .pre) _ _ (done-phase (x .result) (c .before .before .enum-told .given .1) (x .ensures)))
 
 enum-told-2 : tie.Need-enum-told-2
 enum-told-2 c = search needs
@@ -40,18 +42,20 @@ same-length-4 c = search needs
 
 returns-2 : tie.Need-returns-2
 returns-2 c =
-    let a = c .before .before .before .before .before .before .before .before .before .before .before .before .before .before .before .before .before .before .before .before .args in
+    let s = c .before .before .before .before .before .before .before .before .before .before .before .before .before .before .before .before .before .before .before .before in
+    let a = s .args in
     let x = c .before .before .before .before .before .before .before .before .before .before .before .before .before .before .reserve-sources in
     let y = c .before .before .before .before .before .connect-memories in
-    refused-2 (a .image .now) (a .net .now) (a .scr .now) (c .before .before .before .before .before .before .before .before .before .before .before .before .before .before .before .before .before .before .before .before .pre) _ _ (done-phase (x .result) (c .before .before .before .before .before .before .before .before .enum-told .given .1) (x .ensures))
+    refused-2 (a .image .now) (a .net .now) (a .scr .now) (s .pre) _ _ (done-phase (x .result) (c .before .before .before .before .before .before .before .before .enum-told .given .1) (x .ensures))
     (y .result) _ _ (not-done (y .result) (c .match2 .keys2)) (y .ensures)
 
 connect-registers-requires : tie.Need-connect-registers-requires
 connect-registers-requires c κs =
-    let a = c .before .before .before .before .before .before .before .before .before .before .before .before .before .before .before .before .before .before .before .before .before .before .before .args in
+    let s = c .before .before .before .before .before .before .before .before .before .before .before .before .before .before .before .before .before .before .before .before .before .before .before in
+    let a = s .args in
     let x = c .before .before .before .before .before .before .before .before .before .before .before .before .before .before .before .before .before .reserve-sources in
     let y = c .before .before .before .before .before .before .before .before .connect-memories in
-    (y .ensures .ready, sure-2 (a .image .now) (a .net .now) (a .scr .now) (c .before .before .before .before .before .before .before .before .before .before .before .before .before .before .before .before .before .before .before .before .before .before .before .pre) _ _ (done-phase (x .result) (c .before .before .before .before .before .before .before .before .before .before .before .enum-told .given .1) (x .ensures))
+    (y .ensures .ready, sure-2 (a .image .now) (a .net .now) (a .scr .now) (s .pre) _ _ (done-phase (x .result) (c .before .before .before .before .before .before .before .before .before .before .before .enum-told .given .1) (x .ensures))
     _ _ (done-phase (y .result) (c .before .before .enum-told2 .given .1) (y .ensures)))
 
 enum-told-3 : tie.Need-enum-told-3
@@ -65,20 +69,22 @@ same-length-6 c = search needs
 
 returns-3 : tie.Need-returns-3
 returns-3 c =
-    let a = c .before .before .before .before .before .before .before .before .before .before .before .before .before .before .before .before .before .before .before .before .before .before .before .before .before .before .before .before .before .args in
+    let s = c .before .before .before .before .before .before .before .before .before .before .before .before .before .before .before .before .before .before .before .before .before .before .before .before .before .before .before .before .before in
+    let a = s .args in
     let x = c .before .before .before .before .before .before .before .before .before .before .before .before .before .before .before .before .before .before .before .before .before .before .before .reserve-sources in
     let y = c .before .before .before .before .before .before .before .before .before .before .before .before .before .before .connect-memories in
     let z = c .before .before .before .before .before .connect-registers in
-    refused-3 (a .image .now) (a .net .now) (a .scr .now) (c .before .before .before .before .before .before .before .before .before .before .before .before .before .before .before .before .before .before .before .before .before .before .before .before .before .before .before .before .before .pre) _ _ (done-phase (x .result) (c .before .before .before .before .before .before .before .before .before .before .before .before .before .before .before .before .before .enum-told .given .1) (x .ensures))
+    refused-3 (a .image .now) (a .net .now) (a .scr .now) (s .pre) _ _ (done-phase (x .result) (c .before .before .before .before .before .before .before .before .before .before .before .before .before .before .before .before .before .enum-told .given .1) (x .ensures))
     _ _ (done-phase (y .result) (c .before .before .before .before .before .before .before .before .enum-told2 .given .1) (y .ensures)) (z .result) _ _ (not-done (z .result) (c .match3 .keys2)) (z .ensures)
 
 connect-outputs-requires : tie.Need-connect-outputs-requires
 connect-outputs-requires c κs =
-    let a = c .before .before .before .before .before .before .before .before .before .before .before .before .before .before .before .before .before .before .before .before .before .before .before .before .before .before .before .before .before .before .before .before .args in
+    let s = c .before .before .before .before .before .before .before .before .before .before .before .before .before .before .before .before .before .before .before .before .before .before .before .before .before .before .before .before .before .before .before .before in
+    let a = s .args in
     let x = c .before .before .before .before .before .before .before .before .before .before .before .before .before .before .before .before .before .before .before .before .before .before .before .before .before .before .reserve-sources in
     let y = c .before .before .before .before .before .before .before .before .before .before .before .before .before .before .before .before .before .connect-memories in
     let z = c .before .before .before .before .before .before .before .before .connect-registers in
-    (z .ensures .ready, sure-3 (a .image .now) (a .net .now) (a .scr .now) (c .before .before .before .before .before .before .before .before .before .before .before .before .before .before .before .before .before .before .before .before .before .before .before .before .before .before .before .before .before .before .before .before .pre) _ _ (done-phase (x .result) (c .before .before .before .before .before .before .before .before .before .before .before .before .before .before .before .before .before .before .before .before .enum-told .given .1) (x .ensures))
+    (z .ensures .ready, sure-3 (a .image .now) (a .net .now) (a .scr .now) (s .pre) _ _ (done-phase (x .result) (c .before .before .before .before .before .before .before .before .before .before .before .before .before .before .before .before .before .before .before .before .enum-told .given .1) (x .ensures))
     _ _ (done-phase (y .result) (c .before .before .before .before .before .before .before .before .before .before .before .enum-told2 .given .1) (y .ensures)) _ _ (done-phase (z .result) (c .before .before .enum-told3 .given .1) (z .ensures)))
 
 same-length-7 : tie.Need-same-length-7
@@ -91,12 +97,13 @@ same-length-8 c =
 
 returns-4 : tie.Need-returns-4
 returns-4 c =
-    let a = c .before .before .before .before .before .before .before .before .before .before .before .before .before .before .before .before .before .before .before .before .before .before .before .before .before .before .before .before .before .before .before .before .before .before .before .before .before .args in
+    let s = c .before .before .before .before .before .before .before .before .before .before .before .before .before .before .before .before .before .before .before .before .before .before .before .before .before .before .before .before .before .before .before .before .before .before .before .before .before in
+    let a = s .args in
     let x = c .before .before .before .before .before .before .before .before .before .before .before .before .before .before .before .before .before .before .before .before .before .before .before .before .before .before .before .before .before .before .before .reserve-sources in
     let y = c .before .before .before .before .before .before .before .before .before .before .before .before .before .before .before .before .before .before .before .before .before .before .connect-memories in
     let z = c .before .before .before .before .before .before .before .before .before .before .before .before .before .connect-registers in
     let o = c .before .before .before .before .connect-outputs in
-    ended (a .image .now) (a .net .now) (a .scr .now) (c .before .before .before .before .before .before .before .before .before .before .before .before .before .before .before .before .before .before .before .before .before .before .before .before .before .before .before .before .before .before .before .before .before .before .before .before .before .pre) _ _ (done-phase (x .result) (c .before .before .before .before .before .before .before .before .before .before .before .before .before .before .before .before .before .before .before .before .before .before .before .before .before .enum-told .given .1) (x .ensures))
+    ended (a .image .now) (a .net .now) (a .scr .now) (s .pre) _ _ (done-phase (x .result) (c .before .before .before .before .before .before .before .before .before .before .before .before .before .before .before .before .before .before .before .before .before .before .before .before .before .enum-told .given .1) (x .ensures))
     _ _ (done-phase (y .result) (c .before .before .before .before .before .before .before .before .before .before .before .before .before .before .before .before .enum-told2 .given .1) (y .ensures)) _ _ (done-phase (z .result) (c .before .before .before .before .before .before .before .enum-told3 .given .1) (z .ensures)) (o .result) _ _ (o .ensures)
 
 pub phases-spec : {M : Type 1} → statement M

@@ -30,9 +30,10 @@ part-adder-widths-end c = search needs
 
 adder-widths-requires : tie.Need-adder-widths-requires
 adder-widths-requires c κs =
-    let a = c .before .before .before .before .before .before .before .before .before .args in
+    let s = c .before .before .before .before .before .before .before .before .before in
+    let a = s .args in
     let l = c .before .before .before .before .lay in
-    (readable (a .image .now) (c .before .before .before .before .before .before .before .before .before .pre .accepted), rows-fit (a .image .now) (a .n) (l .last .1 .1 .1 .0) (l .ensures) _ refl)
+    (readable (a .image .now) (s .pre .accepted), rows-fit (a .image .now) (a .n) (l .last .1 .1 .1 .0) (l .ensures) _ refl)
 
 start-requires : tie.Need-start-requires
 start-requires c κs = search needs
@@ -45,11 +46,12 @@ same-length-2 c = search needs
 
 returns : tie.Need-returns
 returns c =
-    let a = c .before .before .before .before .before .before .before .before .before .before .before .before .before .before .before .before .args in
+    let s = c .before .before .before .before .before .before .before .before .before .before .before .before .before .before .before .before in
+    let a = s .args in
     let l = c .before .before .before .before .before .before .before .before .before .before .before .lay in
     let x = c .before .before .before .before .before .before .adder-widths in
     let y = c .before .before .start in
-    prepared (a .image .now) (a .n) (l .last .1 .1 .1 .0) (l .ensures) _ refl (c .before .before .before .before .before .before .before .before .before .before .before .before .before .before .before .before .pre .accepted) _ (y .last .0) (y .ensures) (x .last .1 .0) (x .ensures)
+    prepared (a .image .now) (a .n) (l .last .1 .1 .1 .0) (l .ensures) _ refl (s .pre .accepted) _ (y .last .0) (y .ensures) (x .last .1 .0) (x .ensures)
 
 pub prepare-spec : {M : Type 1} → statement M
 prepare-spec =
