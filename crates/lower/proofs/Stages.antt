@@ -122,7 +122,6 @@ module _ (s net w : List ℕ) (b : Begun s net w) where
   begun : Reserved m lim (walkState s net w)
   begun = subst (λ (st : State). Reserved m lim st) (sym (b .state)) (started m (limitOf w) (room (limitOf w) net) (omega (arith, b .ready .laid .limited)))
 
-
   whole : (r : Lowered) (net′ w′ : List ℕ)
       → Phase (andThen (sources m (walkState s net w)) (λ st₁. andThen (memories m st₁) (λ st₂. andThen (registers m st₂) (λ st₃. outputs m st₃)))) s net w r net′ w′
       → Phase (lowerState false m (limitOf w) (room (limitOf w) net)) s net w r net′ w′

@@ -44,25 +44,29 @@ slice-relend-prefix-lower-accepted c =
 
 slice-aggregate-lower-accepted : tie.Need-slice-aggregate-lower-accepted
 slice-aggregate-lower-accepted c =
-    let a = c .before .before .before .before .before .before .before .before .args in
+    let c8 = c .before .before .before .before .before .before .before .before in
+    let a = c8 .args in
     let x = c .before .before .before .before .check in
     sym (length-take-le _ (a .netlist .now) (netlist-fits (a .image .now) (a .n) (a .p) (a .netlist .now) (a .scratch .now) (passed (x .ensures) (c .before .before .enum-told .given .1))))
 
 slice-relend-prefix-lower-accepted-2 : tie.Need-slice-relend-prefix-lower-accepted-2
 slice-relend-prefix-lower-accepted-2 c =
-    let a = c .before .before .before .before .before .before .before .before .args in
+    let c8 = c .before .before .before .before .before .before .before .before in
+    let a = c8 .args in
     let x = c .before .before .before .before .check in
     scratch-fits (a .image .now) (a .n) (a .p) (a .netlist .now) (a .scratch .now) (passed (x .ensures) (c .before .before .enum-told .given .1)) _ (c .before .scratch-need .ensures)
 
 slice-aggregate-lower-accepted-2 : tie.Need-slice-aggregate-lower-accepted-2
 slice-aggregate-lower-accepted-2 c =
-    let a = c .before .before .before .before .before .before .before .before .before .args in
+    let c8 = c .before .before .before .before .before .before .before .before in
+    let a = c8 .before .args in
     let x = c .before .before .before .before .before .check in
     sym (length-take-le _ (a .scratch .now) (scratch-fits (a .image .now) (a .n) (a .p) (a .netlist .now) (a .scratch .now) (passed (x .ensures) (c .before .before .before .enum-told .given .1)) _ (c .before .before .scratch-need .ensures)))
 
 lower-accepted-requires : tie.Need-lower-accepted-requires
 lower-accepted-requires c κs =
-    let a = c .before .before .before .before .before .before .before .before .before .args in
+    let c8 = c .before .before .before .before .before .before .before .before in
+    let a = c8 .before .args in
     let x = c .before .before .before .before .before .check in
     lent (a .image .now) (a .n) (a .p) (a .netlist .now) (a .scratch .now) (passed (x .ensures) (c .before .before .before .enum-told .given .1)) _ _ refl (c .before .before .scratch-need .ensures)
 
@@ -77,11 +81,12 @@ same-length-2 c = search needs
 
 returns-2 : tie.Need-returns-2
 returns-2 c =
-    let a = c .before .before .before .before .before .before .before .before .before .before .before .before .before .before .before .args in
-    let x = c .before .before .before .before .before .before .before .before .before .before .before .check in
+    let c8 = c .before .before .before .before .before .before .before .before in
+    let a = c8 .before .before .before .before .before .before .before .args in
+    let x = c8 .before .before .before .check in
     let y = c .before .before .before .before .before .lower-accepted in
-    let f = passed (x .ensures) (c .before .before .before .before .before .before .before .before .before .enum-told .given .1) in
-    lowered-way (a .image .now) (a .n) (a .p) (a .netlist .now) (a .scratch .now) f _ _ _ (y .result) _ (y .last .1 .1 .0) (y .last .1 .1 .1 .0) refl (c .before .before .before .before .before .before .before .before .scratch-need .ensures)
+    let f = passed (x .ensures) (c8 .before .enum-told .given .1) in
+    lowered-way (a .image .now) (a .n) (a .p) (a .netlist .now) (a .scratch .now) f _ _ _ (y .result) _ (y .last .1 .1 .0) (y .last .1 .1 .1 .0) refl (c8 .scratch-need .ensures)
     (room-is (a .image .now) (a .n) (a .p) (a .netlist .now) (a .scratch .now) f _ refl) (y .ensures) (c .of-walk .ensures)
 
 pub lower-spec : {M : Type 1} → statement M

@@ -30,7 +30,8 @@ part-adder-widths-end c = search needs
 
 adder-widths-requires : tie.Need-adder-widths-requires
 adder-widths-requires c κs =
-    let s = c .before .before .before .before .before .before .before .before .before in
+    let c8 = c .before .before .before .before .before .before .before .before in
+    let s = c8 .before in
     let a = s .args in
     let l = c .before .before .before .before .lay in
     (readable (a .image .now) (s .pre .accepted), rows-fit (a .image .now) (a .n) (l .last .1 .1 .1 .0) (l .ensures) _ refl)
@@ -46,9 +47,11 @@ same-length-2 c = search needs
 
 returns : tie.Need-returns
 returns c =
-    let s = c .before .before .before .before .before .before .before .before .before .before .before .before .before .before .before .before in
+    let c8 = c .before .before .before .before .before .before .before .before in
+    let c16 = c8 .before .before .before .before .before .before .before .before in
+    let s = c16 in
     let a = s .args in
-    let l = c .before .before .before .before .before .before .before .before .before .before .before .lay in
+    let l = c8 .before .before .before .lay in
     let x = c .before .before .before .before .before .before .adder-widths in
     let y = c .before .before .start in
     prepared (a .image .now) (a .n) (l .last .1 .1 .1 .0) (l .ensures) _ refl (s .pre .accepted) _ (y .last .0) (y .ensures) (x .last .1 .0) (x .ensures)

@@ -18,7 +18,8 @@ same-length-2 c = search needs
 
 returns : tie.Need-returns
 returns c =
-    let a = c .before .before .before .before .before .before .before .before .before .before .before .args in
+    let c8 = c .before .before .before .before .before .before .before .before in
+    let a = c8 .before .before .before .args in
     let x = c .before .before .before .before .before .lower in
     answers (a .image .now) (a .n) (a .p) (a .netlist .now) (a .scratch .now) _ (x .last .1 .1 .1 .0) (x .last .1 .1 .1 .1 .0) _ (x .ensures) (c .outcome-numbers .ensures)
 
