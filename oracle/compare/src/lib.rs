@@ -11,6 +11,7 @@ pub mod replay;
 pub mod run;
 pub mod selftest;
 pub mod shrink;
+pub mod speed;
 pub mod subject;
 
 /// Number and two places; all 0 for acceptance.

@@ -8,6 +8,7 @@ mod listing;
 mod module_image;
 mod module_sim;
 mod netlist_sim;
+mod prepared;
 mod rtl;
 mod simulation;
 mod words;
@@ -22,6 +23,7 @@ pub use big_stack::with_big_stack;
 pub use listing::{Check, LISTING_LIMITS, listing};
 pub use module_sim::ModuleSim;
 pub use netlist_sim::NetlistSim;
+pub use prepared::{Lowered, Prepared};
 pub use simulation::{Contents, NoRun, Observation, Setting};
 pub use words::words;
 

@@ -8,6 +8,7 @@ mod chain;
 mod disassemble;
 mod format;
 mod generate;
+pub mod heavy;
 mod mutate;
 mod random;
 mod shapes;
