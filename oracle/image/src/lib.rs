@@ -11,6 +11,7 @@ mod generate;
 mod mutate;
 mod random;
 mod shapes;
+mod tables;
 mod text;
 
 pub use assemble::{assemble, AsmError};
@@ -22,3 +23,4 @@ pub use format::*;
 pub use generate::{generate, Size};
 pub use mutate::mutate;
 pub use random::Random;
+pub use tables::table;
