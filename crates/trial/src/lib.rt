@@ -367,41 +367,26 @@ fn refusal(x: Added) -> u64 {
     }
 }
 
-// The operation behind another; behind the last the given one.
-fn following(at: usize, count: usize, again: usize) -> usize
-    requires { ⌜ (at < count) × (again < count) ⌝ }
-    ensures { λ r. ⌜ r < count ⌝ }
-{
-    if at + 1 < count {
-        return at + 1;
-    }
-    again
-}
-
-// So many operations, behind the last one again from the given one on. Each answer stands in the results; the end is the refusal and its operation.
+// The first so many operations. Each answer stands in the results; the end is the refusal and its operation.
 fn run(
     net: &mut [u32],
     idx: &mut [u32],
     n: u32,
     ops: &[u32],
-    count: usize,
-    again: usize,
     turns: usize,
     pool: &[u32],
     results: &mut [u32],
 ) -> [u64; 2]
-    requires { ⌜ (Held n (now net) (now idx)) × (5 * count ≤ length (now ops)) × (again < count) × (count ≤ length (now results)) ⌝ }
+    requires { ⌜ (Held n (now net) (now idx)) × (5 * turns ≤ length (now ops)) × (turns ≤ length (now results)) ⌝ }
 {
     let mut at = 0;
-    let mut left = turns;
-    while 0 < left {
+    while at < turns {
         let x = step(net, idx, n, ops, 5 * at, pool);
         let Added::Net(k) = x else {
             return [refusal(x), at as u64];
         };
         results[at] = k;
-        at = following(at, count, again);
-        left -= 1;
+        at += 1;
     }
     [0, 0]
 }
@@ -426,12 +411,11 @@ fn fit(n: u32, net: usize, idx: usize) -> bool
     idx == 4 * k
 }
 
-// An empty netlist of n nets, then operations of five words each. The answer: 0, 9 or 10, and where; 1 if the lent words do not fit.
+// An empty netlist of n nets, then the first so many operations, of five words each. The answer: 0, 9 or 10, and where; 1 if what is lent does not fit.
 #[no_mangle]
 pub extern "C" fn trial_build(
     n: u32,
     ops: &[u32],
-    again: usize,
     turns: usize,
     pool: &[u32],
     net: &mut [u32],
@@ -440,13 +424,12 @@ pub extern "C" fn trial_build(
     answer: &mut [u64; 2],
 ) {
     *answer = [1, 0];
-    let count = ops.len() / 5;
     if fit(n, net.len(), idx.len()) {
-        if again < count {
-            if count <= results.len() {
+        if turns <= ops.len() / 5 {
+            if turns <= results.len() {
                 nodes::clear(idx);
                 nodes::start(net, n);
-                *answer = run(net, idx, n, ops, count, again, turns, pool, results);
+                *answer = run(net, idx, n, ops, turns, pool, results);
             }
         }
     }

@@ -214,7 +214,7 @@ impl Trial<'_> {
         let mut netlist = LentWords::new("netlist", 16 + 6 * n as usize + p as usize, self.junk);
         let mut index = LentWords::new("index", 4 * n as usize, !self.junk);
         let mut results = LentWords::new("answers", all, self.junk.rotate_left(7));
-        let plan = BuildPlan { n, operations: &sequence.operations, again: 0, turns, pool: &sequence.pool };
+        let plan = BuildPlan { n, operations: &sequence.operations, turns, pool: &sequence.pool };
         let got = self.parts.build(&plan, netlist.words(), index.words(), results.words());
         if got != end {
             return Some(Difference::End { expected: end, got });
@@ -230,12 +230,34 @@ impl Trial<'_> {
     }
 
     fn failure(&self, number: u64, sequence: Sequence, difference: Difference) -> Failure {
-        let mut unused = Tally::default();
         let operations = sequence.operations.len();
-        let small = shrink(sequence, &mut |candidate| self.compare(candidate, &mut unused).1.is_some());
-        let (limits, small_difference) = self.compare(&small, &mut unused);
+        let mut small = shrink(sequence, &mut |candidate| self.differs(candidate));
+        if let Some(shorter) = self.shorter(number, small.operations.len()) {
+            small = shrink(shorter, &mut |candidate| self.differs(candidate));
+        }
+        let (limits, small_difference) = self.compare(&small, &mut Tally::default());
         let small_difference = small_difference.expect("the difference persists");
         Failure { number, recipe: self.recipe, operations, difference, small, limits, small_difference }
+    }
+
+    fn differs(&self, sequence: &Sequence) -> bool {
+        self.compare(sequence, &mut Tally::default()).1.is_some()
+    }
+
+    /// A difference in one of many short sequences: leaving out operations
+    /// changes what later ones name, so that shrinking may end early.
+    fn shorter(&self, number: u64, length: usize) -> Option<Sequence> {
+        const SHORT: usize = 10;
+        const ATTEMPTS: usize = 200_000;
+        if length <= SHORT {
+            return None;
+        }
+        let mut random = Random::new(!number);
+        let sequences = std::iter::repeat_with(|| {
+            let length = random.range(2, SHORT as u32);
+            sequence_of(&mut random, length)
+        });
+        sequences.take(ATTEMPTS).find(|sequence| self.differs(sequence))
     }
 }
 
@@ -267,6 +289,10 @@ fn sequence(random: &mut Random) -> Sequence {
         1..=9 => random.range(60, 400),
         _ => random.range(1, 60),
     };
+    sequence_of(random, length)
+}
+
+fn sequence_of(random: &mut Random, length: u32) -> Sequence {
     let words = random.range(1, 8) * random.range(1, 16);
     let pool = (0..words).map(|_| operand(random, length)).collect();
     let weights = weights(random);

@@ -11,8 +11,8 @@ pub trait Parts {
     /// Rows of eight words for each pair of expressions; whether it is judged.
     fn fusion(&self, image: &[u8], pairs: &[[u32; 2]], rows: &mut [u32]) -> bool;
 
-    /// An empty netlist, then so many operations, behind the last one again
-    /// from a given one on: 0, 9 or 10, and the operation that met the limit.
+    /// An empty netlist, then the first so many operations: 0, 9 or 10, and the
+    /// operation that met the limit.
     fn build(&self, plan: &BuildPlan, netlist: &mut [u32], index: &mut [u32], answers: &mut [u32]) -> [u64; 2];
 }
 
@@ -20,7 +20,6 @@ pub trait Parts {
 pub struct BuildPlan<'a> {
     pub n: u32,
     pub operations: &'a [[u32; 5]],
-    pub again: usize,
     pub turns: usize,
     pub pool: &'a [u32],
 }
@@ -43,7 +42,6 @@ extern "C" {
         n: u32,
         operations: *const u32,
         operations_len: usize,
-        again: usize,
         turns: usize,
         pool: *const u32,
         pool_len: usize,
@@ -79,7 +77,6 @@ impl Parts for Trial {
                 plan.n,
                 operations.as_ptr(),
                 operations.len(),
-                plan.again,
                 plan.turns,
                 plan.pool.as_ptr(),
                 plan.pool.len(),

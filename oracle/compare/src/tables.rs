@@ -103,6 +103,7 @@ pub fn run(parts: &dyn Parts, plan: &Plan) -> Result<Tally, Box<Failure>> {
     for number in plan.first..plan.first + plan.tables {
         let mut random = Random::new(plan.seed ^ number.wrapping_mul(0xd134_2543_de82_ef95));
         let image = case(&mut random);
+        assert!(is_fine(&image), "table {number} breaks a rule");
         if let Some(difference) = compare(parts, &image, number, &mut tally) {
             return Err(Box::new(failure(parts, number, image, difference)));
         }
@@ -121,12 +122,15 @@ fn case(random: &mut Random) -> Vec<u8> {
 
 fn failure(parts: &dyn Parts, number: u64, image: Vec<u8>, difference: Difference) -> Failure {
     let again = |candidate: &[u8]| {
-        let judged = reference::check(candidate, 1, 0, usize::MAX, usize::MAX) == reference::FINE;
-        judged.then(|| compare(parts, candidate, number, &mut Tally::default())).flatten()
+        is_fine(candidate).then(|| compare(parts, candidate, number, &mut Tally::default())).flatten()
     };
     let small = shrink(&image, &mut |candidate| again(candidate).is_some());
     let small_difference = again(&small).expect("the difference persists");
     Failure { number, image, difference, small, small_difference }
+}
+
+fn is_fine(image: &[u8]) -> bool {
+    reference::check(image, 1, 0, usize::MAX, usize::MAX) == reference::FINE
 }
 
 /// Every word of both functions; an image that passes the checks.

@@ -19,6 +19,9 @@ const WIDTHS: [&[u32]; 6] = [
     &[127, 128, 129, 200],
 ];
 
+/// Wider operands are not nested: they take too many expression bits.
+const MOST_NESTED: u32 = 256;
+
 /// A valid image. Equal seeds give equal images.
 pub fn table(seed: u64) -> Image {
     let mut table = Table::new(Random::new(seed));
@@ -64,11 +67,12 @@ impl Table {
         }
     }
 
+    /// Whether one more step fits, however much it makes.
     fn has_room(&self) -> bool {
         let image = self.builder.image();
-        image.expressions.len() + 60 < MOST[EXPRESSIONS]
-            && image.expression_bits() + 12 * MOST_WIDTH as usize <= MOST_EXPRESSION_BITS
-            && image.list.len() + 400 < MOST[LIST]
+        image.expressions.len() + 200 < MOST[EXPRESSIONS]
+            && image.expression_bits() + 16 * MOST_WIDTH as usize <= MOST_EXPRESSION_BITS
+            && image.list.len() + 1_200 < MOST[LIST]
     }
 
     fn width(&mut self) -> u32 {
@@ -140,8 +144,8 @@ impl Table {
             }
         }
         match self.random.below(10) {
-            0..=5 => self.leaf(width),
-            _ => self.extended(width),
+            6.. if width <= MOST_NESTED => self.extended(width),
+            _ => self.leaf(width),
         }
     }
 
@@ -169,6 +173,7 @@ impl Table {
 
     /// Zeros: a constant, Concats of zeros, or something that is none.
     fn zeros(&mut self, width: u32, depth: u32) -> Expr {
+        let depth = if width <= MOST_NESTED { depth } else { 0 };
         match self.random.below(12) {
             0 => self.leaf(width),
             1 => self.builder.constant(width, 1),

@@ -173,7 +173,7 @@ fn damage_is_mostly_refused_but_not_always() {
 
 #[test]
 fn tables_keep_every_rule() {
-    for seed in 0..20_000 {
+    for seed in 0..100_000 {
         let image = table(seed);
         let scratch = image.scratch_words(N);
         assert_eq!(check(&image.encode(), scratch), [0, 0, 0], "seed {seed}");

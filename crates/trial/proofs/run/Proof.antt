@@ -3,15 +3,15 @@ use Rattle.trial.proofs.run.Statement.{statement}
 use Rattle.trial.proofs.run.Tie as tie
 use borrow.Author.Needs.{needs}
 use mathlib.Core.Path.{_≡_}
-use Prim.Native.Nat.{_<_}
+use Prim.Native.Nat.{_-_, _≤_}
 use lib.ListN.{length}
 use Rattle.netlist_index.specs.Index.{Held}
 
 abbrev Inv-loop : tie.InvT-loop
-Inv-loop net₀ idx₀ n ops count again turns pool results₀ at₀ left₀ net idx results at left = (Held n net idx) × (at < count) × (length net ≡ length net₀) × (length idx ≡ length idx₀) × (length results ≡ length results₀)
+Inv-loop net₀ idx₀ n ops turns pool results₀ at₀ net idx results at = (Held n net idx) × (at ≤ turns) × (length net ≡ length net₀) × (length idx ≡ length idx₀) × (length results ≡ length results₀)
 
 abbrev μ-loop : tie.MeasureT-loop
-μ-loop net₀ idx₀ n ops count again turns pool results₀ at₀ left₀ net idx results at left = left
+μ-loop net₀ idx₀ n ops turns pool results₀ at₀ net idx results at = turns - at
 
 loop-holds : tie.Need-loop-holds Inv-loop μ-loop
 loop-holds c = search needs
@@ -46,17 +46,14 @@ mul-results c = search needs
 slice-write-results : tie.Need-slice-write-results Inv-loop μ-loop
 slice-write-results c = search needs
 
-following-requires : tie.Need-following-requires Inv-loop μ-loop
-following-requires c κs = search needs
-
-sub-left : tie.Need-sub-left Inv-loop μ-loop
-sub-left c = search needs
+add-at : tie.Need-add-at Inv-loop μ-loop
+add-at c = search needs
 
 loop-less : tie.Need-loop-less Inv-loop μ-loop
 loop-less c = search needs
 
 loop-again : tie.Need-loop-again Inv-loop μ-loop
-loop-again c = (c .before .before .before .before .before .before .before .before .step .ensures, c .following .ensures, search needs, search needs, search needs)
+loop-again c = (c .before .before .before .before .before .before .before .step .ensures, search needs, search needs, search needs, search needs)
 
 same-length-4 : tie.Need-same-length-4 Inv-loop μ-loop
 same-length-4 c = search needs
@@ -87,8 +84,7 @@ run-spec =
     returns
     mul-results
     slice-write-results
-    following-requires
-    sub-left
+    add-at
     loop-less
     loop-again
     same-length-4
