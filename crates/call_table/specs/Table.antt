@@ -1,6 +1,5 @@
 -- The joint table of the bench cases: for each row, what every call that keeps the lowering call's promise answers and leaves; and in
 -- which rows the number that comes out is not document 01's. Assumes nothing.
-use Prim.Native.String.{String}
 use mathlib.Core.Bool.{Bool, not}
 use mathlib.Core.List.{List, [], _∷_, map}
 use mathlib.Core.Path.{_≡_, refl}
