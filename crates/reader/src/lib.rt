@@ -8,7 +8,11 @@ ghost use Rattle.records.specs.Expr.{Decoded};
 ghost use Rattle.records.specs.Others.{signalMeans, assignmentMeans, registerMeans, memoryMeans};
 ghost use Rattle.checks.specs.Checked.{answerOf};
 use checks::Checked;
-use records::{Assignment, Expression, Memory, Register, Signal};
+use records::Assignment;
+use records::Expression;
+use records::Memory;
+use records::Register;
+use records::Signal;
 
 pub struct Lowering<'a> {
     pub image: &'a [u8],
