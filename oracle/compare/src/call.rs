@@ -4,7 +4,7 @@
 use crate::expect::{after_call, Expected};
 use crate::limits::Limits;
 use crate::subject::Subject;
-use crate::Answer;
+use crate::{Answer, ACCEPTED};
 use std::fmt;
 
 /// Words before and behind each lent buffer that no call may write.
@@ -17,11 +17,13 @@ pub enum What {
     Lower,
 }
 
-/// How an outcome differs.
+/// How an outcome differs, or the two readings of document 01 do.
 #[derive(Clone, Debug)]
 pub struct Difference {
     pub limits: Limits,
     pub expected: Answer,
+    /// The second reading's answer, where it is not the reference's.
+    pub second_reading: Option<Answer>,
     pub got: Answer,
     pub word: Option<WordDifference>,
 }
@@ -41,6 +43,9 @@ impl fmt::Display for Difference {
         let Limits { n, p, netlist_words, scratch_words } = self.limits;
         writeln!(f, "N {n}, P {p}, netlist buffer {netlist_words} words, scratch {scratch_words} words")?;
         writeln!(f, "expected answer {:?}", self.expected)?;
+        if let Some(second) = self.second_reading {
+            writeln!(f, "THE TWO READINGS DIFFER: the second says {second:?}")?;
+        }
         write!(f, "got answer      {:?}", self.got)?;
         if let Some(word) = &self.word {
             let WordDifference { buffer, index, expected, got } = word;
@@ -62,8 +67,20 @@ fn compare_check(subject: &dyn Subject, image: &[u8], limits: &Limits, junk: u64
     let expected = reference::check(image, limits.n, limits.p, limits.netlist_words, limits.scratch_words);
     let lent = LentImage::new(image, junk);
     let got = subject.check(lent.bytes(), limits);
-    let differs = got != expected;
-    (expected, differs.then_some(Difference { limits: *limits, expected, got, word: None }))
+    let second_reading = second_reading(image, limits, expected);
+    let differs = got != expected || second_reading.is_some();
+    (expected, differs.then_some(Difference { limits: *limits, expected, second_reading, got, word: None }))
+}
+
+/// What the second reading says of the checks, where it is not `first`.
+fn second_reading(image: &[u8], limits: &Limits, first: Answer) -> Option<Answer> {
+    let second = reading::refusal(image, limits.n, limits.p, limits.netlist_words, limits.scratch_words);
+    (second != first).then_some(second)
+}
+
+/// The checks' part of a call's answer: refusals 6 to 10 come after them.
+fn of_checks(answer: Answer) -> Answer {
+    if answer[0] > 5 { ACCEPTED } else { answer }
 }
 
 fn compare_lower(subject: &dyn Subject, image: &[u8], limits: &Limits, junk: u64) -> (Answer, Option<Difference>) {
@@ -76,8 +93,9 @@ fn compare_lower(subject: &dyn Subject, image: &[u8], limits: &Limits, junk: u64
         .first_difference(expected.netlist.as_deref().unwrap_or(&[]))
         .or_else(|| scratch.first_difference(&vec![0; expected.scratch_required]));
     let Expected { answer, .. } = expected;
-    let differs = got != answer || word.is_some();
-    (answer, differs.then_some(Difference { limits: *limits, expected: answer, got, word }))
+    let second_reading = second_reading(image, limits, of_checks(answer));
+    let differs = got != answer || word.is_some() || second_reading.is_some();
+    (answer, differs.then_some(Difference { limits: *limits, expected: answer, second_reading, got, word }))
 }
 
 /// A copy of the image amid junk, at any alignment, so that reading outside it

@@ -1,0 +1,66 @@
+-- `connect_outputs::add_port` meets its contract. Assumes nothing.
+use borrow.Author.Needs.{needs}
+use Rattle.connect_outputs.proofs.add_port.Statement.{statement}
+use Rattle.connect_outputs.proofs.add_port.Tie as tie
+use mathlib.Core.Path.{sym, ap, _∙_}
+use native.Mathlib.Omega.{arith}
+use lib.ListN.{length}
+use Rattle.netlist_view.specs.View.{netlistOf}
+use Rattle.table_view.specs.View.{limitOf}
+use Rattle.table_view.specs.Bounds.{signals-long}
+use Rattle.connect_outputs.proofs.Laws.{copied, port-made}
+
+slice-aggregate-copy-signal : tie.Need-slice-aggregate-copy-signal
+slice-aggregate-copy-signal c = search needs
+
+copy-signal-requires : tie.Need-copy-signal-requires
+copy-signal-requires c κs = search needs
+
+shared-slice-read-limit : tie.Need-shared-slice-read-limit
+shared-slice-read-limit c = search needs
+
+array-share-prefix-nets : tie.Need-array-share-prefix-nets
+array-share-prefix-nets c = search needs
+
+slice-aggregate-add-output-port : tie.Need-slice-aggregate-add-output-port
+slice-aggregate-add-output-port c =
+    let a = c .before .before .before .before .before .before .before .before .before .args in
+    let l = netlistOf (limitOf (a .scr .now)) (a .net .now) in
+    let long = signals-long (a .image .now) (a .scr .now) l (a .p) 0 (a .n) (c .before .before .before .before .before .before .before .before .before .pre .2) (omega (arith, c .before .before .before .before .before .before .before .before .before .pre .3)) in
+    sym (ap length (copied _ _ (a .n) (c .before .before .before .before .before .before .before .before .before .pre .4) long (c .before .before .before .before .copy-signal .ensures l)) ∙ long)
+
+add-output-port-requires : tie.Need-add-output-port-requires
+add-output-port-requires c κs =
+    let a = c .before .before .before .before .before .before .before .before .before .args in
+    let l = netlistOf (limitOf (a .scr .now)) (a .net .now) in
+    let long = signals-long (a .image .now) (a .scr .now) l (a .p) 0 (a .n) (c .before .before .before .before .before .before .before .before .before .pre .2) (omega (arith, c .before .before .before .before .before .before .before .before .before .pre .3)) in
+    (c .before .before .before .before .before .before .before .before .before .pre .0 .held .built, omega (arith, ap length (copied _ _ (a .n) (c .before .before .before .before .before .before .before .before .before .pre .4) long (c .before .before .before .before .copy-signal .ensures l)), long, c .before .before .before .before .before .before .before .before .before .pre .4))
+
+answer-requires : tie.Need-answer-requires
+answer-requires c κs = search needs
+
+same-length : tie.Need-same-length
+same-length c = search needs
+
+returns : tie.Need-returns
+returns c =
+    let a = c .before .before .before .before .before .before .before .before .before .before .before .before .before .args in
+    let l = netlistOf (limitOf (a .scr .now)) (a .net .now) in
+    let long = signals-long (a .image .now) (a .scr .now) l (a .p) 0 (a .n) (c .before .before .before .before .before .before .before .before .before .before .before .before .before .pre .2) (omega (arith, c .before .before .before .before .before .before .before .before .before .before .before .before .before .pre .3)) in
+    rw (c .answer .ensures)
+    (port-made (a .image .now) (a .net .now) (a .scr .now) (a .p) (a .n) (c .before .before .before .before .before .before .before .before .before .before .before .before .before .pre .0) (c .before .before .before .before .before .before .before .before .before .before .before .before .before .pre .1) (c .before .before .before .before .before .before .before .before .before .before .before .before .before .pre .5) (c .before .before .before .add-output-port .result) _ _
+    (rw (copied _ _ (a .n) (c .before .before .before .before .before .before .before .before .before .before .before .before .before .pre .4) long (c .before .before .before .before .before .before .before .before .copy-signal .ensures l)) at (c .before .before .before .add-output-port .ensures)) (c .before .before .before .add-output-port .kept .0))
+
+pub add-port-spec : {M : Type 1} → statement M
+add-port-spec =
+    tie.close
+    (tie.spec
+    slice-aggregate-copy-signal
+    copy-signal-requires
+    shared-slice-read-limit
+    array-share-prefix-nets
+    slice-aggregate-add-output-port
+    add-output-port-requires
+    answer-requires
+    same-length
+    returns)
