@@ -136,7 +136,7 @@ input-last n h = ap spaced (sym (pick-skip _ (eq-no n absent h) refl)) ∙ space
 
 -- ---- lines ----
 
-net-line : (s ws : List ℕ) (n : ℕ) → netLine s ws n ≡ decimal n ++ ((32 ∷ kindWord (nodeWord ws n 0))
+pub net-line : (s ws : List ℕ) (n : ℕ) → netLine s ws n ≡ decimal n ++ ((32 ∷ kindWord (nodeWord ws n 0))
     ++ (spaced (owned s (nodeWord ws n 0) (nodeWord ws n 1) (nodeWord ws n 2)) ++ (spaced (inputs (nodeWord ws n 3 ∷ nodeWord ws n 4 ∷ nodeWord ws n 5 ∷ [])) ++ (10 ∷ []))))
 unfolding netLine spaced
 net-line s ws n =
@@ -155,7 +155,7 @@ net-line-wrote s ws n e₀ e₁ e₂ e₃ e₄ e₅ h = wrote-same (net-line s w
 unfoldable pub firstLine : List ℕ → List ℕ
 firstLine ws = line (text "nets" ∷ decimal (getD ws 1 0) ∷ text "list" ∷ decimal (getD ws 3 0) ∷ [])
 
-first-line : (ws : List ℕ) → firstLine ws ≡ text "nets" ++ ((32 ∷ decimal (getD ws 1 0)) ++ ((32 ∷ text "list") ++ ((32 ∷ decimal (getD ws 3 0)) ++ (10 ∷ []))))
+pub first-line : (ws : List ℕ) → firstLine ws ≡ text "nets" ++ ((32 ∷ decimal (getD ws 1 0)) ++ ((32 ∷ text "list") ++ ((32 ∷ decimal (getD ws 3 0)) ++ (10 ∷ []))))
 unfolding firstLine spaced
 first-line ws = line-spaced _ _ ∙ simp append-assoc
 

@@ -18,7 +18,7 @@ unfolding pick
 at-least true a b h l = h
 at-least false a b h l = l
 
-record-some : (l : List ℕ) → 1 ≤ length l → 1 ≤ recordLength l
+pub record-some : (l : List ℕ) → 1 ≤ length l → 1 ≤ recordLength l
 unfolding recordLength
 record-some l h =
     at-least _ _ _ (omega arith) (at-least _ _ _ (omega arith) (at-least _ _ _ (omega arith) (at-least _ _ _ (omega arith) (at-least _ _ _ (omega arith) h))))
