@@ -5,7 +5,6 @@ use crate::subject::{Library, Subject};
 use crate::ACCEPTED;
 use driver::Prepared;
 use std::hint::black_box;
-use std::time::{Duration, Instant};
 
 /// An image with what its two lowerings need.
 pub struct Race {
@@ -85,21 +84,44 @@ impl Lent {
     }
 }
 
-/// The least mean time of a call over seven rounds of about 40 ms, at least
-/// one call each. What a call gives back is freed outside the time.
+/// The least time of a call: processor time of this thread, so that other work
+/// on the machine counts little, over samples of 0.2 ms or one call each, for
+/// about a second and at least five. What a call gives back is freed outside
+/// the time.
 fn least_time<T>(mut call: impl FnMut() -> T) -> f64 {
-    let (once, _) = timed(&mut call);
-    let calls = (40_000_000 / once.as_nanos().max(100)).clamp(1, 100_000) as u32;
-    (0..7)
-        .map(|_| {
-            let total: Duration = (0..calls).map(|_| timed(&mut call).0).sum();
-            total.as_nanos() as f64 / f64::from(calls)
-        })
-        .fold(f64::INFINITY, f64::min)
+    let once = sample(&mut call, 1);
+    let calls = (200_000 / once.max(1)).clamp(1, 200);
+    let samples = (1_000_000_000 / (once * calls).max(1)).clamp(5, 4000);
+    let least = (0..samples).map(|_| sample(&mut call, calls)).min();
+    least.unwrap_or(once) as f64 / calls as f64
 }
 
-fn timed<T>(call: &mut impl FnMut() -> T) -> (Duration, T) {
-    let start = Instant::now();
-    let result = black_box(call());
-    (start.elapsed(), result)
+/// Nanoseconds of so many calls.
+fn sample<T>(call: &mut impl FnMut() -> T, calls: u64) -> u64 {
+    let mut results = Vec::with_capacity(calls as usize);
+    let start = thread_time();
+    for _ in 0..calls {
+        results.push(black_box(call()));
+    }
+    thread_time() - start
+}
+
+#[repr(C)]
+struct TimeSpec {
+    seconds: i64,
+    nanoseconds: i64,
+}
+
+extern "C" {
+    fn clock_gettime(clock: i32, time: *mut TimeSpec) -> i32;
+}
+
+/// Processor time of this thread, in nanoseconds.
+fn thread_time() -> u64 {
+    const THREAD_CLOCK: i32 = 3;
+    let mut time = TimeSpec { seconds: 0, nanoseconds: 0 };
+    // The C library writes the two numbers of x86-64 Linux's timespec.
+    let failed = unsafe { clock_gettime(THREAD_CLOCK, &mut time) };
+    assert_eq!(failed, 0, "a clock for threads");
+    time.seconds as u64 * 1_000_000_000 + time.nanoseconds as u64
 }

@@ -7,13 +7,13 @@ use compare::subject::HAS_LOWER;
 use image::heavy;
 use image::{generate, Image, Size};
 
-const USAGE: &str = "bench-lower [images | growth | repeat port|rust IMAGE CALLS]
+const USAGE: &str = "bench-lower [images [IMAGE...] | growth | repeat port|rust IMAGE CALLS]
     images   Times of the port's call and of struo's lowering, image by image.
     growth   The same against nets, expressions, signals and registers.
     repeat   Calls one of the two again and again, for a profiler.
 The port's call takes bytes: its time holds the checks and the clearing of both
 buffers. struo's is of Lowering::new and Lowering::lower on a module that stands
-ready. Both are the least mean of seven rounds.";
+ready. Both are the least processor time of many calls.";
 
 fn main() {
     let mut words = Words::of_process();
@@ -23,7 +23,7 @@ fn main() {
         std::process::exit(2);
     }
     let done = driver::with_big_stack(|| match what.as_str() {
-        "images" => Ok(times()),
+        "images" => Ok(times(&mut words)),
         "growth" => Ok(growth()),
         "repeat" => repeat(&mut words),
         _ => Err(USAGE.to_string()),
@@ -71,12 +71,14 @@ fn random(size: Size, count: usize) -> Vec<Image> {
         .collect()
 }
 
-fn times() {
+fn times(words: &mut Words) {
+    let names: Vec<String> = std::iter::from_fn(|| words.next()).collect();
     println!(
         "{:<26} {:>8} {:>8} {:>12} {:>12} {:>12} {:>6} {:>9}",
         "image", "bytes", "nets", "port ns", "largest N,P", "Rust ns", "ratio", "largest"
     );
-    for (name, images) in CASES {
+    let wanted = |name: &str| names.is_empty() || names.iter().any(|other| other == name);
+    for (name, images) in CASES.into_iter().filter(|(name, _)| wanted(name)) {
         let races: Vec<Race> = images().iter().map(|image| Race::new(image.encode())).collect();
         let sum = |of: fn(&Race) -> f64| races.iter().map(of).sum::<f64>();
         let [bytes, nets] = [sum(|race| race.bytes() as f64), sum(|race| f64::from(race.nets))];
