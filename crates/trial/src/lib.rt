@@ -178,19 +178,32 @@ fn digest(nets: &[u32]) -> u32 {
     h
 }
 
-// Operations 0 to 5: constants and gates.
-fn gate_step(net: &mut [u32], idx: &mut [u32], n: u32, op: u32, a: u32, b: u32, c: u32) -> Added
+// A gate of nets.
+fn add_gate(net: &mut [u32], idx: &mut [u32], n: u32, op: u32, a: u32, b: u32, c: u32) -> Added
     requires { ⌜ Held n (now net) (now idx) ⌝ }
     ensures { λ _. ⌜ Held n (now (net .exit)) (now (idx .exit)) ⌝ }
 {
     match op {
-        0 => gates::add_constant(net, idx, n, a % 2 == 1),
         1 => gates::add_not(net, idx, n, a),
         2 => gates::add_and(net, idx, n, a, b),
         3 => gates::add_or(net, idx, n, a, b),
         4 => gates::add_xor(net, idx, n, a, b),
         _ => gates::add_mux(net, idx, n, a, b, c),
     }
+}
+
+// Operations 0 to 5: constants and gates.
+fn gate_step(net: &mut [u32], idx: &mut [u32], n: u32, op: u32, a: u32, b: u32, c: u32) -> Added
+    requires { ⌜ Held n (now net) (now idx) ⌝ }
+    ensures { λ _. ⌜ Held n (now (net .exit)) (now (idx .exit)) ⌝ }
+{
+    if op == 0 {
+        return gates::add_constant(net, idx, n, a % 2 == 1);
+    }
+    let x = some_net(net, a);
+    let y = some_net(net, b);
+    let z = some_net(net, c);
+    add_gate(net, idx, n, op, x, y, z)
 }
 
 fn arithmetic_op(op: u32) -> ArithmeticOp {
@@ -302,7 +315,7 @@ fn output_step(net: &mut [u32], idx: &[u32], n: u32, w: usize, a: u32, pool: &[u
     ports::add_output_port(net, n, signal, &nets[..w])
 }
 
-// An operation on words: of width 1 + w % 1024.
+// Operations 6 to 15, on words of width 1 + w % 1024.
 fn word_step(
     net: &mut [u32],
     idx: &mut [u32],
@@ -318,44 +331,45 @@ fn word_step(
     ensures { λ _. ⌜ Held n (now (net .exit)) (now (idx .exit)) ⌝ }
 {
     let width = 1 + (w % 1024) as usize;
-    if op < 9 {
-        return arithmetic_step(net, idx, n, op, width, a, b, ABSENT, pool);
+    match op {
+        6..=8 => arithmetic_step(net, idx, n, op, width, a, b, ABSENT, pool),
+        9 => {
+            let carry = some_net(net, c);
+            arithmetic_step(net, idx, n, op, width, a, b, carry, pool)
+        }
+        10..=13 => comparison_step(net, idx, n, op, width, a, b, pool),
+        14 => input_step(net, idx, n, 1 + w % 1024),
+        _ => output_step(net, idx, n, width, a, pool),
     }
-    if op == 9 {
-        let carry = some_net(net, c);
-        return arithmetic_step(net, idx, n, op, width, a, b, carry, pool);
-    }
-    if op < 14 {
-        return comparison_step(net, idx, n, op, width, a, b, pool);
-    }
-    output_step(net, idx, n, width, a, pool)
 }
 
-// The operation whose five words stand at a place. Where there is no net to take, a constant is made.
+// The operation done: where there is no net to take, a constant for all but an input port.
+fn done_for(net: &[u32], op: u32) -> u32
+    requires { ⌜ 16 ≤ length (now net) ⌝ }
+{
+    if op == 14 {
+        return op;
+    }
+    if net[1] == 0 {
+        return 0;
+    }
+    op
+}
+
+// The operation whose five words stand at a place.
 fn step(net: &mut [u32], idx: &mut [u32], n: u32, ops: &[u32], at: usize, pool: &[u32]) -> Added
     requires { ⌜ (Held n (now net) (now idx)) × (at + 5 ≤ length (now ops)) ⌝ }
     ensures { λ _. ⌜ Held n (now (net .exit)) (now (idx .exit)) ⌝ }
 {
-    let op = ops[at];
+    let op = done_for(net, ops[at]);
     let a = ops[at + 1];
-    if op == 14 {
-        return input_step(net, idx, n, 1 + a % 1024);
-    }
-    if net[1] == 0 {
-        return gate_step(net, idx, n, 0, a, 0, 0);
-    }
-    if op == 0 {
-        return gate_step(net, idx, n, 0, a, 0, 0);
-    }
     let b = ops[at + 2];
     let c = ops[at + 3];
+    let d = ops[at + 4];
     if op < 6 {
-        let x = some_net(net, a);
-        let y = some_net(net, b);
-        let z = some_net(net, c);
-        return gate_step(net, idx, n, op, x, y, z);
+        return gate_step(net, idx, n, op, a, b, c);
     }
-    word_step(net, idx, n, op, a, b, c, ops[at + 4], pool)
+    word_step(net, idx, n, op, a, b, c, d, pool)
 }
 
 // The refusal of an answer: 9 or 10.

@@ -56,10 +56,15 @@ pub struct Sequence {
 
 impl Sequence {
     fn built(&self, n: u32, p: u32) -> Built {
-        let operation = |&[code, a, b, c, d]: &[u32; 5]| Operation { code, words: [a, b, c, d] };
-        let operations: Vec<Operation> = self.operations.iter().map(operation).collect();
-        build(&operations, &self.pool, n, p)
+        built(&self.operations, &self.pool, n, p)
     }
+}
+
+/// What struo's builder makes of operations.
+pub fn built(operations: &[[u32; 5]], pool: &[u32], n: u32, p: u32) -> Built {
+    let operation = |&[code, a, b, c, d]: &[u32; 5]| Operation { code, words: [a, b, c, d] };
+    let operations: Vec<Operation> = operations.iter().map(operation).collect();
+    build(&operations, pool, n, p)
 }
 
 impl fmt::Display for Sequence {

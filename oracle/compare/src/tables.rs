@@ -146,15 +146,20 @@ fn compare_ranges(parts: &dyn Parts, bytes: &[u8], image: &Image, ranged: &[Rang
     let lent = LentImage::new(bytes, junk);
     let mut table = LentWords::new("table", ROW * ranged.len(), junk);
     let mut expected = table.words().to_vec();
-    for (row, (fields, ranged)) in expected.chunks_mut(ROW).zip(image.expressions.iter().zip(ranged)) {
-        let (min, max) = ranged.range.unwrap_or((0, 0));
-        row[2..6].copy_from_slice(&[min as u32, (min >> 32) as u32, max as u32, (max >> 32) as u32]);
-        row[6] = width_word(fields, ranged);
-    }
+    fill_table(image, ranged, &mut expected);
     if !parts.adder_widths(lent.bytes(), table.words()) {
         return Some(Difference::NotJudged("adder_widths"));
     }
     table.first_difference(&expected).map(Difference::Word)
+}
+
+/// Writes the rows' words 2 to 6.
+pub fn fill_table(image: &Image, ranged: &[Ranged], table: &mut [u32]) {
+    for (row, (fields, ranged)) in table.chunks_mut(ROW).zip(image.expressions.iter().zip(ranged)) {
+        let (min, max) = ranged.range.unwrap_or((0, 0));
+        row[2..6].copy_from_slice(&[min as u32, (min >> 32) as u32, max as u32, (max >> 32) as u32]);
+        row[6] = width_word(fields, ranged);
+    }
 }
 
 /// The width that an Add is narrowed to, 0 if it is not. The port's rows have
@@ -182,7 +187,7 @@ fn compare_fusion(parts: &dyn Parts, image: &[u8], pairs: &[[u32; 2]], fused: &[
 }
 
 /// Zero, carry, the test's three numbers, what an Add lowers.
-fn fusion_row([lhs, rhs]: [u32; 2], fused: &Fused) -> [u32; ROW] {
+pub fn fusion_row([lhs, rhs]: [u32; 2], fused: &Fused) -> [u32; ROW] {
     let [a, b, c] = fused.fusion.unwrap_or([ABSENT; 3]);
     let [lhs, rhs, carry] = fused.fusion.unwrap_or([lhs, rhs, ABSENT]);
     [u32::from(fused.is_zero), fused.carry.unwrap_or(ABSENT), a, b, c, lhs, rhs, carry]

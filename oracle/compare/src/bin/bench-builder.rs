@@ -19,8 +19,8 @@ const PORT_WIDTH: u32 = 1_024;
 const MOST_NETS: u32 = 65_535;
 /// Ten million lookups, in runs; the least time counts, since the machine may
 /// be shared.
-const LOOKUPS: usize = 250_000;
-const RUNS: usize = 40;
+const LOOKUPS: usize = 50_000;
+const RUNS: usize = 200;
 
 fn main() {
     if std::env::args().len() > 1 {
@@ -80,15 +80,15 @@ fn mux_tree(levels: u32) -> Operations {
 fn build_row(name: &str, operations: &Operations) {
     let count = operations.len();
     let mut port = Port::new(MOST_NETS, count);
-    assert_eq!(port.run(operations, count), rust_run(operations, count), "{name}");
+    assert_eq!(port.run(operations, count), rust_run(operations), "{name}");
     let port_time = least_seconds(|| port.run(operations, count).len());
-    let rust_time = least_seconds(|| rust_run(operations, count).len());
+    let rust_time = least_seconds(|| rust_run(operations).len());
     row(name, MOST_NETS, port_time, rust_time, count);
     println!();
 }
 
-/// Gates that are there, looked for in random order; the time to make them is
-/// taken off.
+/// Gates that are there, looked for in random order. The port's call begins with
+/// an empty netlist: the time to make the gates is taken off.
 fn lookup_rows(nets: usize) {
     let inputs = PORT_WIDTH.min(nets as u32 / 2) as usize;
     let made = distinct_gates(nets - inputs);
@@ -97,11 +97,12 @@ fn lookup_rows(nets: usize) {
     let mut random = Random::new(2);
     operations.extend((0..LOOKUPS).map(|_| made[ports + random.below(made.len() - ports)]));
     let all = operations.len();
-    let rust = |turns| least_seconds(|| rust_run(&operations, turns).len());
-    let rust_time = rust(all) - rust(made.len());
+    let mut netlist = Netlist::new("t");
+    rust_steps(&mut netlist, &made);
+    let rust_time = least_seconds(|| rust_steps(&mut netlist, &operations[made.len()..]).len());
     for n in [MOST_NETS, nets as u32] {
         let mut port = Port::new(n, all);
-        assert_eq!(port.run(&operations, all), rust_run(&operations, all));
+        assert_eq!(port.run(&operations, all), rust_run(&operations));
         let mut time = |turns| least_seconds(|| port.run(&operations, turns).len());
         let port_time = time(all) - time(made.len());
         row(&format!("10 million lookups among {nets} nets"), n, port_time, rust_time, LOOKUPS);
@@ -165,13 +166,12 @@ impl Port {
 }
 
 /// The same operations, with their words taken in the same way.
-fn rust_run(operations: &Operations, turns: usize) -> Vec<u32> {
-    let mut netlist = Netlist::new("t");
-    let mut answers = vec![0; operations.len()];
-    for (answer, operation) in answers.iter_mut().zip(operations).take(turns) {
-        *answer = rust_step(&mut netlist, operation).index();
-    }
-    answers
+fn rust_run(operations: &[[u32; 5]]) -> Vec<u32> {
+    rust_steps(&mut Netlist::new("t"), operations)
+}
+
+fn rust_steps(netlist: &mut Netlist, operations: &[[u32; 5]]) -> Vec<u32> {
+    operations.iter().map(|operation| rust_step(netlist, operation).index()).collect()
 }
 
 fn rust_step(netlist: &mut Netlist, &[code, a, b, c, _]: &[u32; 5]) -> NetId {
