@@ -13,7 +13,8 @@
  * - `netlist`, `scratch` and `answer` are aligned to 4 bytes. `image` may stand anywhere.
  * - `image_len` is below 2^63, `netlist_len` and `scratch_len` are below 2^63 / 4.
  * - None of the four overlaps another, and nothing else writes them during the call.
- * - The thread has a stack of 8 MB: the lowering calls itself as deep as expressions and signals of the module nest.
+ * - The thread has a stack of STRUO_STACK_KB: the lowering calls itself as deep as expressions and signals of the module nest. No
+ *   theorem bounds the stack of compiled code; the figure is tested on the deepest images known (examples/test).
  *
  * struo_try_check and struo_try_lower below test what of this can be tested before they call.
  */
@@ -58,6 +59,10 @@ enum struo_answer {
 
 /* Words of scratch that serve every image with net limit n. */
 #define STRUO_SCRATCH_MOST(n) STRUO_SCRATCH_WORDS(4096, 32768, 2048, n)
+
+/* The stack that a thread needs for every image, in units of 1,024 bytes. Modules that nest less take less: a chain of 2,047
+ * inversions takes 18 MB. */
+#define STRUO_STACK_KB 65536
 
 /* Checks an image: refusals 1, 2, 3, 4, 5, in this order, for net limit n, list limit p and buffers of so many words.
  *

@@ -1,6 +1,6 @@
 //! The library's two calls behind safe functions over slices. What include/struo.h asks of pointers and lengths, references and slices
-//! have by their types: they are valid, aligned, apart where one is `&mut`, and below 2^63 bytes. The stack of 8 MB is the caller's to give;
-//! Rust's main thread has it, other threads by `Builder::stack_size`.
+//! have by their types: they are valid, aligned, apart where one is `&mut`, and below 2^63 bytes. The stack is the caller's to give: that of
+//! the main thread by `ulimit -s`, that of others by `Builder::stack_size`.
 
 mod library {
     extern "C" {

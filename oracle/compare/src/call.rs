@@ -47,11 +47,17 @@ impl fmt::Display for Difference {
             writeln!(f, "THE TWO READINGS DIFFER: the second says {second:?}")?;
         }
         write!(f, "got answer      {:?}", self.got)?;
-        if let Some(word) = &self.word {
-            let WordDifference { buffer, index, expected, got } = word;
-            write!(f, "\nfirst differing word: {buffer} word {index}: expected {expected}, got {got}")?;
+        match &self.word {
+            Some(word) => write!(f, "\n{word}"),
+            None => Ok(()),
         }
-        Ok(())
+    }
+}
+
+impl fmt::Display for WordDifference {
+    fn fmt(&self, f: &mut fmt::Formatter) -> fmt::Result {
+        let WordDifference { buffer, index, expected, got } = self;
+        write!(f, "first differing word: {buffer} word {index}: expected {expected}, got {got}")
     }
 }
 
@@ -100,14 +106,14 @@ fn compare_lower(subject: &dyn Subject, image: &[u8], limits: &Limits, junk: u64
 
 /// A copy of the image amid junk, at any alignment, so that reading outside it
 /// does not go unseen for long.
-struct LentImage {
+pub(crate) struct LentImage {
     memory: Vec<u8>,
     start: usize,
     length: usize,
 }
 
 impl LentImage {
-    fn new(image: &[u8], junk: u64) -> Self {
+    pub(crate) fn new(image: &[u8], junk: u64) -> Self {
         let start = 16 + (junk % 4) as usize;
         let mut memory: Vec<u8> = (0..start as u64).map(|at| junk_word(junk, at) as u8).collect();
         memory.extend_from_slice(image);
@@ -115,32 +121,32 @@ impl LentImage {
         LentImage { memory, start, length: image.len() }
     }
 
-    fn bytes(&self) -> &[u8] {
+    pub(crate) fn bytes(&self) -> &[u8] {
         &self.memory[self.start..self.start + self.length]
     }
 }
 
 /// A buffer full of junk, between guards.
-struct LentWords {
+pub(crate) struct LentWords {
     name: &'static str,
     memory: Vec<u32>,
     junk: u64,
 }
 
 impl LentWords {
-    fn new(name: &'static str, length: usize, junk: u64) -> Self {
+    pub(crate) fn new(name: &'static str, length: usize, junk: u64) -> Self {
         let memory = (0..(length + 2 * GUARD) as u64).map(|at| junk_word(junk, at)).collect();
         LentWords { name, memory, junk }
     }
 
-    fn words(&mut self) -> &mut [u32] {
+    pub(crate) fn words(&mut self) -> &mut [u32] {
         let end = self.memory.len() - GUARD;
         &mut self.memory[GUARD..end]
     }
 
     /// The first word that is not as expected: `required` from the start on,
     /// all others as before.
-    fn first_difference(&self, required: &[u32]) -> Option<WordDifference> {
+    pub(crate) fn first_difference(&self, required: &[u32]) -> Option<WordDifference> {
         let expected_at = |at: usize| match at.checked_sub(GUARD).and_then(|index| required.get(index)) {
             Some(&word) => word,
             None => junk_word(self.junk, at as u64),
