@@ -20,7 +20,7 @@ use Rattle.model.specs.Lowering.{lower}
 use Rattle.call.specs.Call.{outcome, imageOf, numbersOf}
 use Rattle.checks.specs.Checked.{then-fine, then-refused, then-both, refuse-yes, refuse-no}
 use Rattle.call_laws.specs.Further.{Whole, netlist-same}
-use Rattle.call_table.specs.Row.{Question, Numbers, Nets, AdderWidths, Carries, Outputs, ResetValue, outputNumber, reply, Row, words, room, Called, Shows, Refuses, Holds}
+use Rattle.call_table.specs.Row.{Question, Numbers, Nets, AdderWidths, Carries, Outputs, ResetValue, outputNumber, reply, Row, words, room, Shows, Refuses, Holds, Promised}
 
 -- ---- a row computed from the image's bytes ----
 
@@ -163,26 +163,26 @@ module _ (r : Row) (e : seen r ≡ said r) where
   tells : (length (left-words r) ≡ words r) × Whole (left-words r)
   tells = whole-tells (left-words r) (words r) many is-whole
 
-  module _ (buffer scratch : List ℕ) (a : Answer) (buffer′ scratch′ : List ℕ) (p : Called r buffer scratch a buffer′ scratch′) where
+  module _ (buffer scratch answer buffer′ scratch′ : List ℕ) (p : Promised r buffer scratch answer buffer′ scratch′) where
     module _ (h : words r ≤ length buffer) (k : room r ≤ length scratch) where
       passed : checked (r .image) (r .limits .0) (r .limits .1) (length buffer) (length scratch) ≡ Fine
       passed = checks-long (r .image) (r .limits .0) (r .limits .1) fine (length buffer) (length scratch) h k
 
-      answer-is : a ≡ outcome (lowered r)
+      answer-is : answer ≡ numbersOf (outcome (lowered r))
       unfolding Promise.answer
-      answer-is = p .answered ∙ then-is _ _ passed
+      answer-is = p .numbers ∙ ap numbersOf (p .kept .answered ∙ then-is _ _ passed)
 
       buffer-is : buffer′ ≡ left-words r ++ drop (words r) buffer
       unfolding Promise.bufferAfter
-      buffer-is = p .leftBuffer ∙ left-is _ (outcome (lowered r)) (words r) _ buffer passed
+      buffer-is = p .kept .leftBuffer ∙ left-is _ (outcome (lowered r)) (words r) _ buffer passed
 
       scratch-is : scratch′ ≡ replicate (room r) 0 ++ drop (room r) scratch
       unfolding Promise.scratchAfter
-      scratch-is = p .leftScratch ∙ left-is _ (outcome (lowered r)) (room r) _ scratch passed ∙ rw (required-zero (outcome (lowered r)) (room r))
+      scratch-is = p .kept .leftScratch ∙ left-is _ (outcome (lowered r)) (room r) _ scratch passed ∙ rw (required-zero (outcome (lowered r)) (room r))
 
-      shows : Shows r buffer scratch a buffer′ scratch′
+      shows : Shows r buffer scratch answer buffer′ scratch′
       shows = record {
-        numbers = ap numbersOf answer-is ∙ is-numbers;
+        numbers = answer-is ∙ is-numbers;
         heading = rw buffer-is (take-append-le 16 (left-words r) (drop (words r) buffer) (omega (arith, many, tells .0)) ∙ is-header);
         replies = rw (answer-is, buffer-is) (reply-same (r .asked) _ (left-words r) (drop (words r) buffer) (tells .1) ∙ is-found);
         further = rw buffer-is (drop-at (left-words r) (drop (words r) buffer) (words r) (tells .0));
@@ -190,13 +190,15 @@ module _ (r : Row) (e : seen r ≡ said r) where
       }
 
     -- the checks refuse: no buffer is touched
-    refuses : (n : ℕ) → checked (r .image) (r .limits .0) (r .limits .1) (length buffer) (length scratch) ≡ Refused n 0 0 → Refuses n buffer scratch a buffer′ scratch′
-    unfolding Promise.answer Promise.bufferAfter Promise.scratchAfter andThen left
-    refuses n q = record { refused = p .answered ∙ rw q; same-buffer = p .leftBuffer ∙ rw q; same-scratch = p .leftScratch ∙ rw q }
+    refuses : (n : ℕ) → checked (r .image) (r .limits .0) (r .limits .1) (length buffer) (length scratch) ≡ Refused n 0 0 → Refuses n buffer scratch answer buffer′ scratch′
+    unfolding Promise.answer Promise.bufferAfter Promise.scratchAfter andThen left numbersOf
+    refuses n q =
+        let e : p .given ≡ Refused n 0 0 = p .kept .answered ∙ rw q in
+        record { refused = p .numbers ∙ ap numbersOf e; same-buffer = p .kept .leftBuffer ∙ rw q; same-scratch = p .kept .leftScratch ∙ rw q }
 
-pub carried : (r : Row) → seen r ≡ said r → Holds r
+pub carried : (r : Row) → seen r ≡ said r → Holds r (Promised r)
 carried r e = record {
-  long = λ buffer scratch a buffer′ scratch′ h k p. shows r e buffer scratch a buffer′ scratch′ p h k;
-  short-buffer = λ buffer scratch a buffer′ scratch′ h p. refuses r e buffer scratch a buffer′ scratch′ p 2 (checks-short (r .image) (r .limits .0) (r .limits .1) (fine r e) _ _ h);
-  short-scratch = λ buffer scratch a buffer′ scratch′ h k p. refuses r e buffer scratch a buffer′ scratch′ p 5 (checks-tight (r .image) (r .limits .0) (r .limits .1) (fine r e) _ _ h k);
+  long = λ buffer scratch answer buffer′ scratch′ h k p. shows r e buffer scratch answer buffer′ scratch′ p h k;
+  short-buffer = λ buffer scratch answer buffer′ scratch′ h p. refuses r e buffer scratch answer buffer′ scratch′ p 2 (checks-short (r .image) (r .limits .0) (r .limits .1) (fine r e) _ _ h);
+  short-scratch = λ buffer scratch answer buffer′ scratch′ h k p. refuses r e buffer scratch answer buffer′ scratch′ p 5 (checks-tight (r .image) (r .limits .0) (r .limits .1) (fine r e) _ _ h k);
 }

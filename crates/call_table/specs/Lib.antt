@@ -3,3 +3,4 @@ pub mod Row
 pub mod Carried
 pub mod Rows
 pub mod Table
+pub mod Exported

@@ -8,7 +8,7 @@ use mathlib.Core.Path.{_≡_}
 use lib.ListN.{length, take, drop, getD, replicate}
 use Rattle.rtl.specs.Word.{value}
 use Rattle.rtl.specs.Ops.{tab}
-use Rattle.rules.specs.Rules.{_≡?_, pick, only, Answer, Refused}
+use Rattle.rules.specs.Rules.{_≡?_, pick, only, Answer}
 use Rattle.meaning.specs.Image.{absent}
 use Rattle.meaning.specs.Checks.{netlistNeed, scratchNeed}
 use Rattle.meaning.specs.NetlistImage.{Netlist, recordsWith, netlist}
@@ -62,29 +62,32 @@ words r = netlistNeed (r .limits .0) (r .limits .1)
 abbrev pub room : Row → ℕ
 room r = scratchNeed (r .image) (r .limits .0)
 
--- the call on a row's image, with its limits and these buffers, answered a and left these buffers
-abbrev pub Called : Row → List ℕ → List ℕ → Answer → List ℕ → List ℕ → Type 0
-Called r buffer scratch a buffer′ scratch′ = Lowered (r .image) (r .limits .0) (r .limits .1) buffer scratch a buffer′ scratch′
-
--- what is to be read from the answer and from the buffers
-pub record Shows (r : Row) (buffer scratch : List ℕ) (a : Answer) (buffer′ scratch′ : List ℕ) : Type 0 where
-  pub numbers : numbersOf a ≡ r .answer
+-- what is to be read from the three numbers of the answer and from the buffers
+pub record Shows (r : Row) (buffer scratch answer buffer′ scratch′ : List ℕ) : Type 0 where
+  pub numbers : answer ≡ r .answer
   pub heading : take 16 buffer′ ≡ r .header
-  pub replies : reply (r .asked) (numbersOf a) buffer′ ≡ r .found
+  pub replies : reply (r .asked) answer buffer′ ≡ r .found
   pub further : drop (words r) buffer′ ≡ drop (words r) buffer
   pub cleared : scratch′ ≡ replicate (room r) 0 ++ drop (room r) scratch
 
 -- refused under n, no buffer touched
-pub record Refuses (n : ℕ) (buffer scratch : List ℕ) (a : Answer) (buffer′ scratch′ : List ℕ) : Type 0 where
-  pub refused : a ≡ Refused n 0 0
+pub record Refuses (n : ℕ) (buffer scratch answer buffer′ scratch′ : List ℕ) : Type 0 where
+  pub refused : answer ≡ n ∷ 0 ∷ 0 ∷ []
   pub same-buffer : buffer′ ≡ buffer
   pub same-scratch : scratch′ ≡ scratch
 
--- a row holds of the call: with buffers that are long enough it shows what the row says; with shorter ones it is refused under 2 or 5
-pub record Holds (r : Row) : Type 0 where
-  pub long : (buffer scratch : List ℕ) (a : Answer) (buffer′ scratch′ : List ℕ) → words r ≤ length buffer → room r ≤ length scratch
-      → Called r buffer scratch a buffer′ scratch′ → Shows r buffer scratch a buffer′ scratch′
-  pub short-buffer : (buffer scratch : List ℕ) (a : Answer) (buffer′ scratch′ : List ℕ) → length buffer < words r
-      → Called r buffer scratch a buffer′ scratch′ → Refuses 2 buffer scratch a buffer′ scratch′
-  pub short-scratch : (buffer scratch : List ℕ) (a : Answer) (buffer′ scratch′ : List ℕ) → words r ≤ length buffer → length scratch < room r
-      → Called r buffer scratch a buffer′ scratch′ → Refuses 5 buffer scratch a buffer′ scratch′
+-- a row holds of every call in `Called`, a relation of both buffers at entry, the answer's numbers and both buffers at exit: with buffers
+-- that are long enough it shows what the row says; with shorter ones it is refused under 2 or 5
+pub record Holds (r : Row) (Called : List ℕ → List ℕ → List ℕ → List ℕ → List ℕ → Type 0) : Type 0 where
+  pub long : (buffer scratch answer buffer′ scratch′ : List ℕ) → words r ≤ length buffer → room r ≤ length scratch
+      → Called buffer scratch answer buffer′ scratch′ → Shows r buffer scratch answer buffer′ scratch′
+  pub short-buffer : (buffer scratch answer buffer′ scratch′ : List ℕ) → length buffer < words r
+      → Called buffer scratch answer buffer′ scratch′ → Refuses 2 buffer scratch answer buffer′ scratch′
+  pub short-scratch : (buffer scratch answer buffer′ scratch′ : List ℕ) → words r ≤ length buffer → length scratch < room r
+      → Called buffer scratch answer buffer′ scratch′ → Refuses 5 buffer scratch answer buffer′ scratch′
+
+-- the call on a row's image with its limits keeps its promise, with an answer of these numbers
+pub record Promised (r : Row) (buffer scratch answer buffer′ scratch′ : List ℕ) : Type 0 where
+  pub given : Answer
+  pub numbers : answer ≡ numbersOf given
+  pub kept : Lowered (r .image) (r .limits .0) (r .limits .1) buffer scratch given buffer′ scratch′

@@ -54,7 +54,7 @@ k1-seen : seen k1 ≡ said k1
 unfolding computing
 k1-seen = refl
 
-pub k1-holds : Holds k1
+pub k1-holds : Holds k1 (Row.Promised k1)
 k1-holds = carried k1 k1-seen
 
 abbrev pub k2 : Row.Row
@@ -74,7 +74,7 @@ k2-seen : seen k2 ≡ said k2
 unfolding computing
 k2-seen = refl
 
-pub k2-holds : Holds k2
+pub k2-holds : Holds k2 (Row.Promised k2)
 k2-holds = carried k2 k2-seen
 
 abbrev pub k3 : Row.Row
@@ -94,7 +94,7 @@ k3-seen : seen k3 ≡ said k3
 unfolding computing
 k3-seen = refl
 
-pub k3-holds : Holds k3
+pub k3-holds : Holds k3 (Row.Promised k3)
 k3-holds = carried k3 k3-seen
 
 abbrev pub k3-sum : Row.Row
@@ -114,7 +114,7 @@ k3-sum-seen : seen k3-sum ≡ said k3-sum
 unfolding computing
 k3-sum-seen = refl
 
-pub k3-sum-holds : Holds k3-sum
+pub k3-sum-holds : Holds k3-sum (Row.Promised k3-sum)
 k3-sum-holds = carried k3-sum k3-sum-seen
 
 abbrev pub k3′ : Row.Row
@@ -134,7 +134,7 @@ k3′-seen : seen k3′ ≡ said k3′
 unfolding computing
 k3′-seen = refl
 
-pub k3′-holds : Holds k3′
+pub k3′-holds : Holds k3′ (Row.Promised k3′)
 k3′-holds = carried k3′ k3′-seen
 
 abbrev pub k4 : Row.Row
@@ -154,7 +154,7 @@ k4-seen : seen k4 ≡ said k4
 unfolding computing
 k4-seen = refl
 
-pub k4-holds : Holds k4
+pub k4-holds : Holds k4 (Row.Promised k4)
 k4-holds = carried k4 k4-seen
 
 abbrev pub k4-sum : Row.Row
@@ -174,7 +174,7 @@ k4-sum-seen : seen k4-sum ≡ said k4-sum
 unfolding computing
 k4-sum-seen = refl
 
-pub k4-sum-holds : Holds k4-sum
+pub k4-sum-holds : Holds k4-sum (Row.Promised k4-sum)
 k4-sum-holds = carried k4-sum k4-sum-seen
 
 abbrev pub k4′ : Row.Row
@@ -194,7 +194,7 @@ k4′-seen : seen k4′ ≡ said k4′
 unfolding computing
 k4′-seen = refl
 
-pub k4′-holds : Holds k4′
+pub k4′-holds : Holds k4′ (Row.Promised k4′)
 k4′-holds = carried k4′ k4′-seen
 
 abbrev pub k5 : Row.Row
@@ -214,7 +214,7 @@ k5-seen : seen k5 ≡ said k5
 unfolding computing
 k5-seen = refl
 
-pub k5-holds : Holds k5
+pub k5-holds : Holds k5 (Row.Promised k5)
 k5-holds = carried k5 k5-seen
 
 abbrev pub k6 : Row.Row
@@ -234,7 +234,7 @@ k6-seen : seen k6 ≡ said k6
 unfolding computing
 k6-seen = refl
 
-pub k6-holds : Holds k6
+pub k6-holds : Holds k6 (Row.Promised k6)
 k6-holds = carried k6 k6-seen
 
 abbrev pub k7 : Row.Row
@@ -254,7 +254,7 @@ k7-seen : seen k7 ≡ said k7
 unfolding computing
 k7-seen = refl
 
-pub k7-holds : Holds k7
+pub k7-holds : Holds k7 (Row.Promised k7)
 k7-holds = carried k7 k7-seen
 
 abbrev pub k8 : Row.Row
@@ -274,7 +274,7 @@ k8-seen : seen k8 ≡ said k8
 unfolding computing
 k8-seen = refl
 
-pub k8-holds : Holds k8
+pub k8-holds : Holds k8 (Row.Promised k8)
 k8-holds = carried k8 k8-seen
 
 abbrev pub k9 : Row.Row
@@ -294,7 +294,7 @@ k9-seen : seen k9 ≡ said k9
 unfolding computing
 k9-seen = refl
 
-pub k9-holds : Holds k9
+pub k9-holds : Holds k9 (Row.Promised k9)
 k9-holds = carried k9 k9-seen
 
 abbrev pub k10 : Row.Row
@@ -314,7 +314,7 @@ k10-seen : seen k10 ≡ said k10
 unfolding computing
 k10-seen = refl
 
-pub k10-holds : Holds k10
+pub k10-holds : Holds k10 (Row.Promised k10)
 k10-holds = carried k10 k10-seen
 
 abbrev pub k10-sum : Row.Row
@@ -334,7 +334,7 @@ k10-sum-seen : seen k10-sum ≡ said k10-sum
 unfolding computing
 k10-sum-seen = refl
 
-pub k10-sum-holds : Holds k10-sum
+pub k10-sum-holds : Holds k10-sum (Row.Promised k10-sum)
 k10-sum-holds = carried k10-sum k10-sum-seen
 
 abbrev pub k10′ : Row.Row
@@ -354,7 +354,7 @@ k10′-seen : seen k10′ ≡ said k10′
 unfolding computing
 k10′-seen = refl
 
-pub k10′-holds : Holds k10′
+pub k10′-holds : Holds k10′ (Row.Promised k10′)
 k10′-holds = carried k10′ k10′-seen
 
 abbrev pub k11 : Row.Row
@@ -374,7 +374,7 @@ k11-seen : seen k11 ≡ said k11
 unfolding computing
 k11-seen = refl
 
-pub k11-holds : Holds k11
+pub k11-holds : Holds k11 (Row.Promised k11)
 k11-holds = carried k11 k11-seen
 
 abbrev pub k12 : Row.Row
@@ -394,5 +394,5 @@ k12-seen : seen k12 ≡ said k12
 unfolding computing
 k12-seen = refl
 
-pub k12-holds : Holds k12
+pub k12-holds : Holds k12 (Row.Promised k12)
 k12-holds = carried k12 k12-seen
