@@ -4,24 +4,31 @@
 //! for netlists.
 
 mod big_stack;
+mod building;
+mod expressions;
 mod listing;
 mod module_image;
 mod module_sim;
 mod netlist_sim;
+mod prepared;
 mod rtl;
 mod simulation;
 mod words;
 
-// Two copies of the lowering: `plain` (unchanged) and `limited` (limits.patch).
+// Two copies of the lowering: `plain` (unchanged) and `limited` (limits.patch);
+// `ranged` is the range analysis alone (ranges.patch).
 include!(concat!(env!("OUT_DIR"), "/copies.rs"));
 
 use std::any::Any;
 use std::panic::{AssertUnwindSafe, catch_unwind};
 
 pub use big_stack::with_big_stack;
+pub use building::{Built, Operation, build, digest};
+pub use expressions::{Fused, Ranged, expressions};
 pub use listing::{Check, LISTING_LIMITS, listing};
 pub use module_sim::ModuleSim;
 pub use netlist_sim::NetlistSim;
+pub use prepared::{Lowered, Prepared};
 pub use simulation::{Contents, NoRun, Observation, Setting};
 pub use words::words;
 

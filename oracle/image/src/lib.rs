@@ -8,9 +8,11 @@ mod chain;
 mod disassemble;
 mod format;
 mod generate;
+pub mod heavy;
 mod mutate;
 mod random;
 mod shapes;
+mod tables;
 mod text;
 
 pub use assemble::{assemble, AsmError};
@@ -22,3 +24,4 @@ pub use format::*;
 pub use generate::{generate, Size};
 pub use mutate::mutate;
 pub use random::Random;
+pub use tables::table;

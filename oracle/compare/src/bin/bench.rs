@@ -1,14 +1,15 @@
 //! Benchmarks of the port's calls beside the Rust, in one run, on the same
 //! images: time per call and ratio. It measures; it judges nothing.
 
-use compare::limits::Limits;
-use compare::subject::{Library, Subject, HAS_CHECK};
-use image::{Image, ABSENT};
+use compare::limits::{Limits, Taken};
+use compare::subject::{Library, Subject, HAS_CHECK, HAS_LOWER};
+use image::{deepest, generate, Image, Size, ABSENT};
 use std::hint::black_box;
 use std::time::Instant;
 
 const USAGE: &str = "bench
-    Times struo_check of the port's library beside the reference checks.";
+    Times struo_check of the port's library beside the reference checks, and
+    struo_lower, if the library exports it, beside struo's own lowering.";
 
 fn main() {
     if std::env::args().len() > 1 {
@@ -19,10 +20,56 @@ fn main() {
         eprintln!("bench: no library with struo_check: run oracle/run-compare first");
         std::process::exit(2);
     }
-    println!("{:<32} {:>8} {:>12} {:>12} {:>7}", "image", "bytes", "port ns", "reference ns", "ratio");
-    for (name, bytes) in images() {
-        row(name, &bytes);
-    }
+    driver::with_big_stack(|| {
+        heading("struo_check", "reference ns");
+        for (name, bytes) in images() {
+            check_row(name, &bytes);
+        }
+        heading("struo_lower", "Rust ns");
+        for (name, bytes) in accepted_images().into_iter().filter(|_| HAS_LOWER) {
+            lower_row(name, &bytes);
+        }
+        if !HAS_LOWER {
+            println!("not exported by the library");
+        }
+    });
+}
+
+fn heading(call: &str, other: &str) {
+    println!("{call}\n{:<32} {:>8} {:>12} {:>12} {:>7}", "image", "bytes", "port ns", other, "ratio");
+}
+
+fn print_row(name: &str, image: &[u8], port: f64, other: f64) {
+    println!("{name:<32} {:>8} {port:>12.0} {other:>12.0} {:>7.2}", image.len(), port / other);
+}
+
+/// Images that are accepted with limits large enough: random ones, the first of
+/// each size that is, and the one that nests deepest.
+fn accepted_images() -> Vec<(&'static str, Vec<u8>)> {
+    let first = |size: Size| {
+        let images = (1..).map(|seed| generate(seed, size).encode());
+        let is_accepted = |image: &Vec<u8>| matches!(driver::lower(image, false), driver::Answer::Netlist { .. });
+        images.into_iter().find(is_accepted).expect("an accepted image")
+    };
+    vec![
+        ("header only", Image::default().encode()),
+        ("random, tiny", first(Size::Tiny)),
+        ("random, small", first(Size::Small)),
+        ("random, medium", first(Size::Medium)),
+        ("random, large", first(Size::Large)),
+        ("deepest", deepest(32, 1_000).encode()),
+    ]
+}
+
+/// Both sides get limits that just serve, and write the netlist's words.
+fn lower_row(name: &str, image: &[u8]) {
+    let Taken { nets, list_words: p } = Taken::by(image);
+    let n = nets.max(1);
+    let mut netlist = vec![0; reference::netlist_words(n, p)];
+    let mut scratch = vec![0; reference::scratch_words(image, n).expect("an accepted image")];
+    let port = nanoseconds(|| Library.lower(black_box(image), n, p, &mut netlist, &mut scratch));
+    let rust = nanoseconds(|| driver::words(&driver::lower_limited(black_box(image), n, p, false), n, p));
+    print_row(name, image, port, rust);
 }
 
 fn images() -> Vec<(&'static str, Vec<u8>)> {
@@ -31,20 +78,20 @@ fn images() -> Vec<(&'static str, Vec<u8>)> {
     last_name.names[end] = 32;
     vec![
         ("header only", Image::default().encode()),
-        ("random, tiny", image::generate(1, image::Size::Tiny).encode()),
-        ("random, medium", image::generate(1, image::Size::Medium).encode()),
-        ("random, large", image::generate(1, image::Size::Large).encode()),
+        ("random, tiny", generate(1, Size::Tiny).encode()),
+        ("random, medium", generate(1, Size::Medium).encode()),
+        ("random, large", generate(1, Size::Large).encode()),
         ("largest", largest().encode()),
         ("largest, last name bad", last_name.encode()),
     ]
 }
 
-fn row(name: &str, image: &[u8]) {
+fn check_row(name: &str, image: &[u8]) {
     let limits = Limits { n: 65535, p: 65535, netlist_words: 458_761, scratch_words: 500_000 };
     let port = nanoseconds(|| Library.check(black_box(image), &limits));
     let reference =
         nanoseconds(|| reference::check(black_box(image), limits.n, limits.p, limits.netlist_words, limits.scratch_words));
-    println!("{name:<32} {:>8} {port:>12.0} {reference:>12.0} {:>7.2}", image.len(), port / reference);
+    print_row(name, image, port, reference);
 }
 
 /// The least time of a call over some rounds of about 50 ms each.

@@ -1,0 +1,228 @@
+-- From what is known on the way through building to what it promises: what the reads ask, that the nets made are numbers of nets, and what
+-- is left at the end. Assumes nothing.
+use mathlib.Core.Path.{_≡_, refl, sym, ap, subst, _∙_}
+use mathlib.Core.Bool.{Bool, true}
+use mathlib.Core.List.{List, [], _∷_}
+use mathlib.Core.Option.{none}
+use Prim.Native.Nat.{ℕ, _+_, _*_, _-_, _≤_, _<_}
+use native.Mathlib.Omega.{arith}
+use borrow.Rule.Slice.PartMut.{putMid}
+use lib.ListN.{length, getD, take, drop}
+use lib.Seq.{length-take-le, getD-take}
+use Rattle.rtl.specs.Rtl.{Valuation}
+use Rattle.meaning.specs.Image.{countAt, exprWidth}
+use Rattle.model.specs.Words.{Netlist}
+use Rattle.model.specs.Builder.{Made, Out, refused, done}
+use Rattle.model.specs.Ranges as ranges
+use Rattle.model.specs.Lowering.{State, Need, Bit, Whole, Range, Step, Always, Unless, withNetlist, whole, wholeSteps, rangeSteps, setWhole, setRange, keepWhole, keepRange}
+use Rattle.records.specs.Expr.{kindMeans, expressionOf, decoded}
+use Rattle.records.specs.declared.ExprKind.{ExprKind}
+use Rattle.records.specs.declared.ExprKind.the-variants as K
+use Rattle.accepted.specs.Fits.{kindFits}
+use Rattle.accepted.specs.Formed.{readable}
+use Rattle.expr_laws.specs.Exprs.{exprsOf, kind-read}
+use Rattle.netlist_laws.specs.Sound.{count}
+use Rattle.netlist_view.specs.View.{netlistOf}
+use Rattle.netlist_index.specs.Index.{Held}
+use Rattle.constant_fold.specs.Values.{filledOf, Fills}
+use Rattle.constant_fold.specs.declared.Filled.{Filled}
+use Rattle.constant_fold.specs.declared.Filled.the-variants as F
+use Rattle.table_view.specs.View.{limitOf, Laid, Writes}
+use Rattle.table_view.specs.Bounds.{whole-told, expr-count, expr-width}
+use Rattle.tables.specs.Answers.{Small}
+use Rattle.tasks.specs.Tasks.{Read, jobMade}
+use Rattle.tasks.specs.declared.Job.{Job}
+use Rattle.whole_reads.specs.Asked.{NeedWhole, AllWhole, SignalIn, Tabled, Asked}
+use Rattle.range_reads.specs.Asked.{AskedRange}
+use Rattle.walk_laws.specs.Kept.{Table, Holds, Makes}
+use Rattle.walk_laws.specs.Reads.{below-at}
+use Rattle.plan.specs.Plan.{stepNeeds}
+use Rattle.plan.specs.Fits.{AllFit}
+use Rattle.walk_view.specs.Image.{fits, width-is}
+use Rattle.walk_view.specs.Met.{met, AllMet, Grows, grows-netlist, grows-whole, grows-range, meets-whole, meets-range}
+use Rattle.walk_view.specs.View.{indexOf, walkState, There, Ready, Sure, Builds, outOf}
+use Rattle.walk_view.specs.declared.Lowered.{Lowered}
+use Rattle.walk_view.specs.declared.Lowered.the-variants as L
+use Rattle.sure_laws.specs.Stores.{kept-then, no-store, stored-ready, stored-kept, stored-state, lent-stays, lent-ready, lent-kept, lent-state}
+use Rattle.sure_laws.specs.Makes.{has, whole-there, range-there, makes-below}
+use Rattle.build.specs.Built.{Performed, loweredOf, storedBy, Keeps}
+
+-- ---- what the reads ask ----
+
+signal-in : (s : List ℕ) (e v : ℕ) (k : ExprKind) → kindFits s e v k → SignalIn s v (kindMeans s v k)
+unfolding kindMeans
+signal-in s e v (K.Signal p lsb) f = f
+signal-in s e v (K.Constant start) f = tt
+signal-in s e v (K.Unary op a) f = tt
+signal-in s e v (K.Binary op a b) f = tt
+signal-in s e v (K.Mux c t d) f = tt
+signal-in s e v (K.Concat start n) f = tt
+signal-in s e v (K.Slice a lsb) f = tt
+
+module _ (s net w : List ℕ) (r : Ready s net w) (e : ℕ) (h : e < countAt s 1) where
+  tabled : Tabled s w e
+  tabled =
+      let x = expressionOf s e in
+      let k : (ranges.exprAt (exprsOf s) e) .kind ≡ kindMeans s (x .width) (x .kind) = kind-read s (readable s (r .accepted)) e h x (decoded s e x refl) in
+      let k′ : (ranges.exprAt (exprsOf s) e) .kind ≡ kindMeans s (exprWidth s e) (x .kind) = k ∙ ap (λ (v : ℕ). kindMeans s v (x .kind)) (width-is s e) in
+      record {
+        laid = r .laid;
+        readable = readable s (r .accepted);
+        inside = h;
+        signals = subst (SignalIn s (exprWidth s e)) (sym k′) (signal-in s e (exprWidth s e) (x .kind) (fits s e (r .accepted) h));
+        narrowed = r .narrowed e h;
+      }
+
+  need-whole : (n : Need) → There s n → met (walkState s net w) n ≡ true → NeedWhole s w n
+  unfolding met
+  need-whole (Bit p b) t m = tt
+  need-whole (Whole d) t m =
+      let q = has (whole (walkState s net w) d) m in
+      whole-told s w (netlistOf (limitOf w) net) d (r .laid) t (q .value) (q .is)
+  need-whole (Range d lsb k) t m = tt
+
+  all-whole : (c : ℕ) (ss : List Step) → AllFit s c (stepNeeds ss) → AllMet (walkState s net w) ss → AllWhole s w ss
+  all-whole c [] f m = tt
+  all-whole c (Always n ∷ ss) f m = (need-whole n (f .0 .0) (m .0), all-whole c ss (f .1) (m .1))
+  all-whole c (Unless x v n ∷ ss) f m = (need-whole n (f .0 .0) (m .0), all-whole c ss (f .1) (m .1))
+
+  pub asked : AllMet (walkState s net w) (wholeSteps (exprsOf s) e) → Asked s w e
+  asked m = record { tabled = tabled; whole = all-whole (2 * e + 1) (wholeSteps (exprsOf s) e) (whole-there s (r .accepted) e h) m }
+
+  pub asked-range : (lsb k : ℕ) → 1 ≤ k → lsb + k ≤ exprWidth s e → AllMet (walkState s net w) (rangeSteps (exprsOf s) e lsb k) → AskedRange s w e lsb k
+  asked-range lsb k l i m = record {
+    tabled = tabled;
+    least = l;
+    inside = i;
+    whole = all-whole (2 * e + 2) (rangeSteps (exprsOf s) e lsb k) (range-there s (r .accepted) e h lsb k i) m;
+  }
+
+-- ---- what is made ----
+
+-- the index is lent from word 64 on, to the end as the code has it
+pub lent : (s net w : List ℕ) → Ready s net w → Held (limitOf w) net (take (64 + 4 * limitOf w - 64) (drop 64 w))
+lent s net w r = let n : 4 * limitOf w ≡ 64 + 4 * limitOf w - 64 = omega arith in subst (λ (k : ℕ). Held (limitOf w) net (take k (drop 64 w))) n (r .held)
+
+pub make-way : (model : Made (List ℕ)) (s net w net′ idx out : List ℕ) (r : Filled) → Ready s net w → length net′ ≡ length net → Fills model (limitOf w) r out net′ idx
+    → Performed model s net w r out net′ (putMid 64 (64 + 4 * limitOf w - 64) w idx)
+make-way model s net w net′ idx out r g l f = record {
+  says = f .says;
+  ready = lent-ready s net w net′ idx g l (f .held);
+  kept = lent-kept s net w net′ idx g l (f .held);
+  limit = lent-stays s net w net′ idx g l (f .held) .limit;
+  state = lent-state s net w net′ idx g l (f .held);
+}
+
+-- the width as it was read
+pub read-at : (model : Netlist → Made (List ℕ)) (s xs ys : List ℕ) (k v : ℕ) (j : Job) → k ≡ v → Read model s v j xs ys → Read model s k j xs ys
+read-at model s xs ys k v j q a = subst (λ (n : ℕ). Read model s n j xs ys) (sym q) a
+
+-- the nets made have room in the list
+pub room : (k : ℕ) (xs′ xs : List ℕ) → k ≤ 1024 → length xs′ ≡ length xs → length xs ≡ 1024 → k ≤ length xs′
+room k xs′ xs h l m = omega arith
+
+-- a job's nets are what the model makes
+pub job-model : (model : Netlist → Made (List ℕ)) (s net w xs ys : List ℕ) (k : ℕ) (j : Job) (l : Netlist) (r : Filled) (out net′ w′ : List ℕ) → Read model s k j xs ys
+    → Performed (jobMade s k j xs ys l) s net w r out net′ w′ → Performed (model l) s net w r out net′ w′
+job-model model s net w xs ys k j l r out net′ w′ a p = record {
+  says = a .says l ∙ p .says;
+  ready = p .ready;
+  kept = p .kept;
+  limit = p .limit;
+  state = p .state;
+}
+
+-- the nets made are numbers of nets
+pub small : {l : Netlist} {t : Table} {u : Valuation → List Bool} (model : Made (List ℕ)) (s net w net′ w′ xs : List ℕ) (k : ℕ) (r : Filled) → k ≤ length xs
+    → Makes l (λ ns l₁. Holds l₁ t ns u) model → Performed model s net w r (take k xs) net′ w′ → r ≡ F.Done → Small k xs
+small model s net w net′ w′ xs k r long m p e i v =
+    let l = netlistOf (limitOf w) net′ in
+    let b = makes-below model (take k xs) l m (p .says ∙ ap (λ (x : Filled). filledOf x (take k xs) l) e) in
+    let x = below-at (count l) (take k xs) i 0 (omega (arith, length-take-le k xs long)) b in
+    let q = subst (λ (n : ℕ). Held n net′ (indexOf w′)) (p .limit) (p .ready .held) in
+    omega (arith, getD-take k xs i 0 v, x, q .built .fit .few, q .built .nets)
+
+-- ---- what is kept ----
+
+module _ (op : State → State) (s w : List ℕ) (made : Filled) where
+  pub keeps-done : (w′ : List ℕ) → made ≡ F.Done → Writes op s w w′ → Keeps op s w made L.Done w′
+  keeps-done w′ e h = subst (λ (x : Filled). Keeps op s w x L.Done w′) (sym e) (record { answers = refl; writes = h })
+
+  pub keeps-nets : made ≡ F.TooManyNets → Laid s w → Keeps op s w made L.TooManyNets w
+  keeps-nets e h = subst (λ (x : Filled). Keeps op s w x L.TooManyNets w) (sym e) (record { answers = refl; writes = no-store s w h })
+
+  pub keeps-list : made ≡ F.ListFull → Laid s w → Keeps op s w made L.ListFull w
+  keeps-list e h = subst (λ (x : Filled). Keeps op s w x L.ListFull w) (sym e) (record { answers = refl; writes = no-store s w h })
+
+-- ---- what is left at the end ----
+
+-- the model's keep of nets, and of a refusal
+pub record Stores (st : State) (op : State → State) (out : List ℕ) (keep : Made (List ℕ) → Out State) : Type 0 where
+  pub made : (l : Netlist) → keep (done (out, l)) ≡ done (op (withNetlist st l))
+  pub refuses : (n x y : ℕ) → keep (refused n x y) ≡ refused n x y
+
+module _ (model : Made (List ℕ)) (s net w net′ w₁ w′ out : List ℕ) (n : Need) (op : State → State) (keep : Made (List ℕ) → Out State) (long : length w′ ≡ length w₁)
+    (k : Stores (walkState s net w) op out keep) (grow : Grows (walkState s net′ w₁) (op (walkState s net′ w₁))) (meet : met (op (walkState s net′ w₁)) n ≡ true) where
+  says : (made : Filled) → Performed model s net w made out net′ w₁ → Writes (storedBy made op) s w₁ w′ → keep model ≡ outOf (loweredOf made) (walkState s net′ w′)
+  says F.Done p x =
+      ap keep (p .says) ∙ k .made (netlistOf (limitOf w) net′) ∙ ap (λ (st : State). done (op st)) (sym (p .state))
+      ∙ ap (λ (st : State). done st) (sym (stored-state op s net′ w₁ w′ (p .ready) x long))
+  says F.TooManyNets p x = ap keep (p .says) ∙ k .refuses 9 0 0
+  says F.ListFull p x = ap keep (p .says) ∙ k .refuses 10 0 0
+
+  stored-grow : (made : Filled) → Grows (walkState s net′ w₁) (storedBy made op (walkState s net′ w₁))
+  stored-grow F.Done = grow
+  stored-grow F.TooManyNets = λ m h. h
+  stored-grow F.ListFull = λ m h. h
+
+  meets : (made : Filled) → loweredOf made ≡ L.Done → met (storedBy made op (walkState s net′ w₁)) n ≡ true
+  meets F.Done e = meet
+  meets F.TooManyNets e = let z : _≡_ {A = ℕ} 0 1 = cc in absurd (omega arith)
+  meets F.ListFull e = let z : _≡_ {A = ℕ} 0 1 = cc in absurd (omega arith)
+
+  pub built : (made : Filled) (r : Lowered) → Performed model s net w made out net′ w₁ → Keeps op s w₁ made r w′ → Builds (keep model) s net w n r net′ w′
+  built made r p x =
+      let f = stored-state (storedBy made op) s net′ w₁ w′ (p .ready) (x .writes) long in
+      subst (λ (y : Lowered). Builds (keep model) s net w n y net′ w′) (sym (x .answers))
+      (record {
+        says = says made p (x .writes);
+        ready = stored-ready (storedBy made op) s net′ w₁ w′ (p .ready) (x .writes) long;
+        kept = kept-then s net w net′ w₁ net′ w′ (p .kept) (stored-kept (storedBy made op) s net′ w₁ w′ (p .ready) (x .writes) long);
+        meets = λ e. ap (λ (st : State). met st n) f ∙ meets made e;
+        grows = λ m h. ap (λ (st : State). met st m) f ∙ stored-grow made m (ap (λ (st : State). met st m) (p .state) ∙ grows-netlist (walkState s net w) (netlistOf (limitOf w) net′) m h);
+      })
+
+module _ (s net w net′ w₁ w′ xs : List ℕ) (e : ℕ) (made : Filled) (r : Lowered) (i : Sure s net w) (h : e < countAt s 1) (long : length w′ ≡ length w₁) where
+  whole-stores : (k : ℕ) → Stores (walkState s net w) (λ st. setWhole st e (take k xs)) (take k xs) (keepWhole (walkState s net w) e)
+  unfolding keepWhole
+  whole-stores k = record { made = λ l. refl; refuses = λ n x y. refl }
+
+  range-stores : (lsb k : ℕ) → Stores (walkState s net w) (λ st. setRange st e lsb (take k xs)) (take k xs) (keepRange (walkState s net w) e lsb)
+  unfolding keepRange
+  range-stores lsb k = record { made = λ l. refl; refuses = λ n x y. refl }
+
+  pub built-whole : (k : ℕ) (model : Made (List ℕ)) → Performed model s net w made (take k xs) net′ w₁ → Keeps (λ st. setWhole st e (take k xs)) s w₁ made r w′
+      → Builds (keepWhole (walkState s net w) e model) s net w (Whole e) r net′ w′
+  built-whole k model p x =
+      let there : e < length (walkState s net′ w₁ .expressionBits) = subst (λ (st : State). e < length (st .expressionBits)) (sym (p .state)) (omega (arith, i .entries, expr-count s)) in
+      built model s net w net′ w₁ w′ (take k xs) (Whole e) (λ st. setWhole st e (take k xs)) (keepWhole (walkState s net w) e) long (whole-stores k)
+      (grows-whole (walkState s net′ w₁) e (take k xs)) (meets-whole (walkState s net′ w₁) e (take k xs) there) made r p x
+
+  -- the row of an expression that is not whole has its width
+  row-room : (lsb k : ℕ) → lsb + k ≤ exprWidth s e → k ≤ length xs → (l : Netlist) → whole (withNetlist (walkState s net w) l) e ≡ none
+      → lsb + length (take k xs) ≤ length (getD (withNetlist (walkState s net w) l .expressionRanges) e [])
+  unfolding whole
+  row-room lsb k inside fit l q =
+      let u : e < length (exprsOf s) = omega (arith, expr-count s) in
+      omega (arith, length-take-le k xs fit, i .cells e u q, expr-width s e h)
+
+  pub built-range : (lsb k : ℕ) → lsb + k ≤ exprWidth s e → k ≤ length xs → (model : Made (List ℕ)) → Performed model s net w made (take k xs) net′ w₁
+      → Keeps (λ st. setRange st e lsb (take k xs)) s w₁ made r w′ → Builds (keepRange (walkState s net w) e lsb model) s net w (Range e lsb k) r net′ w′
+  built-range lsb k inside fit model p x =
+      let room = subst (λ (st : State). whole st e ≡ none → lsb + length (take k xs) ≤ length (getD (st .expressionRanges) e [])) (sym (p .state))
+      (row-room lsb k inside fit (netlistOf (limitOf w) net′)) in
+      let there : e < length (walkState s net′ w₁ .expressionRanges) = subst (λ (st : State). e < length (st .expressionRanges)) (sym (p .state)) (omega (arith, i .rows, expr-count s)) in
+      built model s net w net′ w₁ w′ (take k xs) (Range e lsb k) (λ st. setRange st e lsb (take k xs)) (keepRange (walkState s net w) e lsb) long (range-stores lsb k)
+      (grows-range (walkState s net′ w₁) e lsb (take k xs) room)
+      (subst (λ (m : ℕ). met (setRange (walkState s net′ w₁) e lsb (take k xs)) (Range e lsb m) ≡ true) (length-take-le k xs fit)
+      (meets-range (walkState s net′ w₁) e lsb (take k xs) room there)) made r p x

@@ -1,0 +1,2 @@
+-- What the steps of building give.
+pub mod Built

@@ -1,0 +1,106 @@
+// What an expression, or a range of it, is made of once its operands are lowered: they are read from the tables, the nets are made, and
+// the tables keep them. Follows the ends of `lower_expression` and `lower_expression_range` of struo-synth.
+ghost use mathlib.Core.Path.{_≡_};
+ghost use mathlib.Core.Bool.{false};
+ghost use Prim.Native.Nat.{_+_, _≤_, _<_};
+ghost use lib.ListN.{length, take};
+ghost use Rattle.meaning.specs.Image.{countAt, exprWidth};
+ghost use Rattle.model.specs.Lowering as model;
+ghost use Rattle.expr_laws.specs.Exprs.{exprsOf};
+ghost use Rattle.netlist_view.specs.View.{netlistOf};
+ghost use Rattle.constant_fold.specs.declared.Filled.the-variants as F;
+ghost use Rattle.table_view.specs.View.{limitOf, Laid};
+ghost use Rattle.tables.specs.Answers.{Small};
+ghost use Rattle.tasks.specs.Tasks.{jobMade, JobFits};
+ghost use Rattle.walk_view.specs.Met.{AllMet};
+ghost use Rattle.walk_view.specs.View.{walkState, Ready, Sure, Builds};
+ghost use Rattle.build.specs.Built.{Performed, Keeps};
+use constant_fold::Filled;
+use tasks::Job;
+use walk_view::Lowered;
+
+// What a job makes of the nets read; the index is a part of the scratch.
+fn make(
+    image: &[u8],
+    net: &mut [u32],
+    scr: &mut [u32],
+    job: Job,
+    w: u32,
+    xs: &mut [u32],
+    ys: &[u32],
+) -> Filled
+    requires { ⌜ (Ready (now image) (now net) (now scr)) × (JobFits w job) × (length (now xs) ≡ 1024) × (length (now ys) ≡ 1024) ⌝ }
+    ensures { λ r. ⌜ Performed (jobMade (now (image .entry)) w job (now (xs .entry)) (now (ys .entry)) (netlistOf (limitOf (now (scr .entry))) (now (net .entry)))) (now (image .entry)) (now (net .entry)) (now (scr .entry)) r (take w (now (xs .exit))) (now (net .exit)) (now (scr .exit)) ⌝ }
+{
+    let n = scr[0];
+    let end = 64 + 4 * (n as usize);
+    perform::perform(image, net, &mut scr[64..end], n, job, w, xs, ys)
+}
+
+// The nets made are those of the whole expression.
+fn keep_whole(image: &[u8], scr: &mut [u32], e: u32, nets: &[u32], w: u32, made: Filled) -> Lowered
+    requires { ⌜ (Laid (now image) (now scr)) × (e < countAt (now image) 1) × (w ≡ exprWidth (now image) e) × (w ≤ length (now nets)) × (made ≡ F.Done → Small w (now nets)) ⌝ }
+    ensures { λ r. ⌜ Keeps (λ st. model.setWhole st e (take w (now (nets .entry)))) (now (image .entry)) (now (scr .entry)) made r (now (scr .exit)) ⌝ }
+{
+    match made {
+        Filled::Done => {
+            tables::keep_whole(image, scr, e, nets, w);
+            Lowered::Done
+        }
+        Filled::TooManyNets => Lowered::TooManyNets,
+        Filled::ListFull => Lowered::ListFull,
+    }
+}
+
+pub fn build_whole(image: &[u8], net: &mut [u32], scr: &mut [u32], e: u32) -> Lowered
+    requires { ⌜ (Ready (now image) (now net) (now scr)) × (Sure (now image) (now net) (now scr)) × (e < countAt (now image) 1) × AllMet (walkState (now image) (now net) (now scr)) (model.wholeSteps (exprsOf (now image)) e) ⌝ }
+    ensures { λ r. ⌜ Builds (model.keepWhole (walkState (now (image .entry)) (now (net .entry)) (now (scr .entry))) e (model.buildWhole (exprsOf (now (image .entry))) false (walkState (now (image .entry)) (now (net .entry)) (now (scr .entry))) e)) (now (image .entry)) (now (net .entry)) (now (scr .entry)) (model.Whole e) r (now (net .exit)) (now (scr .exit)) ⌝ }
+{
+    let mut xs = [0u32; 1024];
+    let mut ys = [0u32; 1024];
+    let w = fields::expr_width(image, e);
+    let job = whole_reads::read_whole(image, scr, e, &mut xs, &mut ys);
+    let made = make(image, net, scr, job, w, &mut xs, &ys);
+    keep_whole(image, scr, e, &xs, w, made)
+}
+
+// The nets made are those of w bits of the expression, from lsb on.
+fn keep_range(
+    image: &[u8],
+    scr: &mut [u32],
+    e: u32,
+    lsb: u32,
+    nets: &[u32],
+    w: u32,
+    made: Filled,
+) -> Lowered
+    requires { ⌜ (Laid (now image) (now scr)) × (e < countAt (now image) 1) × (lsb + w ≤ exprWidth (now image) e) × (w ≤ length (now nets)) × (made ≡ F.Done → Small w (now nets)) ⌝ }
+    ensures { λ r. ⌜ Keeps (λ st. model.setRange st e lsb (take w (now (nets .entry)))) (now (image .entry)) (now (scr .entry)) made r (now (scr .exit)) ⌝ }
+{
+    match made {
+        Filled::Done => {
+            tables::keep_range(image, scr, e, lsb, nets, w);
+            Lowered::Done
+        }
+        Filled::TooManyNets => Lowered::TooManyNets,
+        Filled::ListFull => Lowered::ListFull,
+    }
+}
+
+pub fn build_range(
+    image: &[u8],
+    net: &mut [u32],
+    scr: &mut [u32],
+    e: u32,
+    lsb: u32,
+    w: u32,
+) -> Lowered
+    requires { ⌜ (Ready (now image) (now net) (now scr)) × (Sure (now image) (now net) (now scr)) × (e < countAt (now image) 1) × (1 ≤ w) × (lsb + w ≤ exprWidth (now image) e) × AllMet (walkState (now image) (now net) (now scr)) (model.rangeSteps (exprsOf (now image)) e lsb w) ⌝ }
+    ensures { λ r. ⌜ Builds (model.keepRange (walkState (now (image .entry)) (now (net .entry)) (now (scr .entry))) e lsb (model.buildRange (exprsOf (now (image .entry))) false (walkState (now (image .entry)) (now (net .entry)) (now (scr .entry))) e lsb w)) (now (image .entry)) (now (net .entry)) (now (scr .entry)) (model.Range e lsb w) r (now (net .exit)) (now (scr .exit)) ⌝ }
+{
+    let mut xs = [0u32; 1024];
+    let mut ys = [0u32; 1024];
+    let job = range_reads::read_range(image, scr, e, lsb, w, &mut xs, &mut ys);
+    let made = make(image, net, scr, job, w, &mut xs, &ys);
+    keep_range(image, scr, e, lsb, &xs, w, made)
+}

@@ -1,0 +1,2 @@
+-- Proofs of connecting memories.
+pub mod Laws

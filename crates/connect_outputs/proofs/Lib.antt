@@ -1,0 +1,2 @@
+-- Proofs of connecting outputs.
+pub mod Laws

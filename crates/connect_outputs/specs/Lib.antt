@@ -1,0 +1,2 @@
+-- What connecting one output is.
+pub mod Outputs

@@ -1,0 +1,2 @@
+-- Proofs of the parts.
+pub mod Laws

@@ -1,0 +1,2 @@
+-- Proofs of connecting registers.
+pub mod Laws

@@ -1,0 +1,2 @@
+-- What connecting one register is.
+pub mod Registers

@@ -1,0 +1,49 @@
+-- `lower::lower_accepted` meets its contract. Assumes nothing.
+use borrow.Author.Needs.{needs}
+use Rattle.lower.proofs.lower_accepted.Statement.{statement}
+use Rattle.lower.proofs.lower_accepted.Tie as tie
+use native.Mathlib.Omega.{arith}
+use Rattle.lower.proofs.Ends.{ended-way}
+
+prepare-requires : tie.Need-prepare-requires
+prepare-requires c κs = search needs
+
+phases-requires : tie.Need-phases-requires
+phases-requires c κs = search needs
+
+clear-refused-requires : tie.Need-clear-refused-requires
+clear-refused-requires c κs = search needs
+
+clear-requires : tie.Need-clear-requires
+clear-requires c κs = search needs
+
+same-length : tie.Need-same-length
+same-length c = search needs
+
+same-length-2 : tie.Need-same-length-2
+same-length-2 c = search needs
+
+returns : tie.Need-returns
+returns c =
+    let c8 = c .before .before .before .before .before .before .before .before in
+    let c16 = c8 .before .before .before .before .before .before .before .before in
+    let c24 = c16 .before .before .before .before .before .before .before .before in
+    let s = c24 .before in
+    let a = s .args in
+    let p = s .pre in
+    let x = c16 .before .before .before .prepare in
+    let y = c8 .before .before .before .before .phases in
+    ended-way (a .image .now) (a .n) _ (x .last .1 .1 .0) (x .last .1 .1 .1 .0) (y .last .1 .0) (y .last .1 .1 .0) _ _ (y .result) (omega (arith, p .sized)) (omega (arith, p .long)) (x .ensures) (y .ensures)
+    (c .before .before .before .before .before .before .clear-refused .ensures) (c .before .before .clear .ensures)
+
+pub lower-accepted-spec : {M : Type 1} → statement M
+lower-accepted-spec =
+    tie.close
+    (tie.spec
+    prepare-requires
+    phases-requires
+    clear-refused-requires
+    clear-requires
+    same-length
+    same-length-2
+    returns)

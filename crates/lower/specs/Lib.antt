@@ -1,0 +1,2 @@
+-- What the lowering call answers and leaves.
+pub mod Lower

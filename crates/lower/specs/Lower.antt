@@ -1,0 +1,86 @@
+-- The lowering call's answer as document 01's numbers, and what its steps ask and leave: the words lent to the walk, its start, its end.
+-- Assumes nothing.
+use mathlib.Core.Path.{_≡_}
+use mathlib.Core.List.{List}
+use Prim.Native.Nat.{ℕ, _+_, _*_, _≤_, _<_}
+use lib.ListN.{length, replicate}
+use Rattle.rules.specs.Rules.{Answer, Fine, Refused}
+use Rattle.meaning.specs.Image.{decode}
+use Rattle.meaning.specs.Checks.{netlistNeed, scratchNeed}
+use Rattle.model.specs.Words.{Netlist, words}
+use Rattle.model.specs.Builder.{Out, refused, done}
+use Rattle.model.specs.Lowering.{start, lower}
+use Rattle.call.specs.Call.{outcome}
+use Rattle.checks.specs.Accepted.{Accepted}
+use Rattle.netlist_view.specs.View.{room}
+use Rattle.table_view.specs.View.{limitOf}
+use Rattle.walk_view.specs.View.{walkState, Ready}
+use Rattle.walk_view.specs.declared.Lowered.{Lowered}
+use Rattle.walk_view.specs.declared.Lowered.the-variants as L
+use Rattle.lower.specs.declared.Outcome.{Outcome}
+use Rattle.lower.specs.declared.Outcome.the-variants as O
+
+-- ---- answers by number and places ----
+
+unfoldable pub answerOf : Outcome → Answer
+answerOf O.Fine = Fine
+answerOf O.Limits = Refused 1 0 0
+answerOf O.NetlistShort = Refused 2 0 0
+answerOf (O.Field f) = Refused 3 f 0
+answerOf (O.Record k r) = Refused 4 k r
+answerOf O.ScratchShort = Refused 5 0 0
+answerOf (O.Undriven p b) = Refused 6 p b
+answerOf (O.Loop p b) = Refused 7 p b
+answerOf (O.Reset r b) = Refused 8 r b
+answerOf O.TooManyNets = Refused 9 0 0
+answerOf O.ListFull = Refused 10 0 0
+
+-- the walk's answer
+unfoldable pub endOf : Lowered → Answer
+endOf L.Done = Fine
+endOf (L.Undriven p b) = Refused 6 p b
+endOf (L.Loop p b) = Refused 7 p b
+endOf (L.Reset r b) = Refused 8 r b
+endOf L.TooManyNets = Refused 9 0 0
+endOf L.ListFull = Refused 10 0 0
+
+-- ---- the walk ----
+
+-- the words lent for an accepted image and n nets
+pub record Lent (s : List ℕ) (n : ℕ) (net w : List ℕ) : Type 0 where
+  pub accepted : Accepted s
+  pub some : 0 < n
+  pub nets : n ≤ 65535
+  pub sized : 16 + 6 * n ≤ length net
+  pub list : room n net ≤ 65535
+  pub long : length w ≡ scratchNeed s n
+
+-- the words hold the model's first state
+pub record Begun (s net w : List ℕ) : Type 0 where
+  pub ready : Ready s net w
+  pub state : walkState s net w ≡ start (decode s) (limitOf w) (room (limitOf w) net)
+
+pub record Prepared (s : List ℕ) (n p : ℕ) (net w : List ℕ) : Type 0 where
+  pub begun : Begun s net w
+  pub limit : limitOf w ≡ n
+  pub list : room n net ≡ p
+
+-- the netlist words that an answer of the walk leaves
+unfoldable pub keptOf : Lowered → List ℕ → List ℕ
+keptOf L.Done net = net
+keptOf (L.Undriven p b) net = replicate (length net) 0
+keptOf (L.Loop p b) net = replicate (length net) 0
+keptOf (L.Reset r b) net = replicate (length net) 0
+keptOf L.TooManyNets net = replicate (length net) 0
+keptOf L.ListFull net = replicate (length net) 0
+
+-- the words of an outcome: the netlist image, or all 0
+unfoldable pub wordsAfter : ℕ → ℕ → Out Netlist → List ℕ
+wordsAfter n p (refused k x y) = replicate (netlistNeed n p) 0
+wordsAfter n p (done l) = words n p l
+
+-- the walk with limits n and p answered r and left these words
+pub record Ended (s : List ℕ) (n p : ℕ) (r : Lowered) (net w : List ℕ) : Type 0 where
+  pub answered : endOf r ≡ outcome (lower (decode s) n p)
+  pub image : net ≡ wordsAfter n p (lower (decode s) n p)
+  pub cleared : w ≡ replicate (scratchNeed s n) 0

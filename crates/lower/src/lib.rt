@@ -1,0 +1,137 @@
+// The lowering of a module image into a netlist image, in lent words: the checks, the start of the walk, its phases, and the clearing.
+// Follows `lower` of struo-synth.
+ghost use mathlib.Core.Path.{_≡_};
+ghost use mathlib.Core.Bool.{false};
+ghost use Rattle.meaning.specs.Image.{decode};
+ghost use Rattle.meaning.specs.Checks as rule;
+ghost use Rattle.model.specs.Lowering as model;
+ghost use Rattle.call.specs.Call as call;
+ghost use Rattle.checks.specs.Checked as checked;
+ghost use Rattle.checks.specs.Accepted.{Accepted};
+ghost use Rattle.netlist_view.specs.View.{room};
+ghost use Rattle.table_view.specs.View.{limitOf};
+ghost use Rattle.walk_view.specs.View.{Phase};
+ghost use Rattle.lower.specs.Lower.{answerOf, endOf, keptOf, Lent, Begun, Prepared, Ended};
+use checks::Checked;
+use walk_view::Lowered;
+
+// Accepted, or a refusal of document 01 with its place: 1 to 10 in this order.
+pub enum Outcome {
+    Fine,
+    Limits,
+    NetlistShort,
+    Field(u32),
+    Record(u32, u32),
+    ScratchShort,
+    Undriven(u32, u32),
+    Loop(u32, u32),
+    Reset(u32, u32),
+    TooManyNets,
+    ListFull,
+}
+
+// The start: the scratch laid out, the widths of narrowed adders, an empty netlist.
+fn prepare(image: &[u8], n: u32, net: &mut [u32], scr: &mut [u32])
+    requires { ⌜ Lent (now image) n (now net) (now scr) ⌝ }
+    ensures { λ _. ⌜ Prepared (now (image .entry)) n (room n (now (net .entry))) (now (net .exit)) (now (scr .exit)) ⌝ }
+{
+    layout::lay(image, n, false, scr);
+    let at = scr[2] as usize;
+    ranges::adder_widths(image, &mut scr[at..]);
+    nodes::start(net, n);
+}
+
+// The phases in their order, up to the first that refuses.
+fn phases(image: &[u8], net: &mut [u32], scr: &mut [u32]) -> Lowered
+    requires { ⌜ Begun (now image) (now net) (now scr) ⌝ }
+    ensures { λ r. ⌜ Phase (model.lowerState false (decode (now (image .entry))) (limitOf (now (scr .entry))) (room (limitOf (now (scr .entry))) (now (net .entry)))) (now (image .entry)) (now (net .entry)) (now (scr .entry)) r (now (net .exit)) (now (scr .exit)) ⌝ }
+{
+    let a = sources::reserve_sources(image, net, scr);
+    let Lowered::Done = a else {
+        return a;
+    };
+    let b = connect_memories::connect_memories(image, net, scr);
+    let Lowered::Done = b else {
+        return b;
+    };
+    let c = connect_registers::connect_registers(image, net, scr);
+    let Lowered::Done = c else {
+        return c;
+    };
+    connect_outputs::connect_outputs(image, net, scr)
+}
+
+// After a refusal the netlist words are 0.
+fn clear_refused(r: Lowered, net: &mut [u32])
+    ensures { λ _. ⌜ now (net .exit) ≡ keptOf r (now (net .entry)) ⌝ }
+{
+    let Lowered::Done = r else {
+        nodes::clear(net);
+        return;
+    };
+}
+
+// The walk over an accepted image, from its start to the clearing.
+fn lower_accepted(image: &[u8], n: u32, net: &mut [u32], scr: &mut [u32]) -> Lowered
+    requires { ⌜ Lent (now image) n (now net) (now scr) ⌝ }
+    ensures { λ r. ⌜ Ended (now (image .entry)) n (room n (now (net .entry))) r (now (net .exit)) (now (scr .exit)) ⌝ }
+{
+    prepare(image, n, net, scr);
+    let r = phases(image, net, scr);
+    clear_refused(r, net);
+    nodes::clear(scr);
+    r
+}
+
+// The words of the scratch that an accepted image needs.
+fn scratch_need(image: &[u8], n: u32) -> usize
+    requires { ⌜ Accepted (now image) ⌝ }
+    ensures { λ r. ⌜ r ≡ rule.scratchNeed (now (image .entry)) n ⌝ }
+{
+    let bits = 4 * header::signal_bits(image) + 2 * header::expr_bits(image);
+    let need = bits + 8 * (fields::count(image, 1) as u64) + 4 * (n as u64) + 64;
+    need as usize
+}
+
+// A check's answer.
+fn of_check(c: Checked) -> Outcome
+    ensures { λ r. ⌜ answerOf r ≡ checked.answerOf c ⌝ }
+{
+    match c {
+        Checked::Fine => Outcome::Fine,
+        Checked::Limits => Outcome::Limits,
+        Checked::NetlistShort => Outcome::NetlistShort,
+        Checked::Field(f) => Outcome::Field(f),
+        Checked::Record(k, r) => Outcome::Record(k, r),
+        Checked::ScratchShort => Outcome::ScratchShort,
+    }
+}
+
+// The walk's answer.
+fn of_walk(r: Lowered) -> Outcome
+    ensures { λ x. ⌜ answerOf x ≡ endOf r ⌝ }
+{
+    match r {
+        Lowered::Done => Outcome::Fine,
+        Lowered::Undriven(p, b) => Outcome::Undriven(p, b),
+        Lowered::Loop(p, b) => Outcome::Loop(p, b),
+        Lowered::Reset(k, b) => Outcome::Reset(k, b),
+        Lowered::TooManyNets => Outcome::TooManyNets,
+        Lowered::ListFull => Outcome::ListFull,
+    }
+}
+
+// Lowers a module image for net limit n and list limit p. The required words of the two buffers are lent to the walk; a refusal by the
+// checks touches none.
+pub fn lower(image: &[u8], n: u32, p: u32, netlist: &mut [u32], scratch: &mut [u32]) -> Outcome
+    ensures { λ r. ⌜ call.Lowered (now (image .entry)) n p (now (netlist .entry)) (now (scratch .entry)) (answerOf r) (now (netlist .exit)) (now (scratch .exit)) ⌝ }
+{
+    let c = checks::check(image, n, p, netlist.len(), scratch.len());
+    let Checked::Fine = c else {
+        return of_check(c);
+    };
+    let words = 16 + 6 * (n as usize) + (p as usize);
+    let need = scratch_need(image, n);
+    let r = lower_accepted(image, n, &mut netlist[..words], &mut scratch[..need]);
+    of_walk(r)
+}

@@ -1,0 +1,100 @@
+-- A task's widths, and the two ways of a job. Assumes nothing.
+use mathlib.Core.Path.{_≡_, refl, sym, ap, _∙_}
+use mathlib.Core.Bool.{false}
+use mathlib.Core.List.{List, _++_}
+use Prim.Native.Nat.{ℕ, zero, suc, _-_, _≤_}
+use native.Mathlib.Omega.{arith}
+use lib.ListN.{length, take, replicate}
+use lib.Seq.{length-take-le}
+use Rattle.model.specs.Words.{Netlist}
+use Rattle.model.specs.Builder.{Made, done, andThen, addConstant}
+use Rattle.model.specs.Lowering.{resized}
+use Rattle.netlist_view.specs.View.{netlistOf}
+use Rattle.nodes.specs.Gives.{Gives}
+use Rattle.nodes.specs.declared.Added.{Added}
+use Rattle.nodes.specs.declared.Added.the-variants as A
+use Rattle.ports.proofs.Laws.{Refusal}
+use Rattle.constant_fold.specs.Values.{refusalOf, Fills}
+use Rattle.constant_fold.specs.declared.Filled.{Filled}
+use Rattle.constant_fold.specs.declared.Filled.the-variants.{Done}
+use Rattle.bitops.proofs.Laws.{NotDone, list-by, first-out, first-then}
+use Rattle.tasks.specs.Tasks.{taskMade, narrowOf, jobMade, Fits, cutTo, JobFits}
+use Rattle.tasks.specs.declared.Task.{Task}
+use Rattle.tasks.specs.declared.Task.the-variants.{Copied, Constant, Unary, Binary, Carried, Mux}
+use Rattle.tasks.specs.declared.Job.{Job}
+use Rattle.perform.specs.Widths.{madeWidth, extended}
+
+-- ---- widths ----
+
+pub made-whole : (w : ℕ) (t : Task) → Fits w t → madeWidth w w t ≡ w
+made-whole w Copied f = refl
+made-whole w (Constant start k lsb) f = let h = f .0 in omega arith
+made-whole w (Unary op k) f = refl
+made-whole w (Binary op j k) f = refl
+made-whole w (Carried k c) f = refl
+made-whole w (Mux c) f = refl
+
+pub made-within : (v w : ℕ) (t : Task) → v ≤ w → madeWidth v w t ≤ w
+made-within v w Copied h = omega arith
+made-within v w (Constant start k lsb) h = omega arith
+made-within v w (Unary op k) h = h
+made-within v w (Binary op j k) h = h
+made-within v w (Carried k c) h = h
+made-within v w (Mux c) h = omega arith
+
+narrow-none : (k w : ℕ) (m : Made (List ℕ)) → k ≡ 0 → resized (narrowOf k) w m ≡ m
+unfolding narrowOf
+narrow-none zero w m e = refl
+narrow-none (suc k) w m e = absurd (omega arith)
+
+narrow-some : (k w : ℕ) (m : Made (List ℕ)) → (k ≡ 0 → ⊥) → resized (narrowOf k) w m ≡ andThen m (λ (ns, l). extended w ns l)
+unfolding narrowOf
+narrow-some zero w m n = absurd (n refl)
+narrow-some (suc k) w m n = refl
+
+cut-none : (k w : ℕ) → k ≡ 0 → cutTo k w ≡ w
+unfolding cutTo
+cut-none zero w e = refl
+cut-none (suc k) w e = absurd (omega arith)
+
+cut-some : (k w : ℕ) → (k ≡ 0 → ⊥) → cutTo k w ≡ k
+unfolding cutTo
+cut-some zero w n = absurd (n refl)
+cut-some (suc k) w n = refl
+
+module _ (w : ℕ) (j : Job) (f : JobFits w j) where
+  pub fits-whole : j .narrow ≡ 0 → Fits w (j .task)
+  fits-whole e = rw (cut-none (j .narrow) w e) at (f .task)
+
+  pub fits-narrowed : (j .narrow ≡ 0 → ⊥) → Fits (j .narrow) (j .task)
+  fits-narrowed n = rw (cut-some (j .narrow) w n) at (f .task)
+
+  module _ (s xs ys : List ℕ) (l : Netlist) (n : ℕ) (r : Filled) where
+    pub job-whole : (ns net idx : List ℕ) → j .narrow ≡ 0 → Fills (taskMade s w (j .task) xs ys l) n r (take (madeWidth w w (j .task)) ns) net idx
+        → Fills (jobMade s w j xs ys l) n r (take w ns) net idx
+    job-whole ns net idx e g = list-by _ _ _ _ _ _ _ (narrow-none (j .narrow) w (taskMade s w (j .task) xs ys l) e) (rw (made-whole w (j .task) (fits-whole e)) at g)
+
+    pub job-out : (ns ms net idx : List ℕ) → (j .narrow ≡ 0 → ⊥) → NotDone r → Fills (taskMade s w (j .task) xs ys l) n r ns net idx → Fills (jobMade s w j xs ys l) n r ms net idx
+    job-out ns ms net idx z q g = list-by _ _ _ _ _ _ _ (narrow-some (j .narrow) w (taskMade s w (j .task) xs ys l) z) (first-out _ (λ (ns, l). extended w ns l) n r ns ms net idx q g)
+
+    pub job-narrowed : (ns ms net idx net′ idx′ : List ℕ) → (j .narrow ≡ 0 → ⊥) → Fills (taskMade s w (j .task) xs ys l) n Done ns net idx
+        → Fills (extended w ns (netlistOf n net)) n r ms net′ idx′ → Fills (jobMade s w j xs ys l) n r ms net′ idx′
+    job-narrowed ns ms net idx net′ idx′ z g h = list-by _ _ _ _ _ _ _ (narrow-some (j .narrow) w (taskMade s w (j .task) xs ys l) z) (first-then _ (λ (ns, l). extended w ns l) n r ns ms net idx net′ idx′ g h)
+
+-- ---- the rest of a narrowed job ----
+
+module _ (w m : ℕ) (xs : List ℕ) (l : Netlist) (n : ℕ) (net idx : List ℕ) where
+  pub extend-out : (x : Added) (ms : List ℕ) → Refusal x → Gives (addConstant false l) n x net idx → Fills (extended w (take m xs) l) n (refusalOf x) ms net idx
+  extend-out (A.Net k) ms q g = absurd q
+  extend-out A.TooManyNets ms q g = record { says = ap (λ (o : Made ℕ). andThen o (λ (z, l₁). done (take m xs ++ replicate (w - length (take m xs)) z, l₁))) (g .says); held = g .held }
+  extend-out A.ListFull ms q g = record { says = ap (λ (o : Made ℕ). andThen o (λ (z, l₁). done (take m xs ++ replicate (w - length (take m xs)) z, l₁))) (g .says); held = g .held }
+
+  pub extend-done : (z : ℕ) (ms : List ℕ) → m ≤ length xs → Gives (addConstant false l) n (A.Net z) net idx → ms ≡ take m xs ++ replicate (w - m) z
+      → Fills (extended w (take m xs) l) n Done ms net idx
+  extend-done z ms h g e =
+      let k = length-take-le m xs h in
+      record {
+        says = ap (λ (o : Made ℕ). andThen o (λ (z, l₁). done (take m xs ++ replicate (w - length (take m xs)) z, l₁))) (g .says)
+            ∙ λ i. done ((ap (λ (j : ℕ). take m xs ++ replicate (w - j) z) k ∙ sym e) i, netlistOf n net);
+        held = g .held;
+      }

@@ -1,0 +1,4 @@
+pub mod Laws
+pub mod Bits
+pub mod Cells
+pub mod Jobs

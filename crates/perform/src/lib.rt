@@ -1,0 +1,350 @@
+// What a job stands for, made of the nets that were read: the result takes the place of the first list.
+ghost use mathlib.Core.Path.{_≡_};
+ghost use mathlib.Core.List.{_++_};
+ghost use mathlib.Core.Option.{some};
+ghost use Prim.Native.Nat.{ℕ, _+_, _*_, _-_, _/_, _%_, _^_, _≤_, _<_, min};
+ghost use lib.ListN.{length, take, drop, replicate};
+ghost use Rattle.rtl.specs.Word.{bits};
+ghost use Rattle.meaning.specs.Image.{listWord, constantOf};
+ghost use Rattle.model.specs.Words.{absent, source, arithmeticKey, count};
+ghost use Rattle.model.specs.Builder as B;
+ghost use Rattle.model.specs.Builder.{each, both, addConstant, addMux, addNodes, addRecorded};
+ghost use Rattle.model.specs.WordCells as W;
+ghost use Rattle.model.specs.Lowering.{lowerUnary, lowerBinary};
+ghost use Rattle.netlist_view.specs.View.{netlistOf};
+ghost use Rattle.netlist_index.specs.Index.{Held};
+ghost use Rattle.folding.specs.Digits.{held};
+ghost use Rattle.constant_fold.specs.Values.{Fills};
+ghost use Rattle.cells.specs.Cells.{Ready, CellKey};
+ghost use Rattle.records.specs.Expr.{unaryMeans, binaryMeans};
+ghost use Rattle.operators.specs.Operators.{unaryWidth, classOf, classWidth, Fit};
+ghost use Rattle.tasks.specs.Tasks.{taskMade, jobMade, Fits, JobFits};
+ghost use Rattle.perform.specs.Widths.{madeWidth, extended};
+use cell_index::Found;
+use constant_fold::ArithmeticOp;
+use constant_fold::Filled;
+use nodes::ABSENT;
+use nodes::Added;
+use records::BinaryOp;
+use records::UnaryOp;
+use tasks::Job;
+use tasks::Task;
+
+fn mux(
+    net: &mut [u32],
+    idx: &mut [u32],
+    n: u32,
+    c: u32,
+    w: u32,
+    xs: &mut [u32],
+    ys: &[u32],
+) -> Filled
+    requires { ⌜ (Held n (now net) (now idx)) × (w ≤ length (now xs)) × (w ≤ length (now ys)) ⌝ }
+    ensures { λ r. ⌜ Fills (both (addMux c) (take w (now (xs .entry))) (take w (now (ys .entry))) (netlistOf n (now (net .entry)))) n r (take w (now (xs .exit))) (now (net .exit)) (now (idx .exit)) ⌝ }
+{
+    let k = w as usize;
+    bitops::mux_bits(net, idx, n, c, &mut xs[..k], &ys[..k])
+}
+
+fn unary(net: &mut [u32], idx: &mut [u32], n: u32, op: UnaryOp, k: u32, xs: &mut [u32]) -> Filled
+    requires { ⌜ (Held n (now net) (now idx)) × (0 < k) × (k ≤ length (now xs)) ⌝ }
+    ensures { λ r. ⌜ Fills (lowerUnary (unaryMeans op) (take k (now (xs .entry))) (netlistOf n (now (net .entry)))) n r (take (unaryWidth op k) (now (xs .exit))) (now (net .exit)) (now (idx .exit)) ⌝ }
+{
+    let m = k as usize;
+    operators::lower_unary(net, idx, n, op, &mut xs[..m])
+}
+
+fn binary(
+    net: &mut [u32],
+    idx: &mut [u32],
+    n: u32,
+    op: BinaryOp,
+    j: u32,
+    k: u32,
+    xs: &mut [u32],
+    ys: &[u32],
+) -> Filled
+    requires { ⌜ (Held n (now net) (now idx)) × (0 < j) × (j ≤ 1024) × (j ≤ length (now xs)) × (k ≤ length (now ys)) × (Fit (classOf op) j k) ⌝ }
+    ensures { λ r. ⌜ Fills (lowerBinary (binaryMeans op) (take j (now (xs .entry))) (take k (now (ys .entry))) (netlistOf n (now (net .entry)))) n r (take (classWidth (classOf op) j) (now (xs .exit))) (now (net .exit)) (now (idx .exit)) ⌝ }
+{
+    let a = j as usize;
+    let b = k as usize;
+    operators::lower_binary(net, idx, n, op, &mut xs[..a], &ys[..b])
+}
+
+// An addition's key in front of a buffer, its carry no net.
+fn put_key(buffer: &mut [u32], lhs: &[u32], rhs: &[u32])
+    requires { ⌜ (length (now rhs) ≡ length (now lhs)) × (length (now lhs) ≤ 1024) × (4 + 2 * length (now lhs) ≤ length (now buffer)) ⌝ }
+    ensures { λ _. ⌜ take (4 + 2 * length (now (lhs .entry))) (now (buffer .exit)) ≡ arithmeticKey 0 (now (lhs .entry)) (now (rhs .entry)) (some absent) ⌝ }
+{
+    buffer[0] = 3;
+    buffer[1] = 0;
+    buffer[2] = lhs.len() as u32;
+    buffer[3] = ABSENT;
+    lists::put_words(buffer, 4, lhs);
+    let at = 4 + lhs.len();
+    lists::put_words(buffer, at, rhs);
+}
+
+// The outputs that stand at a place, into out.
+fn copy_outputs(net: &[u32], p: usize, out: &mut [u32])
+    requires { ⌜ p + length (now out) ≤ length (now net) ⌝ }
+    ensures { λ _. ⌜ now (out .exit) ≡ take (length (now (out .entry))) (drop p (now (net .entry))) ⌝ }
+{
+    let end = p + out.len();
+    lists::put_words(out, 0, &net[p..end]);
+}
+
+// A new cell, its outputs in out.
+fn new_cell(
+    net: &mut [u32],
+    idx: &mut [u32],
+    n: u32,
+    h: u32,
+    buffer: &mut [u32],
+    k: usize,
+    out: &mut [u32],
+) -> Filled
+    requires { ⌜ (k ≤ length (now buffer)) × (length (now out) ≤ 1024) × (Ready n h 10 (length (now out)) (take k (now buffer)) (now net) (now idx) (now buffer)) ⌝ }
+    ensures { λ r. ⌜ Fills (addRecorded (take k (now (buffer .entry))) (addNodes (source 10 (count 3 (netlistOf n (now (net .entry)) .records))) 0 (length (now (out .entry))) (netlistOf n (now (net .entry))))) n r (now (out .exit)) (now (net .exit)) (now (idx .exit)) ⌝ }
+{
+    let owner = net[8];
+    let w = out.len() as u32;
+    let x = cells::add_cell(net, idx, n, h, 10, owner, buffer, k, w);
+    let Added::Net(first) = x else {
+        return constant_fold::refusal(x);
+    };
+    ports::put_run(out, 0, first, w);
+    Filled::Done
+}
+
+// The cell whose key is the first k words of a buffer: shared, or made.
+fn share(
+    net: &mut [u32],
+    idx: &mut [u32],
+    n: u32,
+    buffer: &mut [u32],
+    k: usize,
+    out: &mut [u32],
+) -> Filled
+    requires { ⌜ (Held n (now net) (now idx)) × (k + length (now out) ≤ length (now buffer)) × (CellKey 10 (length (now out)) (take k (now buffer))) ⌝ }
+    ensures { λ r. ⌜ Fills (B.orMade (W.findCell (take k (now (buffer .entry))) (netlistOf n (now (net .entry)) .records)) (netlistOf n (now (net .entry))) (addRecorded (take k (now (buffer .entry))) (addNodes (source 10 (count 3 (netlistOf n (now (net .entry)) .records))) 0 (length (now (out .entry))) (netlistOf n (now (net .entry)))))) n r (now (out .exit)) (now (net .exit)) (now (idx .exit)) ⌝ }
+{
+    let h = cell_index::hash_key(&buffer[..k], n);
+    match cell_index::find_cell(net, idx, n, h, &buffer[..k]) {
+        Found::At(p) => {
+            copy_outputs(net, p, out);
+            Filled::Done
+        }
+        Found::Nothing => new_cell(net, idx, n, h, buffer, k, out),
+    }
+}
+
+// The sum with a carry that is no net, and so no constant.
+fn add_absent(
+    net: &mut [u32],
+    idx: &mut [u32],
+    n: u32,
+    lhs: &[u32],
+    rhs: &[u32],
+    out: &mut [u32],
+) -> Filled
+    requires { ⌜ (Held n (now net) (now idx)) × (length (now rhs) ≡ length (now lhs)) × (length (now out) ≡ length (now lhs)) × (0 < length (now lhs)) × (length (now lhs) ≤ 1024) ⌝ }
+    ensures { λ r. ⌜ Fills (W.arithmetic B.Add (now (lhs .entry)) (now (rhs .entry)) (some absent) (netlistOf n (now (net .entry)))) n r (now (out .exit)) (now (net .exit)) (now (idx .exit)) ⌝ }
+{
+    let mut buffer = [0u32; 3076];
+    put_key(&mut buffer, lhs, rhs);
+    let k = 4 + 2 * lhs.len();
+    share(net, idx, n, &mut buffer, k, out)
+}
+
+// The sum with a carry, in place of the first operand.
+fn add_carried(
+    net: &mut [u32],
+    idx: &mut [u32],
+    n: u32,
+    c: u32,
+    xs: &mut [u32],
+    ys: &[u32],
+) -> Filled
+    requires { ⌜ (Held n (now net) (now idx)) × (0 < length (now xs)) × (length (now xs) ≡ length (now ys)) × (length (now xs) ≤ 1024) ⌝ }
+    ensures { λ r. ⌜ Fills (W.arithmetic B.Add (now (xs .entry)) (now (ys .entry)) (some c) (netlistOf n (now (net .entry)))) n r (now (xs .exit)) (now (net .exit)) (now (idx .exit)) ⌝ }
+{
+    let mut lhs = [0u32; 1024];
+    let w = xs.len();
+    lists::put_words(&mut lhs, 0, xs);
+    if c == ABSENT {
+        return add_absent(net, idx, n, &lhs[..w], ys, xs);
+    }
+    word_cells::arithmetic(net, idx, n, ArithmeticOp::Add, &lhs[..w], ys, c, xs)
+}
+
+fn carried(
+    net: &mut [u32],
+    idx: &mut [u32],
+    n: u32,
+    k: u32,
+    c: u32,
+    xs: &mut [u32],
+    ys: &[u32],
+) -> Filled
+    requires { ⌜ (Held n (now net) (now idx)) × (0 < k) × (k ≤ 1024) × (k ≤ length (now xs)) × (k ≤ length (now ys)) ⌝ }
+    ensures { λ r. ⌜ Fills (W.arithmetic B.Add (take k (now (xs .entry))) (take k (now (ys .entry))) (some c) (netlistOf n (now (net .entry)))) n r (take k (now (xs .exit))) (now (net .exit)) (now (idx .exit)) ⌝ }
+{
+    let m = k as usize;
+    add_carried(net, idx, n, c, &mut xs[..m], &ys[..m])
+}
+
+// Bit b of the constant whose list words begin at start.
+fn constant_bit(image: &[u8], start: u32, b: u32) -> u32
+    requires { ⌜ (start ≤ 8192) × (b ≤ 1024) ⌝ }
+    ensures { λ r. ⌜ r ≡ listWord (now (image .entry)) (start + b / 32) / 2 ^ (b % 32) % 2 ⌝ }
+{
+    let x = fields::list_word(image, start + b / 32);
+    (x >> (b % 32)) % 2
+}
+
+// Bits of a constant from bit lsb on.
+fn put_bits(image: &[u8], start: u32, lsb: u32, out: &mut [u32])
+    requires { ⌜ (start ≤ 8192) × (lsb + length (now out) ≤ 1024) ⌝ }
+    ensures { λ _. ⌜ ((v : ℕ) → lsb + length (now (out .entry)) ≤ v → held (now (out .exit)) ≡ take (length (now (out .entry))) (drop lsb (bits v (constantOf (now (image .entry)) v start)))) ⌝ }
+{
+    let mut i = 0;
+    while i < out.len() {
+        out[i] = constant_bit(image, start, lsb + i as u32);
+        i += 1;
+    }
+}
+
+fn add_bits(
+    image: &[u8],
+    net: &mut [u32],
+    idx: &mut [u32],
+    n: u32,
+    start: u32,
+    lsb: u32,
+    out: &mut [u32],
+) -> Filled
+    requires { ⌜ (Held n (now net) (now idx)) × (start ≤ 8192) × (lsb + length (now out) ≤ 1024) ⌝ }
+    ensures { λ r. ⌜ ((v : ℕ) → lsb + length (now (out .entry)) ≤ v → Fills (each addConstant (take (length (now (out .entry))) (drop lsb (bits v (constantOf (now (image .entry)) v start)))) (netlistOf n (now (net .entry)))) n r (now (out .exit)) (now (net .exit)) (now (idx .exit))) ⌝ }
+{
+    put_bits(image, start, lsb, out);
+    constant_fold::add_constants(net, idx, n, out)
+}
+
+fn lesser(a: u32, b: u32) -> u32
+    ensures { λ r. ⌜ r ≡ min a b ⌝ }
+{
+    if a < b { a } else { b }
+}
+
+// At most w bits, from bit lsb on, of a constant of width v.
+fn constant(
+    image: &[u8],
+    net: &mut [u32],
+    idx: &mut [u32],
+    n: u32,
+    start: u32,
+    v: u32,
+    lsb: u32,
+    w: u32,
+    xs: &mut [u32],
+) -> Filled
+    requires { ⌜ (Held n (now net) (now idx)) × (start ≤ 8192) × (lsb ≤ v) × (v ≤ 1024) × (w ≤ length (now xs)) ⌝ }
+    ensures { λ r. ⌜ Fills (each addConstant (take w (drop lsb (bits v (constantOf (now (image .entry)) v start)))) (netlistOf n (now (net .entry)))) n r (take (min w (v - lsb)) (now (xs .exit))) (now (net .exit)) (now (idx .exit)) ⌝ }
+{
+    let m = lesser(w, v - lsb) as usize;
+    add_bits(image, net, idx, n, start, lsb, &mut xs[..m])
+}
+
+// The words from a to e all z.
+fn fill(xs: &mut [u32], a: usize, e: usize, z: u32)
+    requires { ⌜ (a ≤ e) × (e ≤ length (now xs)) ⌝ }
+    ensures { λ _. ⌜ take e (now (xs .exit)) ≡ take a (now (xs .entry)) ++ replicate (e - a) z ⌝ }
+{
+    let mut i = a;
+    while i < e {
+        xs[i] = z;
+        i += 1;
+    }
+}
+
+// The first m nets, and the false constant up to w.
+fn extend(net: &mut [u32], idx: &mut [u32], n: u32, m: u32, w: u32, xs: &mut [u32]) -> Filled
+    requires { ⌜ (Held n (now net) (now idx)) × (m ≤ w) × (w ≤ length (now xs)) ⌝ }
+    ensures { λ r. ⌜ Fills (extended w (take m (now (xs .entry))) (netlistOf n (now (net .entry)))) n r (take w (now (xs .exit))) (now (net .exit)) (now (idx .exit)) ⌝ }
+{
+    let x = gates::add_constant(net, idx, n, false);
+    let Added::Net(z) = x else {
+        return constant_fold::refusal(x);
+    };
+    fill(xs, m as usize, w as usize, z);
+    Filled::Done
+}
+
+// How many nets a task of width v makes in a job of width w.
+fn task_width(task: Task, v: u32, w: u32) -> u32
+    requires { ⌜ Fits v task ⌝ }
+    ensures { λ r. ⌜ r ≡ madeWidth v w task ⌝ }
+{
+    match task {
+        Task::Copied => w,
+        Task::Constant(_, k, lsb) => lesser(w, k - lsb),
+        Task::Unary(_, _) => v,
+        Task::Binary(_, _, _) => v,
+        Task::Carried(_, _) => v,
+        Task::Mux(_) => w,
+    }
+}
+
+// The nets of a task of width v, in a job of width w.
+fn perform_task(
+    image: &[u8],
+    net: &mut [u32],
+    idx: &mut [u32],
+    n: u32,
+    task: Task,
+    v: u32,
+    w: u32,
+    xs: &mut [u32],
+    ys: &[u32],
+) -> Filled
+    requires { ⌜ (Held n (now net) (now idx)) × (Fits v task) × (w ≤ 1024) × (length (now xs) ≡ 1024) × (length (now ys) ≡ 1024) ⌝ }
+    ensures { λ r. ⌜ Fills (taskMade (now (image .entry)) w task (now (xs .entry)) (now (ys .entry)) (netlistOf n (now (net .entry)))) n r (take (madeWidth v w task) (now (xs .exit))) (now (net .exit)) (now (idx .exit)) ⌝ }
+{
+    match task {
+        Task::Copied => Filled::Done,
+        Task::Constant(start, k, lsb) => constant(image, net, idx, n, start, k, lsb, w, xs),
+        Task::Unary(op, k) => unary(net, idx, n, op, k, xs),
+        Task::Binary(op, j, k) => binary(net, idx, n, op, j, k, xs, ys),
+        Task::Carried(k, c) => carried(net, idx, n, k, c, xs, ys),
+        Task::Mux(c) => mux(net, idx, n, c, w, xs, ys),
+    }
+}
+
+// What a job stands for: where its task is narrowed, the rest is the false constant.
+pub fn perform(
+    image: &[u8],
+    net: &mut [u32],
+    idx: &mut [u32],
+    n: u32,
+    job: Job,
+    w: u32,
+    xs: &mut [u32],
+    ys: &[u32],
+) -> Filled
+    requires { ⌜ (Held n (now net) (now idx)) × (JobFits w job) × (length (now xs) ≡ 1024) × (length (now ys) ≡ 1024) ⌝ }
+    ensures { λ r. ⌜ Fills (jobMade (now (image .entry)) w job (now (xs .entry)) (now (ys .entry)) (netlistOf n (now (net .entry)))) n r (take w (now (xs .exit))) (now (net .exit)) (now (idx .exit)) ⌝ }
+{
+    let task = job.task;
+    let narrow = job.narrow;
+    if narrow == 0 {
+        return perform_task(image, net, idx, n, task, w, w, xs, ys);
+    }
+    let r = perform_task(image, net, idx, n, task, narrow, w, xs, ys);
+    let Filled::Done = r else {
+        return r;
+    };
+    let m = task_width(task, narrow, w);
+    extend(net, idx, n, m, w, xs)
+}

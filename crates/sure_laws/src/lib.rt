@@ -1,0 +1,1 @@
+// What the walk's calls keep of its invariant: laws only, in specs/.

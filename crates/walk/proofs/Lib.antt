@@ -1,0 +1,3 @@
+-- Laws that the proofs of the walk cite.
+pub mod Steps
+pub mod Ways

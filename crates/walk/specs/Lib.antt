@@ -1,0 +1,2 @@
+-- What the walk's calls give.
+pub mod Walk
