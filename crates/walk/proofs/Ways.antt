@@ -25,7 +25,7 @@ use Rattle.accepted.specs.Formed.{readable}
 use Rattle.walk_view.specs.declared.Lowered.{Lowered}
 use Rattle.walk_view.specs.declared.Lowered.the-variants.{Done, Undriven, Loop, Reset, TooManyNets, ListFull}
 use Rattle.walk_view.specs.Met.{met, isSome, AllMet, Grows, grows-mark, grows-signal, meets-signal}
-use Rattle.walk_view.specs.View.{walkState, Ready, Sure, Kept, There, outOf, Builds, rankOf, costOf, Gives}
+use Rattle.walk_view.specs.View.{walkState, Ready, Sure, There, outOf, Builds, rankOf, costOf, Gives}
 use Rattle.sure_laws.specs.Sure.{sure-done, sure-marks}
 use Rattle.plan.specs.declared.Need.{Need}
 use Rattle.plan.specs.declared.Need.the-variants.{Bit, Whole, Range, Nothing}

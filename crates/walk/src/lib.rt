@@ -1,7 +1,6 @@
 // The walk over a module: signal bits, expressions and ranges of expressions are lowered by need, each once. Follows `resolve_signal_bit`,
-// `lower_expression` and `lower_expression_range` of struo-synth, which call each other. A level of this recursion must keep few words on
-// the stack (docs/DECISIONS.md): what an expression does between two calls is a turn, outside of the recursion, and the calls of
-// `lower_need` stand in functions of their own, so that the words each call passes take room only there.
+// `lower_expression` and `lower_expression_range` of struo-synth, which call each other. A level of the recursion keeps few words on the
+// stack: what an expression does between two calls is a turn, outside of the recursion.
 ghost use mathlib.Core.Path.{_≡_};
 ghost use mathlib.Core.Bool.{true};
 ghost use Prim.Native.Nat.{ℕ, _+_, _≤_, _<_};
@@ -33,6 +32,7 @@ pub enum Next {
 
 // ---- turns ----
 
+// Only turn 0 asks whether all is there already.
 fn whole_known(image: &[u8], scr: &[u32], e: u32, k: u32) -> bool
     requires { ⌜ (Laid (now image) (now scr)) × (e < countAt (now image) 1) ⌝ }
     ensures { λ r. ⌜ FirstTurn k r (isWhole (now (image .entry)) (limitOf (now (scr .entry))) (now (scr .entry)) e) ⌝ }
@@ -89,7 +89,8 @@ fn turn_range(
     Next::Over(build::build_range(image, net, scr, e, lsb, w))
 }
 
-// Turn k of a part, in which the part of a Concat begins at bit at.
+// Turn k of an expression or a range; the part of a Concat that it takes begins at bit at. Two functions call it, so the compiler keeps it
+// out of their frames.
 fn turn(image: &[u8], net: &mut [u32], scr: &mut [u32], part: Part, k: u32, at: u32) -> Next
     requires { ⌜ Begun (now image) part k at (now net) (now scr) ⌝ }
     ensures { λ r. ⌜ Turns (now (image .entry)) (now (net .entry)) (now (scr .entry)) part k at r (now (net .exit)) (now (scr .exit)) ⌝ }
@@ -184,6 +185,7 @@ pub fn lower_expression_range(
     }
 }
 
+// `lower_need` calls these two, so that what their calls lend takes no room in its own frame.
 fn lower_bit(image: &[u8], net: &mut [u32], scr: &mut [u32], p: u32, b: u32) -> Lowered
     requires { ⌜ (Ready (now image) (now net) (now scr)) × (Sure (now image) (now net) (now scr)) × (p < countAt (now image) 0) × (b < signalWidth (now image) p) ⌝ }
     ensures { λ r. ⌜ Gives (now (image .entry)) (now (net .entry)) (now (scr .entry)) (model.Bit p b) r (now (net .exit)) (now (scr .exit)) ⌝ }
