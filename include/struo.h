@@ -60,8 +60,8 @@ enum struo_answer {
 /* Words of scratch that serve every image with net limit n. */
 #define STRUO_SCRATCH_MOST(n) STRUO_SCRATCH_WORDS(4096, 32768, 2048, n)
 
-/* A stack that serves every image known, in units of 1,024 bytes; modules that nest less take less (docs/BENCH.md, Speed). */
-#define STRUO_STACK_KB 65536
+/* A stack that serves every image known, in units of 1,024 bytes; modules that nest less take less (docs/BENCH.md, Stack). */
+#define STRUO_STACK_KB 8192
 
 /* Checks an image: refusals 1, 2, 3, 4, 5, in this order, for net limit n, list limit p and buffers of so many words.
  *
