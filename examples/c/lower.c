@@ -1,69 +1,122 @@
-/* Lowers y = not a and prints its netlist, then shows two refusals. */
+/* Reads a module image from a file, checks it, lowers it, and prints both answers and how much the netlist has of each sort.
+ *
+ *     lower IMAGE [NETS WORDS]
+ *
+ * Ends with 0 if the image is accepted, 1 if it is refused, 2 if there is nothing to lower. */
+#include <errno.h>
 #include <stdio.h>
+#include <stdlib.h>
 #include <string.h>
 #include "struo.h"
 
-#define NETS 3
-#define LIST 8
-#define SCRATCH STRUO_SCRATCH_WORDS(2, 2, 2, NETS)
+enum { REFUSED = 1, NOTHING_DONE = 2 };
 
-/* The module image: 32-bit fields, little-endian, then the names. */
-static const uint32_t fields[] = {
-    1, 154,                                                            /* edition, bytes in all */
-    2, 64, 2, 96, 0, 136, 1, 136, 0, 152, 0, 152, 2, 152,              /* count and offset of each section */
-    0, 1, 1, 1,                                                        /* signal a: name, width 1, input */
-    1, 1, 1, 2,                                                        /* signal y: output */
-    0, 1, 0, 0, 0,                                                     /* expression 0: signal a from bit 0 on */
-    2, 1, 0, 0, 0,                                                     /* expression 1: BitNot of expression 0 */
-    1, 0, 1, 1,                                                        /* assignment: y, from bit 0, width 1, expression 1 */
+struct bytes {
+    uint8_t *start;
+    size_t length;
 };
-static const char names[] = {'a', 'y'};
 
-static size_t make_image(uint8_t *image)
+static int fail(const char *what, const char *why)
 {
-    size_t at = 0;
-    for (size_t i = 0; i < sizeof fields / sizeof fields[0]; i++)
-        for (int shift = 0; shift < 32; shift += 8)
-            image[at++] = (uint8_t)(fields[i] >> shift);
-    memcpy(image + at, names, sizeof names);
-    return at + sizeof names;
+    fprintf(stderr, "lower: %s: %s\n", what, why);
+    return NOTHING_DONE;
 }
 
-static void print_netlist(const uint32_t *words)
+/* All bytes of a file; start is null if they cannot be had, and errno says why. */
+static struct bytes read_file(const char *path)
 {
-    printf("nets %u list %u\n", words[STRUO_NETS], words[STRUO_LIST_USED]);
-    for (uint32_t net = 0; net < words[STRUO_NETS]; net++) {
-        const uint32_t *node = words + words[STRUO_NODES_AT] + 6 * net;
-        printf("%u kind %u", net, node[0]);
-        for (int input = 3; input < 6; input++)
-            if (node[input] != STRUO_ABSENT)
-                printf(" reads %u", node[input]);
-        printf("\n");
+    struct bytes none = {NULL, 0}, read = {malloc(4096), 0};
+    size_t room = 4096;
+    FILE *file = fopen(path, "rb");
+    if (file == NULL || read.start == NULL)
+        goto failed;
+    for (;;) {
+        size_t got = fread(read.start + read.length, 1, room - read.length, file);
+        read.length += got;
+        if (got == 0)
+            break;
+        if (read.length == room) {
+            uint8_t *larger = realloc(read.start, 2 * room);
+            if (larger == NULL)
+                goto failed;
+            read.start = larger;
+            room *= 2;
+        }
     }
+    if (ferror(file))
+        goto failed;
+    fclose(file);
+    return read;
+failed:
+    free(read.start);
+    if (file != NULL)
+        fclose(file);
+    return none;
 }
 
-/* Lowers with this list limit, into buffers that hold anything. */
-static void lower(const uint8_t *image, size_t len, uint32_t list)
+/* A limit written in decimal; 0 if it is none of 32 bits. */
+static int limit(const char *text, uint32_t *value)
 {
-    uint32_t netlist[STRUO_NETLIST_WORDS(NETS, LIST)], scratch[SCRATCH], answer[3];
-    memset(netlist, 255, sizeof netlist);
-    memset(scratch, 255, sizeof scratch);
-    struo_lower(image, len, NETS, list, netlist, STRUO_NETLIST_WORDS(NETS, LIST), scratch, SCRATCH, answer);
-    if (answer[0] == STRUO_ACCEPTED)
-        print_netlist(netlist);
-    else
-        printf("refused %u %u %u\n", answer[0], answer[1], answer[2]);
+    char *end;
+    errno = 0;
+    unsigned long long number = strtoull(text, &end, 10);
+    *value = (uint32_t)number;
+    return text[0] >= '0' && text[0] <= '9' && *end == 0 && errno == 0 && number <= UINT32_MAX;
 }
 
-int main(void)
+static void print_answer(const char *call, const uint32_t answer[3])
 {
-    uint8_t image[256];
+    printf("%s %u %u %u\n", call, answer[0], answer[1], answer[2]);
+}
+
+static void print_counts(const uint32_t *netlist)
+{
+    printf("nets %u\n", netlist[STRUO_NETS]);
+    printf("list words %u\n", netlist[STRUO_LIST_USED]);
+    printf("ports %u\n", netlist[STRUO_PORTS]);
+    printf("registers %u\n", netlist[STRUO_REGISTERS]);
+    printf("memories %u\n", netlist[STRUO_MEMORIES]);
+    printf("arithmetic %u\n", netlist[STRUO_ARITHMETIC]);
+    printf("comparisons %u\n", netlist[STRUO_COMPARISONS]);
+}
+
+/* Checks and lowers into these buffers. */
+static int lower(struct bytes image, uint32_t n, uint32_t p, uint32_t *netlist, size_t netlist_len, uint32_t *scratch, size_t scratch_len)
+{
     uint32_t answer[3];
-    size_t len = make_image(image);
-    struo_check(image, len, NETS, LIST, STRUO_NETLIST_WORDS(NETS, LIST), SCRATCH, answer);
-    printf("check %u %u %u\n", answer[0], answer[1], answer[2]);
-    lower(image, len, LIST);
-    lower(image, len, LIST - 1); /* the second port would pass 7 list words */
-    lower(image, len - 1, LIST); /* a byte is missing: header field 1 */
+    if (struo_try_check(image.start, image.length, n, p, netlist_len, scratch_len, answer) != STRUO_CALLED)
+        return fail("struo_check", "a pointer or length is wrong");
+    print_answer("check", answer);
+    if (struo_try_lower(image.start, image.length, n, p, netlist, netlist_len, scratch, scratch_len, answer) != STRUO_CALLED)
+        return fail("struo_lower", "a pointer or length is wrong");
+    print_answer("lower", answer);
+    if (answer[0] != STRUO_ACCEPTED)
+        return REFUSED;
+    print_counts(netlist);
     return 0;
+}
+
+int main(int count, char **words)
+{
+    uint32_t n = 65535, p = 65535;
+    if (count != 2 && count != 4)
+        return fail("usage", "lower IMAGE [NETS WORDS]");
+    if (count == 4 && (!limit(words[2], &n) || !limit(words[3], &p)))
+        return fail("limits", "two numbers of 32 bits are needed");
+    struct bytes image = read_file(words[1]);
+    if (image.start == NULL)
+        return fail(words[1], strerror(errno));
+    /* Limits that are too large are refused whatever the buffers: room for the largest serves. */
+    size_t netlist_len = STRUO_NETLIST_WORDS(n <= 65535 ? n : 0, p <= 65535 ? p : 0);
+    size_t scratch_len = STRUO_SCRATCH_MOST(n <= 65535 ? n : 0);
+    uint32_t *netlist = malloc(netlist_len * sizeof *netlist), *scratch = malloc(scratch_len * sizeof *scratch);
+    int status = NOTHING_DONE;
+    if (netlist == NULL || scratch == NULL)
+        fail("buffers", "no memory");
+    else
+        status = lower(image, n, p, netlist, netlist_len, scratch, scratch_len);
+    free(netlist);
+    free(scratch);
+    free(image.start);
+    return status;
 }

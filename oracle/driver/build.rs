@@ -1,7 +1,8 @@
 //! Makes the two copies of struo's lowering that the driver runs. `Lowering` is
-//! private, so each copy gets one more line that declares a child module of
+//! private, so each copy gets two more lines that declare child modules of
 //! ours. The plain copy is otherwise unchanged; the limited copy has
-//! `limits.patch` applied, which must fit exactly.
+//! `limits.patch` applied, which must fit exactly. A third copy, of `ranges.rs`
+//! alone, has `ranges.patch` applied.
 
 use std::collections::BTreeMap;
 use std::fs;
@@ -19,15 +20,15 @@ fn main() {
     let driver = PathBuf::from(env("CARGO_MANIFEST_DIR"));
     let out = PathBuf::from(env("OUT_DIR"));
     let oracle = driver.parent().expect("the driver lies in the oracle");
-    let patch_path = oracle.join("limits.patch");
     watch(&driver.join("build.rs"));
-    watch(&patch_path);
 
     let plain = read_sources(&oracle.join("struo"));
-    let limited = patched(&plain, &read(&patch_path));
-    let child = driver.join("src/inside.rs");
-    write_copy(&out.join("plain"), &plain, &child);
-    write_copy(&out.join("limited"), &limited, &child);
+    let limited = patched(&plain, &oracle.join("limits.patch"));
+    let ranged = patched(&plain, &oracle.join("ranges.patch"));
+    let children = ["inside", "parts"].map(|name| (name, driver.join(format!("src/{name}.rs"))));
+    write_copy(&out.join("plain"), &plain, &children);
+    write_copy(&out.join("limited"), &limited, &children);
+    write(&out.join("ranged").join(RANGES), &ranged[RANGES]);
     write(&out.join("copies.rs"), &copies(&out));
 }
 
@@ -60,12 +61,14 @@ fn read_sources(struo: &Path) -> Sources {
         .collect()
 }
 
-/// Writes one copy; the child module is declared in the lowering's last line.
-fn write_copy(folder: &Path, sources: &Sources, child: &Path) {
+/// Writes one copy; the child modules are declared in the lowering's last lines.
+fn write_copy(folder: &Path, sources: &Sources, children: &[(&str, PathBuf)]) {
     for (name, text) in sources {
         let mut text = text.clone();
         if *name == SYNTH {
-            text.push_str(&format!("#[path = {child:?}] pub(crate) mod inside;\n"));
+            for (child, path) in children {
+                text.push_str(&format!("#[path = {path:?}] pub(crate) mod {child};\n"));
+            }
         }
         write(&folder.join(name), &text);
     }
@@ -81,16 +84,19 @@ fn copies(out: &Path) -> String {
     module("plain", out.join("plain").join(SYNTH))
         + &module("limited", out.join("limited").join(SYNTH))
         + &module("limited_ir", out.join("limited").join(IR))
+        + &module("ranged", out.join("ranged").join(RANGES))
 }
 
 /// Applies a unified diff to the sources. Every context line must be there.
-fn patched(sources: &Sources, patch: &str) -> Sources {
+fn patched(sources: &Sources, path: &Path) -> Sources {
+    watch(path);
+    let patch = read(path);
     let mut result = sources.clone();
     for file in patch.split("\n--- a/").skip(1) {
         let (name, rest) = file.split_once('\n').expect("a file name ends its line");
         let old = sources
             .get(name)
-            .unwrap_or_else(|| panic!("limits.patch: no source {name}"));
+            .unwrap_or_else(|| panic!("{}: no source {name}", path.display()));
         let (&key, _) = sources.get_key_value(name).expect("just found");
         result.insert(key, patched_file(name, old, rest));
     }
@@ -113,7 +119,7 @@ fn patched_file(name: &str, old: &str, diff: &str) -> String {
             assert_eq!(
                 old.get(taken),
                 Some(&expected),
-                "limits.patch does not apply to {name} at line {}",
+                "the patch does not apply to {name} at line {}",
                 taken + 1
             );
             if !line.starts_with('-') {
@@ -131,6 +137,6 @@ fn hunk_start(name: &str, range: &str) -> usize {
     let digits: String = range.chars().take_while(char::is_ascii_digit).collect();
     let line: usize = digits
         .parse()
-        .unwrap_or_else(|_| panic!("limits.patch: bad hunk in {name}: {range}"));
+        .unwrap_or_else(|_| panic!("bad hunk in the patch of {name}: {range}"));
     line - 1
 }

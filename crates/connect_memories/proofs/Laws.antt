@@ -15,9 +15,9 @@ use Rattle.meaning.specs.Image.{countAt, field, signalWidth, exprWidth, firstPo
 use Rattle.memories.specs.Good.{GoodPort, GoodSecond}
 use Rattle.checks.specs.Accepted.{Accepted}
 use Rattle.model.specs.Words.{Netlist, lowWord, controlWords}
-use Rattle.model.specs.Builder.{Out, andThen}
+use Rattle.model.specs.Builder.{andThen}
 use Rattle.model.specs.Lowering as M
-use Rattle.model.specs.Lowering.{State, Whole, Bit, signalNet, signalNets, wholeNets, netControl, optionControl, wholes, bitStep, wordSteps, enableSteps, secondSteps, memorySteps, portWords, portsWords, lowerAll, pushRecord, connectMemories}
+use Rattle.model.specs.Lowering.{State, Whole, signalNet, signalNets, wholeNets, netControl, optionControl, wholes, wordSteps, secondSteps, memorySteps, portWords, portsWords, lowerAll, pushRecord, connectMemories}
 use Rattle.netlist_view.specs.View.{Formed}
 use Rattle.netlist_view.specs.Formed.{Ported, formed-memory, formed-memory₂}
 use Rattle.record_laws.specs.Back.{wordsOf, ported}

@@ -152,9 +152,7 @@ fn put_controls(image: &[u8], scr: &[u32], p: MemoryPort, out: &mut [u32], at: u
     let write = connect_parts::control_words(image, scr, Enable::Present(control));
     let clock = connect_parts::bit_net(image, scr, p.clock, 0);
     let edge = connect_parts::low_word(p.rising);
-    let words = [
-        read.net, read.level, write.net, write.level, clock, edge,
-    ];
+    let words = [read.net, read.level, write.net, write.level, clock, edge];
     lists::put_words(out, at, &words);
     at + 6
 }

@@ -1,8 +1,8 @@
 -- What each way through the functions gives, from what their calls give. Assumes nothing.
 use mathlib.Core.Path.{_≡_, refl, sym, ap, _∙_, subst}
 use mathlib.Core.Bool.{false}
-use mathlib.Core.List.{List, _++_}
-use Prim.Native.Nat.{ℕ, zero, suc, _+_, _≤_, _<_}
+use mathlib.Core.List.{List}
+use Prim.Native.Nat.{ℕ, zero, suc, _+_, _≤_}
 use native.Mathlib.Omega.{arith}
 use lib.ListN.{length, take, replicate}
 use lib.Seq.{paste, take-paste, take-all}
@@ -10,13 +10,12 @@ use Rattle.rtl.specs.Rtl as R
 use Rattle.rules.specs.Rules.{each, listOf}
 use Rattle.meaning.specs.Image.{countAt, signalWidth, signalAt, decode}
 use Rattle.model.specs.Words.{Netlist}
-use Rattle.model.specs.Builder.{Out, done, andThen, Made, addOutputPort}
+use Rattle.model.specs.Builder.{done, andThen, Made, addOutputPort}
 use Rattle.model.specs.Lowering.{State, withNetlist, signalNets, signalSteps, connectOutput, connectOutputs}
 use Rattle.netlist_view.specs.View.{netlistOf}
 use Rattle.table_view.specs.View.{limitOf}
 use Rattle.netlist_laws.specs.Run.{Meets, Limit}
 use Rattle.gate_laws.specs.Ports.{OutputPort, output-port-run}
-use Rattle.walk_laws.specs.Kept.{Inv}
 use Rattle.walk_laws.specs.Writes.{inv-netlist}
 use Rattle.walk_laws.specs.Reads.{AllAfter, read-bits}
 use Rattle.records.specs.declared.Signal.{Signal}

@@ -1,21 +1,19 @@
 -- The words of a bit's net and of a control, and what pushing a record gives. Assumes nothing.
 use mathlib.Core.Path.{_≡_, refl, sym, ap, _∙_, subst}
-use mathlib.Core.Bool.{Bool, false, _||_}
+use mathlib.Core.Bool.{false}
 use mathlib.Core.List.{List, [], _∷_}
-use mathlib.Core.Option.{Option, none, some}
 use Prim.Native.Nat.{ℕ, _<_}
 use native.Mathlib.Omega.{arith}
 use borrow.Author.Tests.{ne-eqb}
-use lib.Dec.{eqb}
 use lib.ListN.{length, getD}
 use Rattle.meaning.specs.Image.{decode}
 use Rattle.model.specs.Words.{Netlist, absent, lowWord, controlWords}
-use Rattle.model.specs.Builder.{Out, done, andThen, push}
+use Rattle.model.specs.Builder.{Out, done, andThen}
 use Rattle.model.specs.Lowering.{State, withNetlist, netOf, signalBit, signalNet, optionControl, pushRecord}
 use Rattle.netlist_view.specs.View.{netlistOf, Formed}
 use Rattle.netlist_index.specs.Index.{isCell}
 use Rattle.netlist_laws.specs.Run.{Meets}
-use Rattle.table_view.specs.View.{limitOf, stateOf}
+use Rattle.table_view.specs.View.{limitOf}
 use Rattle.walk_laws.specs.Kept.{Any, Inv}
 use Rattle.walk_laws.specs.Writes.{inv-netlist}
 use Rattle.connect_laws.specs.Pushed.{pushed}

@@ -10,7 +10,7 @@ use Rattle.rtl.specs.Rtl.{Control}
 use Rattle.meaning.specs.Image.{absent, countAt, field, controlOf, optional}
 use Rattle.shared.specs.Good.{GoodBit, GoodControl, GoodOptional}
 use Rattle.model.specs.Words.{Netlist, controlWords}
-use Rattle.model.specs.Lowering.{Whole, whole, optionControl, bitStep, controlSteps}
+use Rattle.model.specs.Lowering.{Whole, optionControl, bitStep, controlSteps}
 use Rattle.table_view.specs.View.{limitOf, isWhole, stateOf}
 use Rattle.table_view.specs.Laws.{read-whole, whole-none}
 use Rattle.records.specs.declared.Control as C

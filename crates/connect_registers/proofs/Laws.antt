@@ -3,23 +3,17 @@ use mathlib.Core.Path.{_≡_, refl, sym, ap, _∙_, subst}
 use mathlib.Core.Bool.{Bool, true, false}
 use mathlib.Core.List.{List, [], _∷_, _++_}
 use mathlib.Core.Option.{Option, none, some}
-use Prim.Native.Nat.{ℕ, zero, suc, _+_, _<_}
+use Prim.Native.Nat.{ℕ, zero, suc, _<_}
 use native.Mathlib.Omega.{arith}
-use lib.ListN.{length}
 use Rattle.rtl.specs.Rtl as R
 use Rattle.rules.specs.Rules.{_≡?_, pick, each, listOf}
 use Rattle.rules.specs.Laws.{no-eq}
 use Rattle.meaning.specs.Image.{absent, countAt, field, signalWidth, exprWidth, controlOf, optional, registerOf, registerAt, decode}
 use Rattle.registers.specs.Good.{GoodReset, GoodResetOf}
 use Rattle.checks.specs.Accepted.{Accepted}
-use Rattle.model.specs.Words.{Netlist, lowWord, bitWord, controlWords, resetWords}
-use Rattle.model.specs.Builder.{Out, refused, done, andThen, constantValue}
-use Rattle.model.specs.Lowering as M
-use Rattle.model.specs.Lowering.{State, Whole, Bit, signalNet, wholeNet, netControl, optionControl, wholes, bitStep, controlSteps, resetSteps, registerSteps, lowerAll, pushRecord, resetBy, registerBit, registerBits, connectRegisters}
-use Rattle.netlist_view.specs.View.{Formed}
-use Rattle.netlist_view.specs.Formed.{formed-register}
-use Rattle.table_view.specs.View.{limitOf, isWhole}
-use Rattle.table_view.specs.Bounds.{signal-width}
+use Rattle.model.specs.Words.{lowWord, bitWord, controlWords, resetWords}
+use Rattle.model.specs.Builder.{refused, andThen, constantValue}
+use Rattle.model.specs.Lowering.{State, Whole, Bit, signalNet, wholeNet, optionControl, wholes, bitStep, controlSteps, resetSteps, registerSteps, lowerAll, pushRecord, resetBy, registerBit, registerBits, connectRegisters}
 use Rattle.records.specs.declared.Register.{Register}
 use Rattle.records.specs.declared.Reset.{Reset}
 use Rattle.records.specs.declared.ResetOption.{ResetOption}
@@ -33,7 +27,7 @@ use Rattle.walk_steps.specs.Answers.{Refused}
 use Rattle.walk_steps.specs.Steps.{GivesAll, gives-one}
 use Rattle.connect_parts.specs.Ran.{then-then, turns}
 use Rattle.connect_parts.specs.Steps.{gives-then, gives-out}
-use Rattle.connect_parts.specs.Parts.{ThereControl, control-there, met-whole}
+use Rattle.connect_parts.specs.Parts.{control-there, met-whole}
 use Rattle.connect_registers.specs.declared.ResetWords.{ResetWords}
 use Rattle.connect_registers.specs.Registers.{bitsTurn, registerTurn, resetOf, ThereReset, WideReset, There, WholeReset, Wholes, bitWords, fourWords, netReset}
 

@@ -1,6 +1,5 @@
 // `connect_registers` of struo-synth: each register's next value, clock, enable and reset are lowered, then each bit gets its record. A
 // reset value's bit that is no constant is refused.
-ghost use mathlib.Core.Path.{_≡_};
 ghost use mathlib.Core.Bool.{false};
 ghost use mathlib.Core.Option.{some};
 ghost use Prim.Native.Nat.{_<_};
@@ -91,7 +90,15 @@ fn reset_words(image: &[u8], scr: &[u32], x: Reset, v: u32) -> ResetWords
 }
 
 // The record of bit b of register k.
-fn push_register(image: &[u8], net: &mut [u32], scr: &[u32], k: u32, x: Register, b: u32, z: ResetWords) -> Lowered
+fn push_register(
+    image: &[u8],
+    net: &mut [u32],
+    scr: &[u32],
+    k: u32,
+    x: Register,
+    b: u32,
+    z: ResetWords,
+) -> Lowered
     requires { ⌜ (Ready (now image) (now net) (now scr)) × (Sure (now image) (now net) (now scr)) × (There (now image) (registerMeans x)) × (Wholes (now image) (now scr) (registerMeans x)) × (b < signalWidth (now image) (registerMeans x .target)) ⌝ }
     ensures { λ r. ⌜ Ran (model.pushRecord (bitWords k (registerMeans x) b (walkState (now (image .entry)) (now (net .entry)) (now (scr .entry))) (fourWords z)) (walkState (now (image .entry)) (now (net .entry)) (now (scr .entry)))) (now (image .entry)) (now (net .entry)) (now (scr .entry)) r (now (net .exit)) (now (scr .entry)) ⌝ }
 {
@@ -102,13 +109,33 @@ fn push_register(image: &[u8], net: &mut [u32], scr: &[u32], k: u32, x: Register
     let enable = x.enable;
     let c = connect_parts::control_words(image, scr, enable);
     let record = [
-        1, k, b, target, next, clock, edge, c.net, c.level, z.net, z.level, z.mode, z.value,
+        1,
+        k,
+        b,
+        target,
+        next,
+        clock,
+        edge,
+        c.net,
+        c.level,
+        z.net,
+        z.level,
+        z.mode,
+        z.value,
     ];
     connect_parts::push(image, net, scr, &record)
 }
 
 // The same where the register has a reset.
-fn push_reset(image: &[u8], net: &mut [u32], scr: &[u32], k: u32, x: Register, b: u32, y: Reset) -> Lowered
+fn push_reset(
+    image: &[u8],
+    net: &mut [u32],
+    scr: &[u32],
+    k: u32,
+    x: Register,
+    b: u32,
+    y: Reset,
+) -> Lowered
     requires { ⌜ (Ready (now image) (now net) (now scr)) × (Sure (now image) (now net) (now scr)) × (There (now image) (registerMeans x)) × (Wholes (now image) (now scr) (registerMeans x)) × (b < signalWidth (now image) (registerMeans x .target)) × (ThereReset (now image) (some (resetOf y))) × (b < exprWidth (now image) (resetOf y .value)) × (WholeReset (now image) (now scr) (some (resetOf y))) ⌝ }
     ensures { λ r. ⌜ Ran (model.registerBit (some (resetOf y)) k (registerMeans x) b (walkState (now (image .entry)) (now (net .entry)) (now (scr .entry)))) (now (image .entry)) (now (net .entry)) (now (scr .entry)) r (now (net .exit)) (now (scr .entry)) ⌝ }
 {

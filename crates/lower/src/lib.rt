@@ -2,7 +2,6 @@
 // Follows `lower` of struo-synth.
 ghost use mathlib.Core.Path.{_≡_};
 ghost use mathlib.Core.Bool.{false};
-ghost use Prim.Native.Nat.{_≤_};
 ghost use Rattle.meaning.specs.Image.{decode};
 ghost use Rattle.meaning.specs.Checks as rule;
 ghost use Rattle.model.specs.Lowering as model;
@@ -11,7 +10,7 @@ ghost use Rattle.checks.specs.Checked as checked;
 ghost use Rattle.checks.specs.Accepted.{Accepted};
 ghost use Rattle.netlist_view.specs.View.{room};
 ghost use Rattle.table_view.specs.View.{limitOf};
-ghost use Rattle.walk_view.specs.View.{walkState, Ready, Sure, Phase};
+ghost use Rattle.walk_view.specs.View.{Phase};
 ghost use Rattle.lower.specs.Lower.{answerOf, endOf, keptOf, Lent, Begun, Prepared, Ended};
 use checks::Checked;
 use walk_view::Lowered;

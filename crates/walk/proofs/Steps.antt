@@ -8,17 +8,14 @@ use Rattle.rtl.specs.Rtl.{Module}
 use Rattle.model.specs.Builder.{Out, refused, done, andThen}
 use Rattle.model.specs.Lowering as M
 use Rattle.model.specs.Lowering.{State, Step, Always, Unless, lowerSteps, lowerNeed, lowerBy, lowerExpression, lowerExpressionRange, resolveSignalBit, drive, whole, rangeKnown, signalBit, cell, mark, driverOf, setSignalBit, wholeNet, wholeSteps, rangeSteps, keepWhole, keepRange, buildWhole, buildRange}
-use Rattle.walk_view.specs.Met.{met, AllMet}
+use Rattle.walk_view.specs.Met.{AllMet}
 use Rattle.walk_view.specs.declared.Lowered.{Lowered}
 use Rattle.walk_view.specs.View.{outOf}
 use Rattle.walk_steps.specs.Answers.{Refused, out}
 use Rattle.plan.specs.Plan.{stepNeeds}
+use Rattle.walk.specs.Needs.{lowerNeeds, NeedsMet}
 
 -- ---- needs ----
-
-unfoldable pub lowerNeeds : (M.Need → State → Out State) → List M.Need → State → Out State
-lowerNeeds rec [] st = done st
-lowerNeeds rec (n ∷ ns) st = andThen (rec n st) (λ st₁. lowerNeeds rec ns st₁)
 
 pub steps-needs : (rec : M.Need → State → Out State) (ss : List Step) (st : State) → lowerSteps rec false ss st ≡ lowerNeeds rec (stepNeeds ss) st
 unfolding lowerSteps lowerNeeds
@@ -39,10 +36,6 @@ pub needs-out : (rec : M.Need → State → Out State) (ns ms : List M.Need) (n 
     → lowerNeeds rec ns st ≡ outOf x st₁
 unfolding lowerNeeds
 needs-out rec ns ms n st st₁ x e r f = rw (e, r) (out x f _ st₁ st₁)
-
-abbrev pub NeedsMet : State → List M.Need → Type 0
-NeedsMet st [] = Unit {0}
-NeedsMet st (n ∷ ns) = (met st n ≡ true) × NeedsMet st ns
 
 pub all-needs : (st : State) (ss : List Step) → NeedsMet st (stepNeeds ss) → AllMet st ss
 all-needs st [] m = tt

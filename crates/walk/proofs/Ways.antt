@@ -25,17 +25,20 @@ use Rattle.accepted.specs.Formed.{readable}
 use Rattle.walk_view.specs.declared.Lowered.{Lowered}
 use Rattle.walk_view.specs.declared.Lowered.the-variants.{Done, Undriven, Loop, Reset, TooManyNets, ListFull}
 use Rattle.walk_view.specs.Met.{met, isSome, AllMet, Grows, grows-mark, grows-signal, meets-signal}
-use Rattle.walk_view.specs.View.{walkState, Ready, Sure, Kept, outOf, Builds, rankOf, costOf, Gives}
+use Rattle.walk_view.specs.View.{walkState, Ready, Sure, There, outOf, Builds, rankOf, costOf, Gives}
 use Rattle.sure_laws.specs.Sure.{sure-done, sure-marks}
 use Rattle.plan.specs.declared.Need.{Need}
 use Rattle.plan.specs.declared.Need.the-variants.{Bit, Whole, Range, Nothing}
-use Rattle.plan.specs.Plan.{needsOf, stepNeeds, wholeNeeds, rangeRest}
+use Rattle.plan.specs.Plan.{needsOf, stepNeeds, wholeNeeds, rangeTurns, rangeRest}
 use Rattle.plan.specs.Kinds.{range-begins}
 use Rattle.plan.specs.Fits.{AllFit, whole-fits, range-fits}
-use Rattle.walk.specs.Walk.{ThereNeed, GivesNeed, costNeed, driven, Keeps}
+use Rattle.walk.specs.declared.Part.{Part}
+use Rattle.walk.specs.declared.Part.the-variants as P
+use Rattle.walk.specs.Needs.{lowerNeeds, NeedsMet}
+use Rattle.walk.specs.Walk.{ThereNeed, GivesNeed, costNeed, LoopAt, WholeLoop, RangeLoop, needOf, At, Below, FirstTurn, driven, Keeps}
 use Rattle.sure_laws.specs.Stores.{no-store, stored-ready, stored-kept, stored-state, stored-grows, kept-same, kept-then}
 use Rattle.walk_steps.specs.Answers.{Refused, out, not-done}
-use Rattle.walk.proofs.Steps.{lowerNeeds, needs-none, needs-on, needs-out, NeedsMet, all-needs, need-suc, whole-there, whole-open, range-there, range-open, bit-there, bit-undriven, bit-loop, bit-driven}
+use Rattle.walk.proofs.Steps.{needs-none, needs-on, needs-out, all-needs, need-suc, whole-there, whole-open, range-there, range-open, bit-there, bit-undriven, bit-loop, bit-driven}
 
 pub enough : (model : ℕ → Out State) (cost : ℕ) (x : Out State) → ((f : ℕ) → cost ≤ f → model (suc f) ≡ x) → (f : ℕ) → cost < f → model f ≡ x
 enough model cost x g zero h = absurd (omega arith)
@@ -47,17 +50,7 @@ less s w w₁ n n₁ h r =
     let m : free s w₁ * (2 * countAt s 1 + 1) ≤ free s w * (2 * countAt s 1 + 1) = mul-le-mul-right (2 * countAt s 1 + 1) h in
     omega arith
 
--- ---- the loop over what is lowered before: rest is what is left of it ----
-
-pub record LoopAt (s net₀ w₀ : List ℕ) (n₀ : M.Need) (all : List Step) (cont : State → Out State) (rest : List M.Need) (net w : List ℕ) : Type 0 where
-  pub says : (f : ℕ) → costOf s w₀ n₀ ≤ f → lowerNeed (suc f) (decode s) false n₀ (walkState s net₀ w₀)
-      ≡ andThen (lowerNeeds (λ n st. lowerNeed f (decode s) false n st) rest (walkState s net w)) cont
-  pub ready : Ready s net w
-  pub sure : Sure s net w
-  pub kept : Kept s net₀ w₀ net w
-  pub grows : Grows (walkState s net₀ w₀) (walkState s net w)
-  pub done-then : (st : State) → Grows (walkState s net w) st → NeedsMet st rest → AllMet st all
-  pub fits : AllFit s (rankOf n₀) rest
+-- ---- what is left to lower ----
 
 module _ (s net w : List ℕ) (n₀ : M.Need) (ss : List Step) (cont : State → Out State) (r : Ready s net w) (sure : Sure s net w) where
   pub loop-start : ((f : ℕ) → lowerBy (λ n st. lowerNeed f (decode s) false n st) (decode s) false n₀ (walkState s net w)
@@ -132,7 +125,7 @@ module _ (s net₀ w₀ : List ℕ) (n₀ : M.Need) (all : List Step) (cont : St
   need-there (Range a l k) e = (subst (AllFit s (rankOf n₀)) e (h .fits)) .0 .0
   need-there Nothing e = tt
 
-  pub need-less : (n : Need) → 0 < rankOf n₀ → rest ≡ needsOf n ++ rest₁ → 2 * costNeed s w n + 1 < 2 * costOf s w₀ n₀
+  pub need-less : (n : Need) → 0 < rankOf n₀ → rest ≡ needsOf n ++ rest₁ → costNeed s w n < costOf s w₀ n₀
   need-less (Bit p b) z e = let l = less s w₀ w n₀ (M.Bit p b) (h .kept .fewer) ((subst (AllFit s (rankOf n₀)) e (h .fits)) .0 .1) in omega arith
   need-less (Whole a) z e = let l = less s w₀ w n₀ (M.Whole a) (h .kept .fewer) ((subst (AllFit s (rankOf n₀)) e (h .fits)) .0 .1) in omega arith
   need-less (Range a l k) z e = let l = less s w₀ w n₀ (M.Range a l k) (h .kept .fewer) ((subst (AllFit s (rankOf n₀)) e (h .fits)) .0 .1) in omega arith
@@ -314,6 +307,124 @@ module _ (s net w : List ℕ) (e : ℕ) (r : Ready s net w) (i : Sure s net w) (
       (loop-start s net w (M.Range e lsb k) (rangeSteps (exprsOf s) e lsb k) (λ st₁. keepRange st₁ e lsb (buildRange (exprsOf s) false st₁ e lsb k)) r i
       (λ f. range-open (λ n st. lowerNeed f (decode s) false n st) (decode s) e lsb k (walkState s net w) t)
       (subst (AllFit s (2 * e + 2)) (sym b) (range-fits s (r .accepted) e lsb k h room)))
+
+-- ---- turns ----
+
+module _ (s net₀ w₀ : List ℕ) (e k at : ℕ) (net w : List ℕ) (h : At s net₀ w₀ (P.Whole e) k at net w) (r : Bool) (f : FirstTurn k r (isWhole s (limitOf w) w e)) where
+  pub whole-over : r ≡ true → Gives s net₀ w₀ (M.Whole e) Done net w
+  whole-over t = go k refl
+    where
+      go : (j : ℕ) → k ≡ j → Gives s net₀ w₀ (M.Whole e) Done net w
+      go zero z = rw (h .first z .0, h .first z .1) (whole-known s net w e (h .ready) (h .there) (sym (f .0 z) ∙ t))
+      go (suc j) z = absurd (true≢false (sym t ∙ f .1 (omega arith)))
+
+  pub whole-left : r ≡ false → WholeLoop s net₀ w₀ e (drop k (wholeNeeds s e)) net w
+  whole-left t = go k refl
+    where
+      go : (j : ℕ) → k ≡ j → WholeLoop s net₀ w₀ e (drop k (wholeNeeds s e)) net w
+      go zero z = rw (h .first z .0, h .first z .1, z) (whole-start s net w e (h .ready) (h .sure) (h .there) (sym (f .0 z) ∙ t))
+      go (suc j) z = h .later (omega arith)
+
+pub whole-below : (s net₀ w₀ : List ℕ) (e k : ℕ) (net w : List ℕ) (n : Need) → WholeLoop s net₀ w₀ e (drop k (wholeNeeds s e)) net w
+    → drop k (wholeNeeds s e) ≡ needsOf n ++ drop (k + 1) (wholeNeeds s e) → k < length (wholeNeeds s e) → k + 1 < 4294967296
+    → Below s net₀ w₀ (P.Whole e) k n 0 net w
+whole-below s net₀ w₀ e k net w n h split more small = record {
+  ready = h .ready;
+  sure = h .sure;
+  there = need-there s net₀ w₀ (M.Whole e) _ _ _ _ net w net w h n split;
+  place = omega arith;
+  turn = more;
+  small = small;
+  less = need-less s net₀ w₀ (M.Whole e) _ _ _ _ net w net w h n (omega arith) split;
+  on = λ x net₁ w₁ g d. loop-turn s net₀ w₀ (M.Whole e) _ _ _ _ net w net₁ w₁ h n x split g d;
+  out = λ x net₁ w₁ g q. loop-out s net₀ w₀ (M.Whole e) _ _ _ _ net w net₁ w₁ h n x split g q;
+}
+
+module _ (s net₀ w₀ : List ℕ) (e lsb n k at : ℕ) (net w : List ℕ) (h : At s net₀ w₀ (P.Range e lsb n) k at net w) (r : Bool)
+    (f : FirstTurn k r (rangeKnown (walkState s net w) e lsb n)) where
+  pub range-over : r ≡ true → Gives s net₀ w₀ (M.Range e lsb n) Done net w
+  range-over t = go k refl
+    where
+      go : (j : ℕ) → k ≡ j → Gives s net₀ w₀ (M.Range e lsb n) Done net w
+      go zero z = rw (h .first z .0, h .first z .1) (range-known s net w e lsb n (h .ready) (sym (f .0 z) ∙ t))
+      go (suc j) z = absurd (true≢false (sym t ∙ f .1 (omega arith)))
+
+  pub range-left : r ≡ false → RangeLoop s net₀ w₀ e lsb n (rangeRest s e lsb n k at) net w × (1 ≤ n)
+  range-left t = go k refl
+    where
+      go : (j : ℕ) → k ≡ j → RangeLoop s net₀ w₀ e lsb n (rangeRest s e lsb n k at) net w × (1 ≤ n)
+      go zero z =
+          let a : at ≡ 0 = omega (arith, h .place) in
+          let u = sym (f .0 z) ∙ t in
+          (rw (h .first z .0, h .first z .1, z, a) (range-start s net w e (h .ready) (h .sure) (h .there .0) lsb n (h .there .1) u), range-some (walkState s net w) e lsb n u)
+      go (suc j) z = h .later (omega arith)
+
+pub range-below : (s net₀ w₀ : List ℕ) (e lsb m k at : ℕ) (net w : List ℕ) (n : Need) (at₁ : ℕ) → RangeLoop s net₀ w₀ e lsb m (rangeRest s e lsb m k at) net w × (1 ≤ m)
+    → rangeRest s e lsb m k at ≡ needsOf n ++ rangeRest s e lsb m (k + 1) at₁ → k < rangeTurns s e m → k + 1 < 4294967296 → at₁ ≤ 1024 * (k + 1)
+    → Below s net₀ w₀ (P.Range e lsb m) k n at₁ net w
+range-below s net₀ w₀ e lsb m k at net w n at₁ h split more small place = record {
+  ready = h .0 .ready;
+  sure = h .0 .sure;
+  there = need-there s net₀ w₀ (M.Range e lsb m) _ _ _ _ net w net w (h .0) n split;
+  place = place;
+  turn = more;
+  small = small;
+  less = need-less s net₀ w₀ (M.Range e lsb m) _ _ _ _ net w net w (h .0) n (omega arith) split;
+  on = λ x net₁ w₁ g d. (loop-turn s net₀ w₀ (M.Range e lsb m) _ _ _ _ net w net₁ w₁ (h .0) n x split g d, h .1);
+  out = λ x net₁ w₁ g q. loop-out s net₀ w₀ (M.Range e lsb m) _ _ _ _ net w net₁ w₁ (h .0) n x split g q;
+}
+
+-- where a part begins plays no part
+pub whole-at : (s net₀ w₀ : List ℕ) (e k at : ℕ) (net w : List ℕ) → At s net₀ w₀ (P.Whole e) k at net w → At s net₀ w₀ (P.Whole e) k 0 net w
+whole-at s net₀ w₀ e k at net w h = record {
+  ready = h .ready;
+  sure = h .sure;
+  there = h .there;
+  netLong = h .netLong;
+  long = h .long;
+  place = omega arith;
+  first = h .first;
+  later = h .later;
+}
+
+pub turn-start : (s net w : List ℕ) (part : Part) → Ready s net w → Sure s net w → There s (needOf part) → At s net w part 0 0 net w
+turn-start s net w part r i h = record {
+  ready = r;
+  sure = i;
+  there = h;
+  netLong = refl;
+  long = refl;
+  place = omega arith;
+  first = λ z. (refl, refl);
+  later = λ z. absurd (omega arith);
+}
+
+-- what a call for a need leaves
+need-ready : (s net w : List ℕ) (n : Need) (x : Lowered) (net₁ w₁ : List ℕ) → Ready s net w → GivesNeed s net w n x net₁ w₁ → Ready s net₁ w₁
+need-ready s net w (Bit p b) x net₁ w₁ r g = g .ready
+need-ready s net w (Whole e) x net₁ w₁ r g = g .ready
+need-ready s net w (Range e lsb k) x net₁ w₁ r g = g .ready
+need-ready s net w Nothing x net₁ w₁ r g = rw (g .1, g .2) r
+
+need-sure : (s net w : List ℕ) (n : Need) (x : Lowered) (net₁ w₁ : List ℕ) → Ready s net w → Sure s net w → ThereNeed s n → GivesNeed s net w n x net₁ w₁ → x ≡ Done → Sure s net₁ w₁
+need-sure s net w (Bit p b) x net₁ w₁ r i h g d = sure-done s net w net₁ w₁ (M.Bit p b) x d (r .accepted) i h g
+need-sure s net w (Whole e) x net₁ w₁ r i h g d = sure-done s net w net₁ w₁ (M.Whole e) x d (r .accepted) i h g
+need-sure s net w (Range e lsb k) x net₁ w₁ r i h g d = sure-done s net w net₁ w₁ (M.Range e lsb k) x d (r .accepted) i h g
+need-sure s net w Nothing x net₁ w₁ r i h g d = rw (g .1, g .2) i
+
+pub turn-next : (s net₀ w₀ : List ℕ) (part : Part) (k : ℕ) (n : Need) (at : ℕ) (net w : List ℕ) → There s (needOf part) → Below s net₀ w₀ part k n at net w
+    → (x : Lowered) (net₁ w₁ : List ℕ) → GivesNeed s net w n x net₁ w₁ → x ≡ Done → length net₁ ≡ length net₀ → length w₁ ≡ length w₀
+    → At s net₀ w₀ part (k + 1) at net₁ w₁
+turn-next s net₀ w₀ part k n at net w t h x net₁ w₁ g d netLong long = record {
+  ready = need-ready s net w n x net₁ w₁ (h .ready) g;
+  sure = need-sure s net w n x net₁ w₁ (h .ready) (h .sure) (h .there) g d;
+  there = t;
+  netLong = netLong;
+  long = long;
+  place = h .place;
+  first = λ z. absurd (omega arith);
+  later = λ z. h .on x net₁ w₁ g d;
+}
 
 -- ---- the net of a driven bit ----
 

@@ -1,2 +1,3 @@
 -- What the walk's calls give.
+pub mod Needs
 pub mod Walk

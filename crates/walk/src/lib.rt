@@ -1,21 +1,107 @@
 // The walk over a module: signal bits, expressions and ranges of expressions are lowered by need, each once. Follows `resolve_signal_bit`,
-// `lower_expression` and `lower_expression_range` of struo-synth. They call each other; what is then made is outside (`build`).
+// `lower_expression` and `lower_expression_range` of struo-synth, which call each other. A level of the recursion keeps few words on the
+// stack: what an expression does between two calls is a turn, outside of the recursion.
 ghost use mathlib.Core.Path.{_≡_};
-ghost use mathlib.Core.Bool.{true, false};
+ghost use mathlib.Core.Bool.{true};
 ghost use Prim.Native.Nat.{ℕ, _+_, _≤_, _<_};
 ghost use Rattle.meaning.specs.Image.{countAt, signalWidth, exprWidth};
+ghost use Rattle.model.specs.Words.{Netlist};
 ghost use Rattle.model.specs.Lowering as model;
-ghost use Rattle.expr_laws.specs.Exprs.{exprsOf};
-ghost use Rattle.table_view.specs.View.{limitOf, isWhole, Laid};
-ghost use Rattle.walk_view.specs.Met.{AllMet};
-ghost use Rattle.walk_view.specs.View.{walkState, Ready, Sure, Builds, Gives};
+ghost use Rattle.table_view.specs.View.{limitOf, isWhole, stateOf, Laid};
+ghost use Rattle.walk_view.specs.View.{Ready, Sure, Gives};
 ghost use Rattle.walk_steps.specs.Steps.{GivesAll};
 ghost use Rattle.walk_view.specs.declared.Lowered.the-variants as L;
-ghost use Rattle.walk.specs.Walk.{ThereNeed, GivesNeed, Keeps};
+ghost use Rattle.walk.specs.declared.Part.the-variants as P;
+ghost use Rattle.walk.specs.Walk.{ThereNeed, GivesNeed, FirstTurn, Keeps, Begun, Turns};
 use plan::Need;
 use tables::Driver;
 use tables::Known;
 use walk_view::Lowered;
+
+// An expression, or a range of it (lsb, width).
+pub enum Part {
+    Whole(u32),
+    Range(u32, u32, u32),
+}
+
+// What a turn answers: what is to be lowered before the next one, and where the part of a Concat that the next one takes begins; or the end.
+pub enum Next {
+    Lower(Need, u32),
+    Over(Lowered),
+}
+
+// ---- turns ----
+
+// Only turn 0 asks whether all is there already.
+fn whole_known(image: &[u8], scr: &[u32], e: u32, k: u32) -> bool
+    requires { ⌜ (Laid (now image) (now scr)) × (e < countAt (now image) 1) ⌝ }
+    ensures { λ r. ⌜ FirstTurn k r (isWhole (now (image .entry)) (limitOf (now (scr .entry))) (now (scr .entry)) e) ⌝ }
+{
+    if k == 0 {
+        return tables::is_whole(image, scr, e);
+    }
+    false
+}
+
+fn turn_whole(image: &[u8], net: &mut [u32], scr: &mut [u32], e: u32, k: u32) -> Next
+    requires { ⌜ Begun (now image) (P.Whole e) k 0 (now net) (now scr) ⌝ }
+    ensures { λ r. ⌜ Turns (now (image .entry)) (now (net .entry)) (now (scr .entry)) (P.Whole e) k 0 r (now (net .exit)) (now (scr .exit)) ⌝ }
+{
+    if whole_known(image, scr, e, k) {
+        return Next::Over(Lowered::Done);
+    }
+    if k < plan::whole_count(image, e) {
+        return Next::Lower(plan::whole_need(image, e, k), 0);
+    }
+    Next::Over(build::build_whole(image, net, scr, e))
+}
+
+fn range_known(image: &[u8], scr: &[u32], e: u32, lsb: u32, w: u32, k: u32) -> bool
+    requires { ⌜ (Laid (now image) (now scr)) × (e < countAt (now image) 1) × (lsb + w ≤ exprWidth (now image) e) ⌝ }
+    ensures { λ r. ⌜ ((l : Netlist) → FirstTurn k r (model.rangeKnown (stateOf (now (image .entry)) l (now (scr .entry))) e lsb w)) ⌝ }
+{
+    if k == 0 {
+        return tables::range_known(image, scr, e, lsb, w);
+    }
+    false
+}
+
+fn turn_range(
+    image: &[u8],
+    net: &mut [u32],
+    scr: &mut [u32],
+    e: u32,
+    lsb: u32,
+    w: u32,
+    k: u32,
+    at: u32,
+) -> Next
+    requires { ⌜ Begun (now image) (P.Range e lsb w) k at (now net) (now scr) ⌝ }
+    ensures { λ r. ⌜ Turns (now (image .entry)) (now (net .entry)) (now (scr .entry)) (P.Range e lsb w) k at r (now (net .exit)) (now (scr .exit)) ⌝ }
+{
+    if range_known(image, scr, e, lsb, w, k) {
+        return Next::Over(Lowered::Done);
+    }
+    if k < plan::range_turns(image, e, w) {
+        let need = plan::range_need(image, e, lsb, w, k, at);
+        return Next::Lower(need, plan::range_next(image, e, k, at));
+    }
+    Next::Over(build::build_range(image, net, scr, e, lsb, w))
+}
+
+// Turn k of an expression or a range; the part of a Concat that it takes begins at bit at. Two functions call it, so the compiler keeps it
+// out of their frames.
+fn turn(image: &[u8], net: &mut [u32], scr: &mut [u32], part: Part, k: u32, at: u32) -> Next
+    requires { ⌜ Begun (now image) part k at (now net) (now scr) ⌝ }
+    ensures { λ r. ⌜ Turns (now (image .entry)) (now (net .entry)) (now (scr .entry)) part k at r (now (net .exit)) (now (scr .exit)) ⌝ }
+{
+    match part {
+        Part::Whole(e) => turn_whole(image, net, scr, e, k),
+        Part::Range(e, lsb, w) => turn_range(image, net, scr, e, lsb, w, k, at),
+    }
+}
+
+// ---- the recursion ----
 
 // The net of bit o of expression e, once it is lowered, for bit b of signal p.
 fn keep_driven(image: &[u8], scr: &mut [u32], p: u32, b: u32, e: u32, o: u32, x: Lowered) -> Lowered
@@ -54,19 +140,20 @@ pub fn lower_expression(image: &[u8], net: &mut [u32], scr: &mut [u32], e: u32) 
     requires { ⌜ (Ready (now image) (now net) (now scr)) × (Sure (now image) (now net) (now scr)) × (e < countAt (now image) 1) ⌝ }
     ensures { λ r. ⌜ Gives (now (image .entry)) (now (net .entry)) (now (scr .entry)) (model.Whole e) r (now (net .exit)) (now (scr .exit)) ⌝ }
 {
-    if tables::is_whole(image, scr, e) {
-        return Lowered::Done;
-    }
-    let n = plan::whole_count(image, e);
+    let part = Part::Whole(e);
     let mut k = 0;
-    while k < n {
-        let x = lower_need(image, net, scr, plan::whole_need(image, e, k));
-        let Lowered::Done = x else {
-            return x;
-        };
-        k += 1;
+    loop {
+        match turn(image, net, scr, part, k, 0) {
+            Next::Over(x) => return x,
+            Next::Lower(need, _) => {
+                let x = lower_need(image, net, scr, need);
+                let Lowered::Done = x else {
+                    return x;
+                };
+                k += 1;
+            }
+        }
     }
-    build::build_whole(image, net, scr, e)
 }
 
 pub fn lower_expression_range(
@@ -80,22 +167,53 @@ pub fn lower_expression_range(
     requires { ⌜ (Ready (now image) (now net) (now scr)) × (Sure (now image) (now net) (now scr)) × (e < countAt (now image) 1) × (lsb + w ≤ exprWidth (now image) e) ⌝ }
     ensures { λ r. ⌜ Gives (now (image .entry)) (now (net .entry)) (now (scr .entry)) (model.Range e lsb w) r (now (net .exit)) (now (scr .exit)) ⌝ }
 {
-    if tables::range_known(image, scr, e, lsb, w) {
-        return Lowered::Done;
-    }
-    let n = plan::range_turns(image, e, w);
-    let mut at = 0;
+    let part = Part::Range(e, lsb, w);
     let mut k = 0;
-    while k < n {
-        let x = lower_need(image, net, scr, plan::range_need(image, e, lsb, w, k, at));
-        let Lowered::Done = x else {
-            return x;
-        };
-        at = plan::range_next(image, e, k, at);
-        k += 1;
+    let mut at = 0;
+    loop {
+        match turn(image, net, scr, part, k, at) {
+            Next::Over(x) => return x,
+            Next::Lower(need, next) => {
+                let x = lower_need(image, net, scr, need);
+                let Lowered::Done = x else {
+                    return x;
+                };
+                at = next;
+                k += 1;
+            }
+        }
     }
-    build::build_range(image, net, scr, e, lsb, w)
 }
+
+// `lower_need` calls these two, so that what their calls lend takes no room in its own frame.
+fn lower_bit(image: &[u8], net: &mut [u32], scr: &mut [u32], p: u32, b: u32) -> Lowered
+    requires { ⌜ (Ready (now image) (now net) (now scr)) × (Sure (now image) (now net) (now scr)) × (p < countAt (now image) 0) × (b < signalWidth (now image) p) ⌝ }
+    ensures { λ r. ⌜ Gives (now (image .entry)) (now (net .entry)) (now (scr .entry)) (model.Bit p b) r (now (net .exit)) (now (scr .exit)) ⌝ }
+{
+    resolve_signal_bit(image, net, scr, p, b)
+}
+
+fn lower_whole(image: &[u8], net: &mut [u32], scr: &mut [u32], e: u32) -> Lowered
+    requires { ⌜ (Ready (now image) (now net) (now scr)) × (Sure (now image) (now net) (now scr)) × (e < countAt (now image) 1) ⌝ }
+    ensures { λ r. ⌜ Gives (now (image .entry)) (now (net .entry)) (now (scr .entry)) (model.Whole e) r (now (net .exit)) (now (scr .exit)) ⌝ }
+{
+    lower_expression(image, net, scr, e)
+}
+
+// What a need names.
+fn lower_need(image: &[u8], net: &mut [u32], scr: &mut [u32], need: Need) -> Lowered
+    requires { ⌜ (Ready (now image) (now net) (now scr)) × (Sure (now image) (now net) (now scr)) × (ThereNeed (now image) need) ⌝ }
+    ensures { λ r. ⌜ GivesNeed (now (image .entry)) (now (net .entry)) (now (scr .entry)) need r (now (net .exit)) (now (scr .exit)) ⌝ }
+{
+    match need {
+        Need::Bit(p, b) => lower_bit(image, net, scr, p, b),
+        Need::Whole(e) => lower_whole(image, net, scr, e),
+        Need::Range(e, lsb, w) => lower_expression_range(image, net, scr, e, lsb, w),
+        Need::Nothing => Lowered::Done,
+    }
+}
+
+// ---- for callers ----
 
 // The lowest w bits of signal p, in turn.
 pub fn resolve_signal(image: &[u8], net: &mut [u32], scr: &mut [u32], p: u32, w: u32) -> Lowered
@@ -111,17 +229,4 @@ pub fn resolve_signal(image: &[u8], net: &mut [u32], scr: &mut [u32], p: u32, w:
         b += 1;
     }
     Lowered::Done
-}
-
-// What a need names.
-fn lower_need(image: &[u8], net: &mut [u32], scr: &mut [u32], need: Need) -> Lowered
-    requires { ⌜ (Ready (now image) (now net) (now scr)) × (Sure (now image) (now net) (now scr)) × (ThereNeed (now image) need) ⌝ }
-    ensures { λ r. ⌜ GivesNeed (now (image .entry)) (now (net .entry)) (now (scr .entry)) need r (now (net .exit)) (now (scr .exit)) ⌝ }
-{
-    match need {
-        Need::Bit(p, b) => resolve_signal_bit(image, net, scr, p, b),
-        Need::Whole(e) => lower_expression(image, net, scr, e),
-        Need::Range(e, lsb, w) => lower_expression_range(image, net, scr, e, lsb, w),
-        Need::Nothing => Lowered::Done,
-    }
 }

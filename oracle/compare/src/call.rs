@@ -4,7 +4,7 @@
 use crate::expect::{after_call, Expected};
 use crate::limits::Limits;
 use crate::subject::Subject;
-use crate::Answer;
+use crate::{Answer, ACCEPTED};
 use std::fmt;
 
 /// Words before and behind each lent buffer that no call may write.
@@ -17,11 +17,13 @@ pub enum What {
     Lower,
 }
 
-/// How an outcome differs.
+/// How an outcome differs, or the two readings of document 01 do.
 #[derive(Clone, Debug)]
 pub struct Difference {
     pub limits: Limits,
     pub expected: Answer,
+    /// The second reading's answer, where it is not the reference's.
+    pub second_reading: Option<Answer>,
     pub got: Answer,
     pub word: Option<WordDifference>,
 }
@@ -41,12 +43,21 @@ impl fmt::Display for Difference {
         let Limits { n, p, netlist_words, scratch_words } = self.limits;
         writeln!(f, "N {n}, P {p}, netlist buffer {netlist_words} words, scratch {scratch_words} words")?;
         writeln!(f, "expected answer {:?}", self.expected)?;
-        write!(f, "got answer      {:?}", self.got)?;
-        if let Some(word) = &self.word {
-            let WordDifference { buffer, index, expected, got } = word;
-            write!(f, "\nfirst differing word: {buffer} word {index}: expected {expected}, got {got}")?;
+        if let Some(second) = self.second_reading {
+            writeln!(f, "THE TWO READINGS DIFFER: the second says {second:?}")?;
         }
-        Ok(())
+        write!(f, "got answer      {:?}", self.got)?;
+        match &self.word {
+            Some(word) => write!(f, "\n{word}"),
+            None => Ok(()),
+        }
+    }
+}
+
+impl fmt::Display for WordDifference {
+    fn fmt(&self, f: &mut fmt::Formatter) -> fmt::Result {
+        let WordDifference { buffer, index, expected, got } = self;
+        write!(f, "first differing word: {buffer} word {index}: expected {expected}, got {got}")
     }
 }
 
@@ -62,8 +73,20 @@ fn compare_check(subject: &dyn Subject, image: &[u8], limits: &Limits, junk: u64
     let expected = reference::check(image, limits.n, limits.p, limits.netlist_words, limits.scratch_words);
     let lent = LentImage::new(image, junk);
     let got = subject.check(lent.bytes(), limits);
-    let differs = got != expected;
-    (expected, differs.then_some(Difference { limits: *limits, expected, got, word: None }))
+    let second_reading = second_reading(image, limits, expected);
+    let differs = got != expected || second_reading.is_some();
+    (expected, differs.then_some(Difference { limits: *limits, expected, second_reading, got, word: None }))
+}
+
+/// What the second reading says of the checks, where it is not `first`.
+fn second_reading(image: &[u8], limits: &Limits, first: Answer) -> Option<Answer> {
+    let second = reading::refusal(image, limits.n, limits.p, limits.netlist_words, limits.scratch_words);
+    (second != first).then_some(second)
+}
+
+/// The checks' part of a call's answer: refusals 6 to 10 come after them.
+fn of_checks(answer: Answer) -> Answer {
+    if answer[0] > 5 { ACCEPTED } else { answer }
 }
 
 fn compare_lower(subject: &dyn Subject, image: &[u8], limits: &Limits, junk: u64) -> (Answer, Option<Difference>) {
@@ -76,20 +99,21 @@ fn compare_lower(subject: &dyn Subject, image: &[u8], limits: &Limits, junk: u64
         .first_difference(expected.netlist.as_deref().unwrap_or(&[]))
         .or_else(|| scratch.first_difference(&vec![0; expected.scratch_required]));
     let Expected { answer, .. } = expected;
-    let differs = got != answer || word.is_some();
-    (answer, differs.then_some(Difference { limits: *limits, expected: answer, got, word }))
+    let second_reading = second_reading(image, limits, of_checks(answer));
+    let differs = got != answer || word.is_some() || second_reading.is_some();
+    (answer, differs.then_some(Difference { limits: *limits, expected: answer, second_reading, got, word }))
 }
 
 /// A copy of the image amid junk, at any alignment, so that reading outside it
 /// does not go unseen for long.
-struct LentImage {
+pub(crate) struct LentImage {
     memory: Vec<u8>,
     start: usize,
     length: usize,
 }
 
 impl LentImage {
-    fn new(image: &[u8], junk: u64) -> Self {
+    pub(crate) fn new(image: &[u8], junk: u64) -> Self {
         let start = 16 + (junk % 4) as usize;
         let mut memory: Vec<u8> = (0..start as u64).map(|at| junk_word(junk, at) as u8).collect();
         memory.extend_from_slice(image);
@@ -97,32 +121,32 @@ impl LentImage {
         LentImage { memory, start, length: image.len() }
     }
 
-    fn bytes(&self) -> &[u8] {
+    pub(crate) fn bytes(&self) -> &[u8] {
         &self.memory[self.start..self.start + self.length]
     }
 }
 
 /// A buffer full of junk, between guards.
-struct LentWords {
+pub(crate) struct LentWords {
     name: &'static str,
     memory: Vec<u32>,
     junk: u64,
 }
 
 impl LentWords {
-    fn new(name: &'static str, length: usize, junk: u64) -> Self {
+    pub(crate) fn new(name: &'static str, length: usize, junk: u64) -> Self {
         let memory = (0..(length + 2 * GUARD) as u64).map(|at| junk_word(junk, at)).collect();
         LentWords { name, memory, junk }
     }
 
-    fn words(&mut self) -> &mut [u32] {
+    pub(crate) fn words(&mut self) -> &mut [u32] {
         let end = self.memory.len() - GUARD;
         &mut self.memory[GUARD..end]
     }
 
     /// The first word that is not as expected: `required` from the start on,
     /// all others as before.
-    fn first_difference(&self, required: &[u32]) -> Option<WordDifference> {
+    pub(crate) fn first_difference(&self, required: &[u32]) -> Option<WordDifference> {
         let expected_at = |at: usize| match at.checked_sub(GUARD).and_then(|index| required.get(index)) {
             Some(&word) => word,
             None => junk_word(self.junk, at as u64),

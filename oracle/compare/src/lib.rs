@@ -1,18 +1,22 @@
 //! Comparing the port with document 01: cases, limits, the call with guarded
-//! buffers, what must be in them afterwards, shrinking, and the replay list.
+//! buffers, what must be in them afterwards, shrinking, and the replay list; and
+//! parts of the port with struo's own functions.
 
 pub mod args;
+pub mod builds;
 pub mod call;
 pub mod cases;
 pub mod expect;
 pub mod faults;
 pub mod limits;
+pub mod parts;
 pub mod replay;
 pub mod run;
 pub mod selftest;
 pub mod shrink;
 pub mod speed;
 pub mod subject;
+pub mod tables;
 
 /// Number and two places; all 0 for acceptance.
 pub type Answer = [u32; 3];

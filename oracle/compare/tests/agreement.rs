@@ -27,6 +27,14 @@ fn both_sums_of_buffer_words_agree() {
 }
 
 #[test]
+fn both_readings_of_the_checks_agree_at_the_borders() {
+    for (name, image, n, p, netlist, scratch) in borders() {
+        let first = reference::check(&image, n, p, netlist, scratch);
+        assert_eq!(reading::refusal(&image, n, p, netlist, scratch), first, "{name}");
+    }
+}
+
+#[test]
 fn headers_that_decode_are_those_that_refusal_3_passes() {
     for (name, image, ..) in borders() {
         let answer = reference::check(&image, 1, 0, usize::MAX, usize::MAX);

@@ -4,6 +4,8 @@
 //! for netlists.
 
 mod big_stack;
+mod building;
+mod expressions;
 mod listing;
 mod module_image;
 mod module_sim;
@@ -13,13 +15,16 @@ mod rtl;
 mod simulation;
 mod words;
 
-// Two copies of the lowering: `plain` (unchanged) and `limited` (limits.patch).
+// Two copies of the lowering: `plain` (unchanged) and `limited` (limits.patch);
+// `ranged` is the range analysis alone (ranges.patch).
 include!(concat!(env!("OUT_DIR"), "/copies.rs"));
 
 use std::any::Any;
 use std::panic::{AssertUnwindSafe, catch_unwind};
 
 pub use big_stack::with_big_stack;
+pub use building::{Built, Operation, build, digest};
+pub use expressions::{Fused, Ranged, expressions};
 pub use listing::{Check, LISTING_LIMITS, listing};
 pub use module_sim::ModuleSim;
 pub use netlist_sim::NetlistSim;

@@ -119,6 +119,7 @@ impl Picture<'_> {
             Node::MemoryOutput { memory, bit } => format!("m{memory}:o{bit}:e"),
             Node::ArithmeticOutput { cell, bit } => format!("a{cell}:o{bit}:e"),
             Node::ComparisonOutput { cell } => format!("c{cell}:o0:e"),
+            Node::Mux { .. } => format!("n{net}:o:e"),
             Node::Output { input, .. } => self.tail(input),
             _ => format!("n{net}"),
         }
@@ -171,7 +172,7 @@ impl Picture<'_> {
     fn mux(&mut self, net: Net, condition: Net, then: Net, otherwise: Net) {
         let _ = writeln!(
             self.text,
-            "  n{net} [label=\"{{{{<c> if|<t> then|<e> else}}|mux {net}}}\"];"
+            "  n{net} [label=\"{{{{<c> if|<t> then|<e> else}}|<o> mux {net}}}\"];"
         );
         for (field, input) in [("c", condition), ("t", then), ("e", otherwise)] {
             let _ = writeln!(self.text, "  {} -> n{net}:{field}:w;", self.tail(input));

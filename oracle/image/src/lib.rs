@@ -12,6 +12,7 @@ pub mod heavy;
 mod mutate;
 mod random;
 mod shapes;
+mod tables;
 mod text;
 
 pub use assemble::{assemble, AsmError};
@@ -23,3 +24,4 @@ pub use format::*;
 pub use generate::{generate, Size};
 pub use mutate::mutate;
 pub use random::Random;
+pub use tables::table;

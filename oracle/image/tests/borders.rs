@@ -93,6 +93,12 @@ fn known_borders_are_judged_as_written_in_document_01() {
         ("memory, latency 1", [0, 0, 0]),
         ("memory, address 3 of width 32", [0, 0, 0]),
         ("memory, address 3 of width 33", [4, 5, 0]),
+        ("memory, words of width 64", [0, 0, 0]),
+        ("memory, data [0, 2] of width 7, others 8", [4, 5, 0]),
+        ("memory, data [1, 3] of width 7, others 8", [4, 5, 0]),
+        ("memory, data [0, 1] of width 9, others 8", [4, 5, 0]),
+        ("memory of one port, reads 7 bits, writes 8", [4, 5, 0]),
+        ("memory of one port, reads 1024 bits, writes 1024", [0, 0, 0]),
         ("direction 2, drivers b", [4, 5, 0]),
         ("direction 1, drivers a", [4, 3, 0]),
     ] {

@@ -1,7 +1,7 @@
 //! What the generator promises: valid images, mostly accepted, every kind
 //! and operator among them; and what damage does to them.
 
-use image::{deepest, generate, kind, mutate, netlist_words, Image, Size};
+use image::{deepest, generate, kind, mutate, netlist_words, table, Image, Size};
 use std::collections::BTreeMap;
 
 const N: u32 = 65_535;
@@ -169,4 +169,14 @@ fn damage_is_mostly_refused_but_not_always() {
         count(3) > 400 && count(4) > 1200 && count(0) > 300,
         "{counts:?}"
     );
+}
+
+#[test]
+fn tables_keep_every_rule() {
+    for seed in 0..100_000 {
+        let image = table(seed);
+        let scratch = image.scratch_words(N);
+        assert_eq!(check(&image.encode(), scratch), [0, 0, 0], "seed {seed}");
+        assert!(!image.expressions.is_empty(), "seed {seed}");
+    }
 }

@@ -4,9 +4,10 @@
 //! read in two ways. Nothing here is taken from another implementation, except
 //! the numbers that document 01 does not give (`declared`, see QUESTIONS.md).
 //!
-//! Each rule carries the words of document 01 that it stands for, after the
-//! name of the section they are in: "Image" is "The module image", "Refusals"
-//! is "Refusals, by who can cause them".
+//! Each rule carries the words of document 01 that it stands for. Those in
+//! comments follow the name of the section they are in: "Image" is "The module
+//! image", "Refusals" is "Refusals, by who can cause them"; those of the rules of
+//! header and records are handed back with a refusal by 3 or 4 (`cause`).
 
 use std::collections::HashSet;
 
@@ -131,18 +132,37 @@ pub fn refusal(
     if long(netlist_words) < required_netlist_words(n, p) {
         return [2, 0, 0];
     }
-    let header = match Header::read(image) {
-        Ok(header) => header,
-        Err(WrongField(field)) => return [3, field, 0],
+    let module = match read(image) {
+        Ok(module) => module,
+        Err(cause) => return cause.refusal,
     };
-    let module = Module::read(image, &header);
-    if let Err(Place { section, record }) = check_records(&module) {
-        return [4, section, record];
-    }
     if long(scratch_words) < required_scratch_words(&module, n) {
         return [5, 0, 0];
     }
     [0, 0, 0]
+}
+
+/// Why an image is refused by 3 or 4.
+#[derive(Clone, Copy, Debug, PartialEq, Eq)]
+pub struct Cause {
+    /// Number and place.
+    pub refusal: [u32; 3],
+    /// The words of document 01 that the field or the record breaks. A record
+    /// that breaks several rules has one of them here.
+    pub rule: &'static str,
+}
+
+/// Why 3 or 4 refuses an image, if one of them does.
+pub fn cause(image: &[u8]) -> Option<Cause> {
+    read(image).err()
+}
+
+/// A module whose header and records keep the rules.
+fn read(image: &[u8]) -> Result<Module<'_>, Cause> {
+    let header = Header::read(image)?;
+    let module = Module::read(image, &header);
+    check_records(&module)?;
+    Ok(module)
 }
 
 /// A buffer length for sums in 64 bits.
@@ -175,9 +195,6 @@ fn required_scratch_words(module: &Module, n: u32) -> u64 {
 
 // Refusal 3: the header.
 
-/// The first header field that is wrong.
-struct WrongField(u32);
-
 /// For each section its first byte and its count of bytes.
 struct Header {
     stretches: [(u64, u64); 7],
@@ -187,40 +204,36 @@ impl Header {
     /// Refusals, 3: "header field wrong, a count above its most included, or
     /// the slice is not the total length. Place: first such field". The fields
     /// are looked at in their order, each in the light of those before it.
-    fn read(image: &[u8]) -> Result<Header, WrongField> {
-        // Refusals, 3: "under 64 bytes, 0".
+    fn read(image: &[u8]) -> Result<Header, Cause> {
         let fields = match image.get(..4 * HEADER_FIELDS) {
             Some(bytes) => fields::<HEADER_FIELDS>(bytes),
-            None => return Err(WrongField(0)),
+            None => return Err(wrong(0, "under 64 bytes, 0")),
         };
-        // Image: "edition 1".
         if fields[0] != 1 {
-            return Err(WrongField(0));
+            return Err(wrong(0, "edition 1"));
         }
         // Image: "total bytes"; refusals, 3: "wrong length, 1".
         let total = u64::from(fields[1]);
         if total != long(image.len()) {
-            return Err(WrongField(1));
+            return Err(wrong(1, "the slice is not the total length"));
         }
-        // Image: "Sections follow the header in this order, without gaps."
         let mut stretches = [(0, 0); 7];
         let mut next = HEADER_BYTES;
         let mut field = 2;
         for (section, stretch) in SECTIONS.iter().zip(&mut stretches) {
             let count = fields[field];
             let offset = fields[field + 1];
-            // Refusals, 3: "a count above its most included".
             if count > section.most {
-                return Err(wrong(field));
+                return Err(wrong(field, "a count above its most"));
             }
             let bytes = u64::from(count) * section.record_bytes;
-            // Refusals, 3: "names that do not end at the total, 14".
             let names = field + 2 == HEADER_FIELDS;
             if names && next + bytes != total {
-                return Err(wrong(field));
+                return Err(wrong(field, "names that do not end at the total, 14"));
             }
             if u64::from(offset) != next {
-                return Err(wrong(field + 1));
+                let rule = "Sections follow the header in this order, without gaps";
+                return Err(wrong(field + 1, rule));
             }
             *stretch = (next, bytes);
             next += bytes;
@@ -238,8 +251,9 @@ impl Header {
     }
 }
 
-fn wrong(field: usize) -> WrongField {
-    WrongField(u32::try_from(field).unwrap_or(0))
+/// Refusals, 3: "Place: first such field, then 0".
+fn wrong(field: usize, rule: &'static str) -> Cause {
+    Cause { refusal: [3, u32::try_from(field).unwrap_or(0), 0], rule }
 }
 
 /// Image: "every field is 32 bits, little-endian, unsigned". Fields that the
@@ -446,17 +460,11 @@ impl<'a> Module<'a> {
 
 // Refusal 4: the records.
 
-/// The record that breaks a rule.
-struct Place {
-    section: u32,
-    record: u32,
-}
-
 /// Refusals, 4: "a record breaks a rule. Place: section (numbered from 0),
 /// record; the first, in image order." List words and names are no records of
 /// their own here: "A bad name or list word counts against the record that uses
 /// it".
-fn check_records(module: &Module) -> Result<(), Place> {
+fn check_records(module: &Module) -> Result<(), Cause> {
     let mut check = Check::new(module);
     each(SIGNALS, &module.signals, |_, signal| check.signal(signal))?;
     each(EXPRESSIONS, &module.expressions, |number, expression| {
@@ -472,21 +480,38 @@ fn each<Record>(
     section: u32,
     records: &[Record],
     mut judge: impl FnMut(u32, &Record) -> Judgement,
-) -> Result<(), Place> {
+) -> Result<(), Cause> {
     for (record, number) in records.iter().zip(0..) {
-        judge(number, record).map_err(|Broken| Place { section, record: number })?;
+        judge(number, record)
+            .map_err(|Broken(rule)| Cause { refusal: [4, section, number], rule })?;
     }
     Ok(())
 }
 
-/// A rule is broken; which one is not reported.
-struct Broken;
+/// A rule is broken: its words in document 01.
+struct Broken(&'static str);
 
 type Judgement = Result<(), Broken>;
 
-fn rule(holds: bool) -> Judgement {
-    if holds { Ok(()) } else { Err(Broken) }
+fn rule(words: &'static str, holds: bool) -> Judgement {
+    if holds { Ok(()) } else { Err(Broken(words)) }
 }
+
+// Rules that several sorts of record share.
+
+const ONE_THAT_IS_THERE: &str =
+    "a field that names a record, a list word or an enum's value names one that is there";
+const NONE_EQUAL: &str = "none equal within signals, registers or memories";
+const STAY_INSIDE: &str =
+    "Slices, Signal expressions and assignments stay inside what they take from or drive";
+const EQUAL_THE_RESULT: &str =
+    "And, Or, Xor, Add, Sub, Mul, BitNot and Mux branches equal the result";
+const GIVE_1: &str = "Comparisons, LogicNot and reductions give 1";
+const ARE_1_WIDE: &str = "Mux condition, clock and controls are 1 wide";
+const AGREE: &str = "Next, reset value and target agree";
+const ONE_WIDTH: &str = "all read and write data of a memory have one width";
+const MAY_BE_ABSENT: &str = "Only a register's enable and reset and a read enable may be absent";
+const OTHER_FIELDS_0: &str = "an absent control's other fields are 0";
 
 /// What the records before the one in hand leave behind. Those are all right,
 /// since the first that is not ends the check.
@@ -516,12 +541,11 @@ impl<'a> Check<'a> {
 
     fn signal(&mut self, signal: &Signal) -> Judgement {
         let name = self.name(&signal.name)?;
-        // Image: "none equal within signals, registers or memories".
-        rule(self.signal_names.insert(name))?;
+        rule(NONE_EQUAL, self.signal_names.insert(name))?;
         width_is_inside(signal.width)?;
         // Refusals, 4: "a width sum against the record that passes it".
         self.signal_bits += u64::from(signal.width);
-        rule(self.signal_bits <= MOST_SIGNAL_BITS)?;
+        rule("signal widths sum to at most 4,096", self.signal_bits <= MOST_SIGNAL_BITS)?;
         enum_value(signal.direction, DIRECTIONS)?;
         // Image: "inputs have one already".
         self.driven.push(vec![signal.direction == INPUT; index(signal.width)]);
@@ -533,19 +557,19 @@ impl<'a> Check<'a> {
         width_is_inside(width)?;
         // Refusals, 4: "a width sum against the record that passes it".
         self.expression_bits += u64::from(width);
-        rule(self.expression_bits <= MOST_EXPRESSION_BITS)?;
+        rule(
+            "signal widths sum to at most 4,096, expression widths to 32,768",
+            self.expression_bits <= MOST_EXPRESSION_BITS,
+        )?;
         let [a, b, c] = expression.operands;
         match expression.kind {
             // Image: "Signal: signal, lsb."
             declared::SIGNAL => {
                 unused(c)?;
                 let signal = self.named_signal(a)?;
-                // Image: "Slices, Signal expressions and assignments stay
-                // inside what they take from or drive".
-                rule(is_inside(b, width, u64::from(signal.width)))
+                rule(STAY_INSIDE, is_inside(b, width, u64::from(signal.width)))
             }
-            // Image: "Constant: list start, 2 × ceil(width / 64) words"; "a
-            // field that names [..] a list word [..] names one that is there".
+            // Image: "Constant: list start, 2 × ceil(width / 64) words".
             declared::CONSTANT => {
                 unused(b)?;
                 unused(c)?;
@@ -553,98 +577,82 @@ impl<'a> Check<'a> {
             }
             declared::UNARY => {
                 unused(c)?;
-                let operator = declared::unary(a).ok_or(Broken)?;
+                let operator = declared::unary(a).ok_or(Broken(ONE_THAT_IS_THERE))?;
                 let operand = self.operand(b, number)?;
                 match operator {
-                    // Image: "And, Or, Xor, Add, Sub, Mul, BitNot and Mux
-                    // branches equal the result."
-                    declared::Unary::BitNot => rule(operand.width == width),
-                    // Image: "Comparisons, LogicNot and reductions give 1".
-                    declared::Unary::Judging => rule(width == 1),
+                    declared::Unary::BitNot => rule(EQUAL_THE_RESULT, operand.width == width),
+                    declared::Unary::Judging => rule(GIVE_1, width == 1),
                 }
             }
             declared::BINARY => {
-                let operator = declared::binary(a).ok_or(Broken)?;
+                let operator = declared::binary(a).ok_or(Broken(ONE_THAT_IS_THERE))?;
                 let left = self.operand(b, number)?;
                 let right = self.operand(c, number)?;
                 match operator {
-                    // Image: "And, Or, Xor, Add, Sub, Mul, BitNot and Mux
-                    // branches equal the result."
-                    declared::Binary::Plain => rule(left.width == width && right.width == width),
-                    // Image: "Comparisons, LogicNot and reductions give 1;
-                    // compared sides are equal."
-                    declared::Binary::Comparison => rule(width == 1 && left.width == right.width),
-                    // Image: "A shift keeps its left width, the amount any
-                    // width."
-                    declared::Binary::Shift => rule(left.width == width),
+                    declared::Binary::Plain => {
+                        rule(EQUAL_THE_RESULT, left.width == width && right.width == width)
+                    }
+                    declared::Binary::Comparison => {
+                        rule(GIVE_1, width == 1)?;
+                        rule("compared sides are equal", left.width == right.width)
+                    }
+                    declared::Binary::Shift => {
+                        rule("A shift keeps its left width, the amount any width", left.width == width)
+                    }
                 }
             }
             declared::MUX => {
                 let condition = self.operand(a, number)?;
                 let one = self.operand(b, number)?;
                 let other = self.operand(c, number)?;
-                // Image: "Mux condition, clock and controls are 1 wide."
-                rule(condition.width == 1)?;
-                // Image: "[..] Mux branches equal the result."
-                rule(one.width == width && other.width == width)
+                rule(ARE_1_WIDE, condition.width == 1)?;
+                rule(EQUAL_THE_RESULT, one.width == width && other.width == width)
             }
             declared::SLICE => {
                 unused(c)?;
                 let taken_from = self.operand(a, number)?;
-                // Image: "Slices, Signal expressions and assignments stay
-                // inside what they take from or drive".
-                rule(is_inside(b, width, u64::from(taken_from.width)))
+                rule(STAY_INSIDE, is_inside(b, width, u64::from(taken_from.width)))
             }
             // Image: "Concat: list start, count".
             declared::CONCAT => {
+                const HAS_A_PART: &str = "Concat has a part, and the parts sum";
                 unused(c)?;
-                // Image: "Concat has a part, and the parts sum."
-                rule(b >= 1)?;
+                rule(HAS_A_PART, b >= 1)?;
                 let mut sum = 0;
                 for part in self.list_words(a, b)? {
                     sum += u64::from(self.operand(*part, number)?.width);
                 }
-                rule(sum == u64::from(width))
+                rule(HAS_A_PART, sum == u64::from(width))
             }
-            // Image: "Kinds 0 to 6 follow `ExprKind`".
-            _ => Err(Broken),
+            _ => Err(Broken("Kinds 0 to 6 follow `ExprKind`")),
         }
     }
 
     fn assignment(&mut self, assignment: &Assignment) -> Judgement {
         let signal = self.named_signal(assignment.signal)?;
         width_is_inside(assignment.width)?;
-        // Image: "Slices, Signal expressions and assignments stay inside what
-        // they take from or drive".
-        rule(is_inside(assignment.lsb, assignment.width, u64::from(signal.width)))?;
-        // Image: "An assignment's value has its width."
+        let inside = is_inside(assignment.lsb, assignment.width, u64::from(signal.width));
+        rule(STAY_INSIDE, inside)?;
         let value = self.named_expression(assignment.value)?;
-        rule(value.width == assignment.width)?;
+        rule("An assignment's value has its width", value.width == assignment.width)?;
         self.drive(assignment.signal, assignment.lsb, assignment.width)
     }
 
     fn register(&mut self, register: &Register) -> Judgement {
         let name = self.name(&register.name)?;
-        // Image: "none equal within signals, registers or memories".
-        rule(self.register_names.insert(name))?;
+        rule(NONE_EQUAL, self.register_names.insert(name))?;
         let target = self.named_signal(register.target)?;
         let next = self.named_expression(register.next)?;
-        // Image: "Next, reset value and target agree".
-        rule(next.width == target.width)?;
+        rule(AGREE, next.width == target.width)?;
         self.clock(register.clock, register.edge)?;
-        // Image: "Only a register's enable and reset and a read enable may be
-        // absent."
         self.control_or_absent(&register.enable)?;
         self.control_or_absent(&register.reset)?;
         if register.reset.signal == ABSENT {
-            // Image: "an absent control's other fields are 0".
-            unused(register.reset_mode)?;
-            unused(register.reset_value)?;
+            rule(OTHER_FIELDS_0, register.reset_mode == 0 && register.reset_value == 0)?;
         } else {
             enum_value(register.reset_mode, MODES)?;
             let value = self.named_expression(register.reset_value)?;
-            // Image: "Next, reset value and target agree".
-            rule(value.width == target.width)?;
+            rule(AGREE, value.width == target.width)?;
         }
         // Image: "Assignments, register targets and read data drive".
         self.drive(register.target, 0, target.width)
@@ -652,23 +660,18 @@ impl<'a> Check<'a> {
 
     fn memory(&mut self, memory: &Memory) -> Judgement {
         let name = self.name(&memory.name)?;
-        // Image: "none equal within signals, registers or memories".
-        rule(self.memory_names.insert(name))?;
-        // Image: "Depth 1 to 65,536, [..] latency 1."
-        rule((1..=MOST_DEPTH).contains(&memory.depth))?;
+        rule(NONE_EQUAL, self.memory_names.insert(name))?;
+        rule("Depth 1 to 65,536", (1..=MOST_DEPTH).contains(&memory.depth))?;
         enum_value(memory.style, declared::STYLES)?;
-        rule(memory.latency == LATENCY)?;
+        rule("latency 1", memory.latency == LATENCY)?;
         let first_width = self.port(&Port::of(memory.first_port))?;
         match memory.second_port_present {
-            // Image: "ten more (0 if none)".
-            0 => rule(memory.second_port == [0; 10]),
+            0 => rule("ten more (0 if none)", memory.second_port == [0; 10]),
             1 => {
                 let second_width = self.port(&Port::of(memory.second_port))?;
-                // Image: "all read and write data of a memory have one width".
-                rule(first_width == second_width)
+                rule(ONE_WIDTH, first_width == second_width)
             }
-            // Image: "second port present (0 or 1)".
-            _ => Err(Broken),
+            _ => Err(Broken("second port present (0 or 1)")),
         }
     }
 
@@ -677,14 +680,11 @@ impl<'a> Check<'a> {
         let read_address = self.named_expression(port.read_address)?;
         address_width_is_inside(read_address.width)?;
         let read_data = self.named_signal(port.read_data)?;
-        // Image: "Only a register's enable and reset and a read enable may be
-        // absent."
         self.control_or_absent(&port.read_enable)?;
         let write_address = self.named_expression(port.write_address)?;
         address_width_is_inside(write_address.width)?;
         let write_data = self.named_expression(port.write_data)?;
-        // Image: "all read and write data of a memory have one width".
-        rule(read_data.width == write_data.width)?;
+        rule(ONE_WIDTH, read_data.width == write_data.width)?;
         self.control(&port.write_enable)?;
         self.clock(port.clock, port.edge)?;
         // Image: "Assignments, register targets and read data drive".
@@ -692,86 +692,83 @@ impl<'a> Check<'a> {
         Ok(read_data.width)
     }
 
-    /// Image: "Names: 1 to 64 bytes of 33 to 126". A name lies in the names
-    /// section.
+    /// The bytes of a name.
     fn name(&self, name: &Name) -> Result<&'a [u8], Broken> {
-        rule((1..=MOST_NAME_BYTES).contains(&name.length))?;
-        let bytes = stretch(self.module.names, name.offset, name.length)?;
-        rule(bytes.iter().all(|byte| (33..=126).contains(byte)))?;
+        const NAMES: &str = "Names: 1 to 64 bytes of 33 to 126";
+        rule(NAMES, (1..=MOST_NAME_BYTES).contains(&name.length))?;
+        let bytes = stretch(self.module.names, name.offset, name.length)
+            .ok_or(Broken("name offset in the names section, name length"))?;
+        rule(NAMES, bytes.iter().all(|byte| (33..=126).contains(byte)))?;
         Ok(bytes)
     }
 
-    /// Image: "a field that names a record [..] names one that is there".
     fn named_signal(&self, number: u32) -> Result<&'a Signal, Broken> {
-        self.module.signals.get(index(number)).ok_or(Broken)
+        self.module.signals.get(index(number)).ok_or(Broken(ONE_THAT_IS_THERE))
     }
 
-    /// Image: "a field that names a record [..] names one that is there".
     fn named_expression(&self, number: u32) -> Result<&'a Expression, Broken> {
-        self.module.expressions.get(index(number)).ok_or(Broken)
+        self.module.expressions.get(index(number)).ok_or(Broken(ONE_THAT_IS_THERE))
     }
 
-    /// Image: "Operands have lower numbers."
     fn operand(&self, operand: u32, of: u32) -> Result<&'a Expression, Broken> {
-        rule(operand < of)?;
+        rule("Operands have lower numbers", operand < of)?;
         self.named_expression(operand)
     }
 
-    /// Image: "a field that names [..] a list word [..] names one that is
-    /// there".
     fn list_words(&self, start: u32, count: u32) -> Result<&'a [u32], Broken> {
-        stretch(&self.module.list, start, count)
+        stretch(&self.module.list, start, count).ok_or(Broken(ONE_THAT_IS_THERE))
     }
 
-    /// Image: "Mux condition, clock and controls are 1 wide."
     fn clock(&self, signal: u32, edge: u32) -> Judgement {
-        rule(self.named_signal(signal)?.width == 1)?;
+        self.is_1_wide(signal)?;
         enum_value(edge, EDGES)
     }
 
-    /// Image: "Mux condition, clock and controls are 1 wide."
     fn control(&self, control: &Control) -> Judgement {
-        rule(self.named_signal(control.signal)?.width == 1)?;
+        self.is_1_wide(control.signal)?;
         enum_value(control.polarity, POLARITIES)
     }
 
-    /// Image: "Absent is 4,294,967,295; an absent control's other fields are
-    /// 0."
-    fn control_or_absent(&self, control: &Control) -> Judgement {
-        if control.signal == ABSENT { unused(control.polarity) } else { self.control(control) }
+    /// A clock or control that is not absent.
+    fn is_1_wide(&self, signal: u32) -> Judgement {
+        rule(MAY_BE_ABSENT, signal != ABSENT)?;
+        rule(ARE_1_WIDE, self.named_signal(signal)?.width == 1)
     }
 
-    /// Image: "no bit has two drivers; inputs have one already". Refusals, 4:
-    /// "a second driver [..] against the later record".
+    /// Image: "Absent is 4,294,967,295".
+    fn control_or_absent(&self, control: &Control) -> Judgement {
+        if control.signal == ABSENT {
+            rule(OTHER_FIELDS_0, control.polarity == 0)
+        } else {
+            self.control(control)
+        }
+    }
+
+    /// Refusals, 4: "a second driver [..] against the later record".
     fn drive(&mut self, signal: u32, lsb: u32, width: u32) -> Judgement {
-        let bits = self.driven.get_mut(index(signal)).ok_or(Broken)?;
+        let bits = self.driven.get_mut(index(signal)).ok_or(Broken(ONE_THAT_IS_THERE))?;
         for driven in bits.iter_mut().skip(index(lsb)).take(index(width)) {
-            rule(!*driven)?;
+            rule("no bit has two drivers; inputs have one already", !*driven)?;
             *driven = true;
         }
         Ok(())
     }
 }
 
-/// Image: "Width 1 to 1,024".
 fn width_is_inside(width: u32) -> Judgement {
-    rule((1..=MOST_WIDTH).contains(&width))
+    rule("Width 1 to 1,024", (1..=MOST_WIDTH).contains(&width))
 }
 
-/// Image: "address width 1 to 32".
 fn address_width_is_inside(width: u32) -> Judgement {
-    rule((1..=MOST_ADDRESS_WIDTH).contains(&width))
+    rule("address width 1 to 32", (1..=MOST_ADDRESS_WIDTH).contains(&width))
 }
 
-/// Image: "a field that names [..] an enum's value names one that is there".
 fn enum_value(value: u32, values: u32) -> Judgement {
-    rule(value < values)
+    rule(ONE_THAT_IS_THERE, value < values)
 }
 
-/// Image: "three operands, unused ones 0"; "an absent control's other fields
-/// are 0".
 fn unused(field: u32) -> Judgement {
-    rule(field == 0)
+    rule("three operands, unused ones 0", field == 0)
 }
 
 /// Whether `count` things from `start` on are among the first `whole`.
@@ -786,7 +783,7 @@ fn index(number: u32) -> usize {
 }
 
 /// `count` things from `start` on, if they are all there.
-fn stretch<Thing>(things: &[Thing], start: u32, count: u32) -> Result<&[Thing], Broken> {
-    let rest = things.get(index(start)..).ok_or(Broken)?;
-    rest.get(..index(count)).ok_or(Broken)
+fn stretch<Thing>(things: &[Thing], start: u32, count: u32) -> Option<&[Thing]> {
+    let rest = things.get(index(start)..)?;
+    rest.get(..index(count))
 }

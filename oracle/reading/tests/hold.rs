@@ -1,20 +1,8 @@
-//! This reading and the reference checks answer alike: a short run of `hold`,
-//! then small images with each field, and each two header fields, exchanged for
-//! values at which a rule turns.
+//! This reading and the reference checks answer alike on small images with each
+//! field, and each two header fields, exchanged for values at which a rule
+//! turns. The command `compare` holds both on all its images.
 
 use image::{Image, Size, generate};
-use std::process::Command;
-
-// The border cases are made with a subtraction that may wrap.
-#[test]
-#[cfg_attr(debug_assertions, ignore = "the border cases are made in release only")]
-fn a_short_run() {
-    let output = Command::new(env!("CARGO_BIN_EXE_hold"))
-        .args(["--images", "5000", "--seed", "7"])
-        .output()
-        .expect("the command runs");
-    assert!(output.status.success(), "{}", String::from_utf8_lossy(&output.stdout));
-}
 
 const HEADER_FIELDS: usize = 16;
 

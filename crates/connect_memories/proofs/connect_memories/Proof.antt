@@ -25,9 +25,10 @@ count-requires c κs = search needs
 
 loop-holds : tie.Need-loop-holds Inv-loop μ-loop
 loop-holds c =
+    let pre = c .before .before .before .before .pre in
     let a = c .before .before .before .before .args in
     turns-start _ (memoryTurn (a .image .now)) (a .image .now) (a .net .now) (a .scr .now) (countAt (a .image .now) 5)
-    (all-memories (a .image .now) (walkState (a .image .now) (a .net .now) (a .scr .now))) (c .before .before .before .before .pre .0) (c .before .before .before .before .pre .1)
+    (all-memories (a .image .now) (walkState (a .image .now) (a .net .now) (a .scr .now))) (pre .0) (pre .1)
 
 connect-memory-requires : tie.Need-connect-memory-requires Inv-loop μ-loop
 connect-memory-requires c κs =
@@ -45,11 +46,13 @@ same-length-2 c = search needs
 
 returns : tie.Need-returns Inv-loop μ-loop
 returns c =
+    let loop-test = c .before .before .before .before .before .before .before .before .loop-test in
+    let count = c .before .before .before .before .before .before .before .before .before .before .count in
     let a = c .before .before .before .before .before .before .before .before .before .before .before .before .before .before .args in
     let q = c .before .before .before .before .before .before .before .before .before .loop in
     let g = c .before .before .before .before .before .connect-memory in
     ran-phase (turns-out _ (memoryTurn (a .image .now)) (a .image .now) (a .net .now) (a .scr .now) (countAt (a .image .now) 5) (q .k) (q .net) (q .scr) _ _ (q .inv) (g .result)
-    (omega (arith, c .before .before .before .before .before .before .before .before .loop-test .taken, c .before .before .before .before .before .before .before .before .before .before .count .ensures)) (g .ensures) (not-done-tag (g .result) (c .match .keys2)))
+    (omega (arith, loop-test .taken, count .ensures)) (g .ensures) (not-done-tag (g .result) (c .match .keys2)))
 
 add-k : tie.Need-add-k Inv-loop μ-loop
 add-k c = search needs
@@ -59,11 +62,13 @@ loop-less c = search needs
 
 loop-again : tie.Need-loop-again Inv-loop μ-loop
 loop-again c =
+    let loop-test = c .before .before .before .before .before .before .before .before .before .loop-test in
+    let count = c .before .before .before .before .before .before .before .before .before .before .before .count in
     let a = c .before .before .before .before .before .before .before .before .before .before .before .before .before .before .before .args in
     let q = c .before .before .before .before .before .before .before .before .before .before .loop in
     let g = c .before .before .before .before .before .before .connect-memory in
     turns-more _ (memoryTurn (a .image .now)) (a .image .now) (a .net .now) (a .scr .now) (countAt (a .image .now) 5) (q .k) (q .net) (q .scr) _ _ (q .inv) (g .result)
-    (omega (arith, c .before .before .before .before .before .before .before .before .before .loop-test .taken, c .before .before .before .before .before .before .before .before .before .before .before .count .ensures)) (g .ensures) (c .enum-told .given .1)
+    (omega (arith, loop-test .taken, count .ensures)) (g .ensures) (c .enum-told .given .1)
 
 same-length-3 : tie.Need-same-length-3 Inv-loop μ-loop
 same-length-3 c = search needs

@@ -18,8 +18,9 @@ memory-at-requires c κs = search needs
 
 lower-memory-requires : tie.Need-lower-memory-requires
 lower-memory-requires c κs =
+    let pre = c .before .before .before .before .before .before .pre in
     let a = c .before .before .before .before .before .before .args in
-    (c .before .before .before .before .before .before .pre .0, c .before .before .before .before .before .before .pre .1, subst (MemoryThere (a .image .now)) (sym (c .before .before .memory-at .ensures)) (memory-there (a .image .now) (a .k) (c .before .before .before .before .before .before .pre .0 .accepted) (c .before .before .before .before .before .before .pre .2)))
+    (pre .0, pre .1, subst (MemoryThere (a .image .now)) (sym (c .before .before .memory-at .ensures)) (memory-there (a .image .now) (a .k) (pre .0 .accepted) (pre .2)))
 
 enum-told : tie.Need-enum-told
 enum-told c = search needs
@@ -32,17 +33,22 @@ same-length-2 c = search needs
 
 returns : tie.Need-returns
 returns c =
+    let lower-memory = c .before .before .before .before .before .lower-memory in
+    let memory-at = c .before .before .before .before .before .before .before .before .memory-at in
     let a = c .before .before .before .before .before .before .before .before .before .before .before .before .args in
-    let x = c .before .before .before .before .before .before .before .before .memory-at .result in
-    ran-as (turn-as (a .image .now) (a .k) x (walkState (a .image .now) (a .net .now) (a .scr .now)) (c .before .before .before .before .before .before .before .before .memory-at .ensures))
-    (ran-out (λ st. pushRecord (memoryWords (decode (a .image .now)) (a .k) (memoryMeans x) st) st) (all-ran (c .before .before .before .before .before .lower-memory .ensures)) (not-done-tag (c .before .before .before .before .before .lower-memory .result) (c .match .keys2)))
+    let x = memory-at .result in
+    ran-as (turn-as (a .image .now) (a .k) x (walkState (a .image .now) (a .net .now) (a .scr .now)) (memory-at .ensures))
+    (ran-out (λ st. pushRecord (memoryWords (decode (a .image .now)) (a .k) (memoryMeans x) st) st) (all-ran (lower-memory .ensures)) (not-done-tag (lower-memory .result) (c .match .keys2)))
 
 push-memory-requires : tie.Need-push-memory-requires
 push-memory-requires c κs =
+    let lower-memory = c .before .before .before .before .before .before .before .before .lower-memory in
+    let memory-at = c .before .before .before .before .before .before .before .before .before .before .before .memory-at in
+    let pre = c .before .before .before .before .before .before .before .before .before .before .before .before .before .before .before .pre in
     let a = c .before .before .before .before .before .before .before .before .before .before .before .before .before .before .before .args in
-    let g = c .before .before .before .before .before .before .before .before .lower-memory .ensures in
+    let g = lower-memory .ensures in
     let d = c .before .before .enum-told .given .1 in
-    let h = subst (MemoryThere (a .image .now)) (sym (c .before .before .before .before .before .before .before .before .before .before .before .memory-at .ensures)) (memory-there (a .image .now) (a .k) (c .before .before .before .before .before .before .before .before .before .before .before .before .before .before .before .pre .0 .accepted) (c .before .before .before .before .before .before .before .before .before .before .before .before .before .before .before .pre .2)) in
+    let h = subst (MemoryThere (a .image .now)) (sym (memory-at .ensures)) (memory-there (a .image .now) (a .k) (pre .0 .accepted) (pre .2)) in
     (g .ready, g .sure d, h, memory-whole h g d)
 
 same-length-3 : tie.Need-same-length-3
@@ -53,10 +59,13 @@ same-length-4 c = search needs
 
 returns-2 : tie.Need-returns-2
 returns-2 c =
+    let enum-told = c .before .before .before .before .before .enum-told in
+    let lower-memory = c .before .before .before .before .before .before .before .before .before .before .before .lower-memory in
+    let memory-at = c .before .before .before .before .before .before .before .before .before .before .before .before .before .before .memory-at in
     let a = c .before .before .before .before .before .before .before .before .before .before .before .before .before .before .before .before .before .before .args in
-    let x = c .before .before .before .before .before .before .before .before .before .before .before .before .before .before .memory-at .result in
-    ran-as (turn-as (a .image .now) (a .k) x (walkState (a .image .now) (a .net .now) (a .scr .now)) (c .before .before .before .before .before .before .before .before .before .before .before .before .before .before .memory-at .ensures))
-    (ran-then (λ st. pushRecord (memoryWords (decode (a .image .now)) (a .k) (memoryMeans x) st) st) (all-ran (c .before .before .before .before .before .before .before .before .before .before .before .lower-memory .ensures)) (c .before .before .before .before .before .enum-told .given .1) (c .before .before .push-memory .ensures))
+    let x = memory-at .result in
+    ran-as (turn-as (a .image .now) (a .k) x (walkState (a .image .now) (a .net .now) (a .scr .now)) (memory-at .ensures))
+    (ran-then (λ st. pushRecord (memoryWords (decode (a .image .now)) (a .k) (memoryMeans x) st) st) (all-ran (lower-memory .ensures)) (enum-told .given .1) (c .before .before .push-memory .ensures))
 
 pub connect-memory-spec : {M : Type 1} → statement M
 connect-memory-spec =

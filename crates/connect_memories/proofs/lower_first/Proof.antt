@@ -24,14 +24,17 @@ same-length-2 c = search needs
 
 returns : tie.Need-returns
 returns c =
+    let lower-words = c .before .before .before .before .before .lower-words in
     let a = c .before .before .before .before .before .before .before .before .before .before .before .args in
-    gives-out (bitStep (portMeans (a .p) .clock) ++ enableSteps (portMeans (a .p))) (c .before .before .before .before .before .lower-words .ensures) (not-done-tag (c .before .before .before .before .before .lower-words .result) (c .match .keys2))
+    gives-out (bitStep (portMeans (a .p) .clock) ++ enableSteps (portMeans (a .p))) (lower-words .ensures) (not-done-tag (lower-words .result) (c .match .keys2))
 
 resolve-signal-bit-requires : tie.Need-resolve-signal-bit-requires
 unfolding portMeans
 resolve-signal-bit-requires c κs =
-    let g = c .before .before .before .before .before .before .before .before .lower-words .ensures in
-    (g .ready, g .sure (c .before .before .enum-told .given .1), c .before .before .before .before .before .before .before .before .before .before .before .before .before .before .pre .2 .clock .there, omega (arith, c .before .before .before .before .before .before .before .before .before .before .before .before .before .before .pre .2 .clock .one))
+    let lower-words = c .before .before .before .before .before .before .before .before .lower-words in
+    let pre = c .before .before .before .before .before .before .before .before .before .before .before .before .before .before .pre in
+    let g = lower-words .ensures in
+    (g .ready, g .sure (c .before .before .enum-told .given .1), pre .2 .clock .there, omega (arith, pre .2 .clock .one))
 
 enum-told-2 : tie.Need-enum-told-2
 enum-told-2 c = search needs
@@ -45,21 +48,29 @@ same-length-4 c = search needs
 returns-2 : tie.Need-returns-2
 unfolding portMeans
 returns-2 c =
+    let resolve-signal-bit = c .before .before .before .before .before .resolve-signal-bit in
+    let enum-told = c .before .before .before .before .before .before .before .before .enum-told in
+    let lower-words = c .before .before .before .before .before .before .before .before .before .before .before .before .before .before .lower-words in
+    let pre = c .before .before .before .before .before .before .before .before .before .before .before .before .before .before .before .before .before .before .before .before .pre in
     let a = c .before .before .before .before .before .before .before .before .before .before .before .before .before .before .before .before .before .before .before .before .args in
-    let g = c .before .before .before .before .before .before .before .before .before .before .before .before .before .before .lower-words .ensures in
-    let d = c .before .before .before .before .before .before .before .before .enum-told .given .1 in
+    let g = lower-words .ensures in
+    let d = enum-told .given .1 in
     gives-out (enableSteps (portMeans (a .p)))
-    (gives-then (bitStep (a .p .clock)) g d (gives-one (a .image .now) _ _ (Bit (a .p .clock) 0) _ _ _ (g .ready) (g .sure d) (c .before .before .before .before .before .before .before .before .before .before .before .before .before .before .before .before .before .before .before .before .pre .2 .clock .there, omega (arith, c .before .before .before .before .before .before .before .before .before .before .before .before .before .before .before .before .before .before .before .before .pre .2 .clock .one)) (c .before .before .before .before .before .resolve-signal-bit .ensures)))
-    (not-done-tag (c .before .before .before .before .before .resolve-signal-bit .result) (c .match2 .keys2))
+    (gives-then (bitStep (a .p .clock)) g d (gives-one (a .image .now) _ _ (Bit (a .p .clock) 0) _ _ _ (g .ready) (g .sure d) (pre .2 .clock .there, omega (arith, pre .2 .clock .one)) (resolve-signal-bit .ensures)))
+    (not-done-tag (resolve-signal-bit .result) (c .match2 .keys2))
 
 lower-enables-requires : tie.Need-lower-enables-requires
 unfolding portMeans
 lower-enables-requires c κs =
+    let resolve-signal-bit = c .before .before .before .before .before .before .before .before .resolve-signal-bit in
+    let enum-told = c .before .before .before .before .before .before .before .before .before .before .before .enum-told in
+    let lower-words = c .before .before .before .before .before .before .before .before .before .before .before .before .before .before .before .before .before .lower-words in
+    let pre = c .before .before .before .before .before .before .before .before .before .before .before .before .before .before .before .before .before .before .before .before .before .before .before .pre in
     let a = c .before .before .before .before .before .before .before .before .before .before .before .before .before .before .before .before .before .before .before .before .before .before .before .args in
-    let g = c .before .before .before .before .before .before .before .before .before .before .before .before .before .before .before .before .before .lower-words .ensures in
-    let d = c .before .before .before .before .before .before .before .before .before .before .before .enum-told .given .1 in
-    let k = gives-one (a .image .now) _ _ (Bit (a .p .clock) 0) _ _ _ (g .ready) (g .sure d) (c .before .before .before .before .before .before .before .before .before .before .before .before .before .before .before .before .before .before .before .before .before .before .before .pre .2 .clock .there, omega (arith, c .before .before .before .before .before .before .before .before .before .before .before .before .before .before .before .before .before .before .before .before .before .before .before .pre .2 .clock .one)) (c .before .before .before .before .before .before .before .before .resolve-signal-bit .ensures) in
-    (k .ready, k .sure (c .before .before .enum-told2 .given .1), c .before .before .before .before .before .before .before .before .before .before .before .before .before .before .before .before .before .before .before .before .before .before .before .pre .2)
+    let g = lower-words .ensures in
+    let d = enum-told .given .1 in
+    let k = gives-one (a .image .now) _ _ (Bit (a .p .clock) 0) _ _ _ (g .ready) (g .sure d) (pre .2 .clock .there, omega (arith, pre .2 .clock .one)) (resolve-signal-bit .ensures) in
+    (k .ready, k .sure (c .before .before .enum-told2 .given .1), pre .2)
 
 same-length-5 : tie.Need-same-length-5
 same-length-5 c = search needs
@@ -70,12 +81,17 @@ same-length-6 c = search needs
 returns-3 : tie.Need-returns-3
 unfolding portMeans
 returns-3 c =
+    let enum-told2 = c .before .before .before .before .before .before .before .enum-told2 in
+    let resolve-signal-bit = c .before .before .before .before .before .before .before .before .before .before .before .before .before .resolve-signal-bit in
+    let enum-told = c .before .before .before .before .before .before .before .before .before .before .before .before .before .before .before .before .enum-told in
+    let lower-words = c .before .before .before .before .before .before .before .before .before .before .before .before .before .before .before .before .before .before .before .before .before .before .lower-words in
+    let pre = c .before .before .before .before .before .before .before .before .before .before .before .before .before .before .before .before .before .before .before .before .before .before .before .before .before .before .before .before .pre in
     let a = c .before .before .before .before .before .before .before .before .before .before .before .before .before .before .before .before .before .before .before .before .before .before .before .before .before .before .before .before .args in
-    let g = c .before .before .before .before .before .before .before .before .before .before .before .before .before .before .before .before .before .before .before .before .before .before .lower-words .ensures in
-    let d = c .before .before .before .before .before .before .before .before .before .before .before .before .before .before .before .before .enum-told .given .1 in
+    let g = lower-words .ensures in
+    let d = enum-told .given .1 in
     gives-then (enableSteps (portMeans (a .p)))
-    (gives-then (bitStep (a .p .clock)) g d (gives-one (a .image .now) _ _ (Bit (a .p .clock) 0) _ _ _ (g .ready) (g .sure d) (c .before .before .before .before .before .before .before .before .before .before .before .before .before .before .before .before .before .before .before .before .before .before .before .before .before .before .before .before .pre .2 .clock .there, omega (arith, c .before .before .before .before .before .before .before .before .before .before .before .before .before .before .before .before .before .before .before .before .before .before .before .before .before .before .before .before .pre .2 .clock .one)) (c .before .before .before .before .before .before .before .before .before .before .before .before .before .resolve-signal-bit .ensures)))
-    (c .before .before .before .before .before .before .before .enum-told2 .given .1) (c .before .before .before .before .lower-enables .ensures)
+    (gives-then (bitStep (a .p .clock)) g d (gives-one (a .image .now) _ _ (Bit (a .p .clock) 0) _ _ _ (g .ready) (g .sure d) (pre .2 .clock .there, omega (arith, pre .2 .clock .one)) (resolve-signal-bit .ensures)))
+    (enum-told2 .given .1) (c .before .before .before .before .lower-enables .ensures)
 
 pub lower-first-spec : {M : Type 1} → statement M
 lower-first-spec =

@@ -9,7 +9,9 @@ use Rattle.connect_parts.specs.Steps.{gives-then, gives-out}
 
 lower-first-requires : tie.Need-lower-first-requires
 unfolding memoryMeans
-lower-first-requires c κs = (c .before .before .before .before .before .before .pre .0, c .before .before .before .before .before .before .pre .1, c .before .before .before .before .before .before .pre .2 .first)
+lower-first-requires c κs =
+    let pre = c .before .before .before .before .before .before .pre in
+    (pre .0, pre .1, pre .2 .first)
 
 enum-told : tie.Need-enum-told
 enum-told c = search needs
@@ -22,13 +24,18 @@ same-length-2 c = search needs
 
 returns : tie.Need-returns
 unfolding memoryMeans
-returns c = gives-out (secondSteps (secondMeans (c .before .before .before .before .before .before .before .before .before .before .before .before .args .x .second))) (c .before .before .before .before .before .lower-first .ensures) (not-done-tag (c .before .before .before .before .before .lower-first .result) (c .match .keys2))
+returns c =
+    let lower-first = c .before .before .before .before .before .lower-first in
+    let args = c .before .before .before .before .before .before .before .before .before .before .before .before .args in
+    gives-out (secondSteps (secondMeans (args .x .second))) (lower-first .ensures) (not-done-tag (lower-first .result) (c .match .keys2))
 
 lower-second-requires : tie.Need-lower-second-requires
 unfolding memoryMeans
 lower-second-requires c κs =
-    let g = c .before .before .before .before .before .before .before .before .lower-first .ensures in
-    (g .ready, g .sure (c .before .before .enum-told .given .1), c .before .before .before .before .before .before .before .before .before .before .before .before .before .before .before .pre .2 .second)
+    let lower-first = c .before .before .before .before .before .before .before .before .lower-first in
+    let pre = c .before .before .before .before .before .before .before .before .before .before .before .before .before .before .before .pre in
+    let g = lower-first .ensures in
+    (g .ready, g .sure (c .before .before .enum-told .given .1), pre .2 .second)
 
 same-length-3 : tie.Need-same-length-3
 same-length-3 c = search needs
@@ -38,7 +45,11 @@ same-length-4 c = search needs
 
 returns-2 : tie.Need-returns-2
 unfolding memoryMeans
-returns-2 c = gives-then (secondSteps (secondMeans (c .before .before .before .before .before .before .before .before .before .before .before .before .before .before .before .before .before .before .before .before .args .x .second))) (c .before .before .before .before .before .before .before .before .before .before .before .before .before .lower-first .ensures) (c .before .before .before .before .before .before .before .enum-told .given .1) (c .before .before .before .before .lower-second .ensures)
+returns-2 c =
+    let enum-told = c .before .before .before .before .before .before .before .enum-told in
+    let lower-first = c .before .before .before .before .before .before .before .before .before .before .before .before .before .lower-first in
+    let args = c .before .before .before .before .before .before .before .before .before .before .before .before .before .before .before .before .before .before .before .before .args in
+    gives-then (secondSteps (secondMeans (args .x .second))) (lower-first .ensures) (enum-told .given .1) (c .before .before .before .before .lower-second .ensures)
 
 pub lower-memory-spec : {M : Type 1} → statement M
 lower-memory-spec =

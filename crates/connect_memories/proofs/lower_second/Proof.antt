@@ -12,12 +12,17 @@ enum-known-o : tie.Need-enum-known-o
 enum-known-o c = search needs
 
 lower-last-requires : tie.Need-lower-last-requires
-lower-last-requires c κs = (c .before .before .before .before .before .before .before .before .pre .0, c .before .before .before .before .before .before .before .before .pre .1, rw (present-means (c .before .before .before .before .before .before .before .before .args .o) (c .before .before .before .o .given .0 .0) (c .before .before .before .o .given .1)) at (c .before .before .before .before .before .before .before .before .pre .2))
+lower-last-requires c κs =
+    let o = c .before .before .before .o in
+    let pre = c .before .before .before .before .before .before .before .before .pre in
+    let args = c .before .before .before .before .before .before .before .before .args in
+    (pre .0, pre .1, rw (present-means (args .o) (o .given .0 .0) (o .given .1)) at (pre .2))
 
 returns : tie.Need-returns
 returns c =
+    let pre = c .before .before .before .before .before .pre in
     let a = c .before .before .before .before .before .args in
-    rw (absent-means (a .o) (c .enum-told .given .1)) (gives-none (a .image .now) (a .net .now) (a .scr .now) (c .before .before .before .before .before .pre .0) (c .before .before .before .before .before .pre .1))
+    rw (absent-means (a .o) (c .enum-told .given .1)) (gives-none (a .image .now) (a .net .now) (a .scr .now) (pre .0) (pre .1))
 
 same-length : tie.Need-same-length
 same-length c = search needs
@@ -26,7 +31,10 @@ same-length-2 : tie.Need-same-length-2
 same-length-2 c = search needs
 
 returns-2 : tie.Need-returns-2
-returns-2 c = rw (present-means (c .before .before .before .before .before .before .before .before .before .before .before .before .before .args .o) (c .before .before .before .before .before .before .before .before .o .given .0 .0) (c .before .before .before .before .before .before .before .before .o .given .1)) (c .before .before .before .before .lower-last .ensures)
+returns-2 c =
+    let o = c .before .before .before .before .before .before .before .before .o in
+    let args = c .before .before .before .before .before .before .before .before .before .before .before .before .before .args in
+    rw (present-means (args .o) (o .given .0 .0) (o .given .1)) (c .before .before .before .before .lower-last .ensures)
 
 pub lower-second-spec : {M : Type 1} → statement M
 lower-second-spec =

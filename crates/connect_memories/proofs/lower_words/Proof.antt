@@ -8,7 +8,9 @@ use Rattle.connect_memories.proofs.Laws.{read-given, read-out, write-gi
 
 lower-expression-requires : tie.Need-lower-expression-requires
 unfolding portMeans
-lower-expression-requires c κs = (c .before .before .before .before .before .pre .0, c .before .before .before .before .before .pre .1, c .before .before .before .before .before .pre .2 .readAddress .there)
+lower-expression-requires c κs =
+    let pre = c .before .before .before .before .before .pre in
+    (pre .0, pre .1, pre .2 .readAddress .there)
 
 enum-told : tie.Need-enum-told
 enum-told c = search needs
@@ -21,15 +23,19 @@ same-length-2 c = search needs
 
 returns : tie.Need-returns
 returns c =
+    let lower-expression = c .before .before .before .before .before .lower-expression in
+    let pre = c .before .before .before .before .before .before .before .before .before .before .before .pre in
     let a = c .before .before .before .before .before .before .before .before .before .before .before .args in
-    read-out (a .image .now) (a .net .now) (a .scr .now) (a .p) (c .before .before .before .before .before .before .before .before .before .before .before .pre .0) (c .before .before .before .before .before .before .before .before .before .before .before .pre .1) (c .before .before .before .before .before .before .before .before .before .before .before .pre .2) _ _ _ (c .before .before .before .before .before .lower-expression .ensures) (not-done-tag (c .before .before .before .before .before .lower-expression .result) (c .match .keys2))
+    read-out (a .image .now) (a .net .now) (a .scr .now) (a .p) (pre .0) (pre .1) (pre .2) _ _ _ (lower-expression .ensures) (not-done-tag (lower-expression .result) (c .match .keys2))
 
 lower-expression-requires-2 : tie.Need-lower-expression-requires-2
 unfolding portMeans
 lower-expression-requires-2 c κs =
+    let lower-expression = c .before .before .before .before .before .before .before .before .lower-expression in
+    let pre = c .before .before .before .before .before .before .before .before .before .before .before .before .before .before .pre in
     let a = c .before .before .before .before .before .before .before .before .before .before .before .before .before .before .args in
-    let g = read-given (a .image .now) (a .net .now) (a .scr .now) (a .p) (c .before .before .before .before .before .before .before .before .before .before .before .before .before .before .pre .0) (c .before .before .before .before .before .before .before .before .before .before .before .before .before .before .pre .1) (c .before .before .before .before .before .before .before .before .before .before .before .before .before .before .pre .2) _ _ _ (c .before .before .before .before .before .before .before .before .lower-expression .ensures) in
-    (g .ready, g .sure (c .before .before .enum-told .given .1), c .before .before .before .before .before .before .before .before .before .before .before .before .before .before .pre .2 .writeAddress .there)
+    let g = read-given (a .image .now) (a .net .now) (a .scr .now) (a .p) (pre .0) (pre .1) (pre .2) _ _ _ (lower-expression .ensures) in
+    (g .ready, g .sure (c .before .before .enum-told .given .1), pre .2 .writeAddress .there)
 
 enum-told-2 : tie.Need-enum-told-2
 enum-told-2 c = search needs
@@ -42,16 +48,24 @@ same-length-4 c = search needs
 
 returns-2 : tie.Need-returns-2
 returns-2 c =
+    let lower-expression2 = c .before .before .before .before .before .lower-expression2 in
+    let enum-told = c .before .before .before .before .before .before .before .before .enum-told in
+    let lower-expression = c .before .before .before .before .before .before .before .before .before .before .before .before .before .before .lower-expression in
+    let pre = c .before .before .before .before .before .before .before .before .before .before .before .before .before .before .before .before .before .before .before .before .pre in
     let a = c .before .before .before .before .before .before .before .before .before .before .before .before .before .before .before .before .before .before .before .before .args in
-    write-out (a .image .now) (a .net .now) (a .scr .now) (a .p) (c .before .before .before .before .before .before .before .before .before .before .before .before .before .before .before .before .before .before .before .before .pre .0) (c .before .before .before .before .before .before .before .before .before .before .before .before .before .before .before .before .before .before .before .before .pre .1) (c .before .before .before .before .before .before .before .before .before .before .before .before .before .before .before .before .before .before .before .before .pre .2) _ _ _ (c .before .before .before .before .before .before .before .before .before .before .before .before .before .before .lower-expression .ensures) (c .before .before .before .before .before .before .before .before .enum-told .given .1) _ _ _ (c .before .before .before .before .before .lower-expression2 .ensures)
-    (not-done-tag (c .before .before .before .before .before .lower-expression2 .result) (c .match2 .keys2))
+    write-out (a .image .now) (a .net .now) (a .scr .now) (a .p) (pre .0) (pre .1) (pre .2) _ _ _ (lower-expression .ensures) (enum-told .given .1) _ _ _ (lower-expression2 .ensures)
+    (not-done-tag (lower-expression2 .result) (c .match2 .keys2))
 
 lower-expression-requires-3 : tie.Need-lower-expression-requires-3
 unfolding portMeans
 lower-expression-requires-3 c κs =
+    let lower-expression2 = c .before .before .before .before .before .before .before .before .lower-expression2 in
+    let enum-told = c .before .before .before .before .before .before .before .before .before .before .before .enum-told in
+    let lower-expression = c .before .before .before .before .before .before .before .before .before .before .before .before .before .before .before .before .before .lower-expression in
+    let pre = c .before .before .before .before .before .before .before .before .before .before .before .before .before .before .before .before .before .before .before .before .before .before .before .pre in
     let a = c .before .before .before .before .before .before .before .before .before .before .before .before .before .before .before .before .before .before .before .before .before .before .before .args in
-    let g = write-given (a .image .now) (a .net .now) (a .scr .now) (a .p) (c .before .before .before .before .before .before .before .before .before .before .before .before .before .before .before .before .before .before .before .before .before .before .before .pre .0) (c .before .before .before .before .before .before .before .before .before .before .before .before .before .before .before .before .before .before .before .before .before .before .before .pre .1) (c .before .before .before .before .before .before .before .before .before .before .before .before .before .before .before .before .before .before .before .before .before .before .before .pre .2) _ _ _ (c .before .before .before .before .before .before .before .before .before .before .before .before .before .before .before .before .before .lower-expression .ensures) (c .before .before .before .before .before .before .before .before .before .before .before .enum-told .given .1) _ _ _ (c .before .before .before .before .before .before .before .before .lower-expression2 .ensures) in
-    (g .ready, g .sure (c .before .before .enum-told2 .given .1), c .before .before .before .before .before .before .before .before .before .before .before .before .before .before .before .before .before .before .before .before .before .before .before .pre .2 .writeData)
+    let g = write-given (a .image .now) (a .net .now) (a .scr .now) (a .p) (pre .0) (pre .1) (pre .2) _ _ _ (lower-expression .ensures) (enum-told .given .1) _ _ _ (lower-expression2 .ensures) in
+    (g .ready, g .sure (c .before .before .enum-told2 .given .1), pre .2 .writeData)
 
 same-length-5 : tie.Need-same-length-5
 same-length-5 c = search needs
@@ -61,9 +75,14 @@ same-length-6 c = search needs
 
 returns-3 : tie.Need-returns-3
 returns-3 c =
+    let enum-told2 = c .before .before .before .before .before .before .before .enum-told2 in
+    let lower-expression2 = c .before .before .before .before .before .before .before .before .before .before .before .before .before .lower-expression2 in
+    let enum-told = c .before .before .before .before .before .before .before .before .before .before .before .before .before .before .before .before .enum-told in
+    let lower-expression = c .before .before .before .before .before .before .before .before .before .before .before .before .before .before .before .before .before .before .before .before .before .before .lower-expression in
+    let pre = c .before .before .before .before .before .before .before .before .before .before .before .before .before .before .before .before .before .before .before .before .before .before .before .before .before .before .before .before .pre in
     let a = c .before .before .before .before .before .before .before .before .before .before .before .before .before .before .before .before .before .before .before .before .before .before .before .before .before .before .before .before .args in
-    data-given (a .image .now) (a .net .now) (a .scr .now) (a .p) (c .before .before .before .before .before .before .before .before .before .before .before .before .before .before .before .before .before .before .before .before .before .before .before .before .before .before .before .before .pre .0) (c .before .before .before .before .before .before .before .before .before .before .before .before .before .before .before .before .before .before .before .before .before .before .before .before .before .before .before .before .pre .1) (c .before .before .before .before .before .before .before .before .before .before .before .before .before .before .before .before .before .before .before .before .before .before .before .before .before .before .before .before .pre .2) _ _ _ (c .before .before .before .before .before .before .before .before .before .before .before .before .before .before .before .before .before .before .before .before .before .before .lower-expression .ensures) (c .before .before .before .before .before .before .before .before .before .before .before .before .before .before .before .before .enum-told .given .1) _ _ _ (c .before .before .before .before .before .before .before .before .before .before .before .before .before .lower-expression2 .ensures)
-    (c .before .before .before .before .before .before .before .enum-told2 .given .1) _ _ _ (c .before .before .before .before .lower-expression3 .ensures)
+    data-given (a .image .now) (a .net .now) (a .scr .now) (a .p) (pre .0) (pre .1) (pre .2) _ _ _ (lower-expression .ensures) (enum-told .given .1) _ _ _ (lower-expression2 .ensures)
+    (enum-told2 .given .1) _ _ _ (c .before .before .before .before .lower-expression3 .ensures)
 
 pub lower-words-spec : {M : Type 1} → statement M
 lower-words-spec =

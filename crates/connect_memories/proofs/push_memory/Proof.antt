@@ -26,17 +26,19 @@ slice-aggregate-push c =
 
 push-requires : tie.Need-push-requires
 push-requires c κs =
+    let pre = c .before .before .before .before .before .before .before .before .pre in
     let a = c .before .before .before .before .before .before .before .before .args in
     let g = record-good (decode (a .image .now)) (a .k) (memoryMeans (a .x)) (walkState (a .image .now) (a .net .now) (a .scr .now)) _ (puts-all (c .before .before .before .put-memory .ensures .1 (netlistOf (limitOf (a .scr .now)) (a .net .now)))) in
-    (c .before .before .before .before .before .before .before .before .pre .0, c .before .before .before .before .before .before .before .before .pre .1, g .0, g .1, g .2)
+    (pre .0, pre .1, g .0, g .1, g .2)
 
 same-length : tie.Need-same-length
 same-length c = search needs
 
 returns : tie.Need-returns
 returns c =
+    let put-memory = c .before .before .before .before .before .before .put-memory in
     let a = c .before .before .before .before .before .before .before .before .before .before .before .args in
-    rw (puts-all (c .before .before .before .before .before .before .put-memory .ensures .1 (netlistOf (limitOf (a .scr .now)) (a .net .now)))) at (c .before .before .push .ensures)
+    rw (puts-all (put-memory .ensures .1 (netlistOf (limitOf (a .scr .now)) (a .net .now)))) at (c .before .before .push .ensures)
 
 pub push-memory-spec : {M : Type 1} → statement M
 push-memory-spec =

@@ -11,15 +11,21 @@ use Rattle.connect_memories.proofs.Laws.{tail-are}
 
 control-words-requires : tie.Need-control-words-requires
 unfolding portMeans
-control-words-requires c κs = (c .before .before .before .pre .0, c .before .before .before .pre .1 .readEnable)
+control-words-requires c κs =
+    let pre = c .before .before .before .pre in
+    (pre .0, pre .1 .readEnable)
 
 control-words-requires-2 : tie.Need-control-words-requires-2
 unfolding portMeans enableMeans
-control-words-requires-2 c κs = (c .before .before .before .before .before .pre .0, c .before .before .before .before .before .pre .1 .writeEnable)
+control-words-requires-2 c κs =
+    let pre = c .before .before .before .before .before .pre in
+    (pre .0, pre .1 .writeEnable)
 
 bit-net-requires : tie.Need-bit-net-requires
 unfolding portMeans
-bit-net-requires c κs = (c .before .before .before .before .before .before .pre .0, c .before .before .before .before .before .before .pre .1 .clock .there, omega (arith, c .before .before .before .before .before .before .pre .1 .clock .one))
+bit-net-requires c κs =
+    let pre = c .before .before .before .before .before .before .pre in
+    (pre .0, pre .1 .clock .there, omega (arith, pre .1 .clock .one))
 
 low-word-requires : tie.Need-low-word-requires
 low-word-requires c κs = search needs
@@ -39,9 +45,16 @@ same-length c = search needs
 returns : tie.Need-returns
 unfolding portMeans enableMeans
 returns c =
-    let a = c .before .before .before .before .before .before .before .before .before .before .before .before .before .args in
-    (refl, λ l. puts-as (tail-are (stateOf (a .image .now) l (a .scr .now)) (portMeans (a .p)) _ _ _ _ _ _ (c .before .before .before .before .before .before .before .before .before .control-words .ensures l) (c .before .before .before .before .before .before .before .control-words2 .ensures l) (c .before .before .before .before .before .before .bit-net .ensures l) (c .before .before .before .before .before .low-word .ensures))
-    (puts-sets _ _ (a .at) _ _ (omega (arith, c .before .before .before .before .before .before .before .before .before .before .before .before .before .pre .2)) refl (c .before .before .put-words .ensures)))
+    let low-word = c .before .before .before .before .before .low-word in
+    let bit-net = c .before .before .before .before .before .before .bit-net in
+    let control-words2 = c .before .before .before .before .before .before .before .control-words2 in
+    let control-words = c .before .before .before .before .before .before .before .before .before .control-words in
+    let pre = c .before .before .before .before .before .before .before .before .before .before .before .before .before .pre in
+    let a = c .before .before .before .before .before .before .before .before .before .before .before .before .before .args in (
+      refl,
+      λ l. puts-as (tail-are (stateOf (a .image .now) l (a .scr .now)) (portMeans (a .p)) _ _ _ _ _ _ (control-words .ensures l) (control-words2 .ensures l) (bit-net .ensures l) (low-word .ensures))
+          (puts-sets _ _ (a .at) _ _ (omega (arith, pre .2)) refl (c .before .before .put-words .ensures)),
+    )
 
 pub put-controls-spec : {M : Type 1} → statement M
 put-controls-spec =

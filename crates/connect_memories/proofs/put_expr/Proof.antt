@@ -23,8 +23,10 @@ same-length c = search needs
 
 returns : tie.Need-returns
 returns c =
+    let expr-width = c .before .before .before .before .expr-width in
+    let pre = c .before .before .before .before .before .before .before .before .pre in
     let a = c .before .before .before .before .before .before .before .before .args in
-    (omega (arith, c .before .before .before .before .expr-width .ensures), λ l. expr-put (a .image .now) (a .scr .now) l (a .e) (c .before .before .before .before .before .before .before .before .pre .0) (c .before .before .before .before .before .before .before .before .pre .1) (c .before .before .before .before .before .before .before .before .pre .2) _ (a .at) _ _ _ (c .before .before .before .before .expr-width .ensures) (c .before .before .before .before .before .before .before .before .pre .3) refl (c .before .before .copy-range .ensures l))
+    (omega (arith, expr-width .ensures), λ l. expr-put (a .image .now) (a .scr .now) l (a .e) (pre .0) (pre .1) (pre .2) _ (a .at) _ _ _ (expr-width .ensures) (pre .3) refl (c .before .before .copy-range .ensures l))
 
 pub put-expr-spec : {M : Type 1} → statement M
 put-expr-spec =

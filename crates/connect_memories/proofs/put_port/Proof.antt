@@ -20,9 +20,11 @@ same-length c = search needs
 
 returns : tie.Need-returns
 returns c =
-    let a = c .before .before .before .before .before .before .before .before .before .before .before .args in
-    (omega (arith, c .before .before .before .before .before .before .put-nets .ensures .0, c .before .before .put-controls .ensures .0),
-    λ l. puts-as (port-parts (decode (a .image .now)) (stateOf (a .image .now) l (a .scr .now)) (portMeans (a .p))) (puts-then (c .before .before .before .before .before .before .put-nets .ensures .1 l) (c .before .before .put-controls .ensures .1 l)))
+    let put-nets = c .before .before .before .before .before .before .put-nets in
+    let a = c .before .before .before .before .before .before .before .before .before .before .before .args in (
+      omega (arith, put-nets .ensures .0, c .before .before .put-controls .ensures .0),
+      λ l. puts-as (port-parts (decode (a .image .now)) (stateOf (a .image .now) l (a .scr .now)) (portMeans (a .p))) (puts-then (put-nets .ensures .1 l) (c .before .before .put-controls .ensures .1 l)),
+    )
 
 pub put-port-spec : {M : Type 1} → statement M
 put-port-spec = tie.close (tie.spec put-nets-requires put-controls-requires same-length returns)

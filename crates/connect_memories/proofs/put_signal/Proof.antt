@@ -23,8 +23,10 @@ same-length c = search needs
 
 returns : tie.Need-returns
 returns c =
+    let signal-width = c .before .before .before .before .signal-width in
+    let pre = c .before .before .before .before .before .before .before .before .pre in
     let a = c .before .before .before .before .before .before .before .before .args in
-    (omega (arith, c .before .before .before .before .signal-width .ensures), λ l. signal-put (a .image .now) (a .scr .now) l (a .p) (c .before .before .before .before .before .before .before .before .pre .1) _ (a .at) _ _ _ (c .before .before .before .before .signal-width .ensures) (c .before .before .before .before .before .before .before .before .pre .2) refl (c .before .before .copy-signal .ensures l))
+    (omega (arith, signal-width .ensures), λ l. signal-put (a .image .now) (a .scr .now) l (a .p) (pre .1) _ (a .at) _ _ _ (signal-width .ensures) (pre .2) refl (c .before .before .copy-signal .ensures l))
 
 pub put-signal-spec : {M : Type 1} → statement M
 put-signal-spec =

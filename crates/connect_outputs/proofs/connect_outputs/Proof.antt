@@ -5,8 +5,6 @@ use borrow.Author.Needs.{needs}
 use mathlib.Core.Bool.{false}
 use Prim.Native.Nat.{_-_}
 use native.Mathlib.Omega.{arith}
-use mathlib.Core.Path.{sym, ap, _∙_}
-use Prim.Native.Nat.{ℕ}
 use Rattle.meaning.specs.Image.{countAt, decode}
 use Rattle.model.specs.Lowering.{connectOutputs}
 use Rattle.walk_view.specs.View.{walkState}
@@ -26,9 +24,10 @@ count-requires c κs = search needs
 
 loop-holds : tie.Need-loop-holds Inv-loop μ-loop
 loop-holds c =
+    let pre = c .before .before .before .before .pre in
     let a = c .before .before .before .before .args in
     turns-start _ (outputTurn (a .image .now)) (a .image .now) (a .net .now) (a .scr .now) (countAt (a .image .now) 0)
-    (all-outputs (a .image .now) (walkState (a .image .now) (a .net .now) (a .scr .now))) (c .before .before .before .before .pre .0) (c .before .before .before .before .pre .1)
+    (all-outputs (a .image .now) (walkState (a .image .now) (a .net .now) (a .scr .now))) (pre .0) (pre .1)
 
 connect-output-requires : tie.Need-connect-output-requires Inv-loop μ-loop
 connect-output-requires c κs =
@@ -46,11 +45,13 @@ same-length-2 c = search needs
 
 returns : tie.Need-returns Inv-loop μ-loop
 returns c =
+    let loop-test = c .before .before .before .before .before .before .before .before .loop-test in
+    let count = c .before .before .before .before .before .before .before .before .before .before .count in
     let a = c .before .before .before .before .before .before .before .before .before .before .before .before .before .before .args in
     let q = c .before .before .before .before .before .before .before .before .before .loop in
     let g = c .before .before .before .before .before .connect-output in
     ran-phase (turns-out _ (outputTurn (a .image .now)) (a .image .now) (a .net .now) (a .scr .now) (countAt (a .image .now) 0) (q .p) (q .net) (q .scr) _ _ (q .inv) (g .result)
-    (omega (arith, c .before .before .before .before .before .before .before .before .loop-test .taken, c .before .before .before .before .before .before .before .before .before .before .count .ensures)) (g .ensures) (not-done-tag (g .result) (c .match .keys2)))
+    (omega (arith, loop-test .taken, count .ensures)) (g .ensures) (not-done-tag (g .result) (c .match .keys2)))
 
 add-p : tie.Need-add-p Inv-loop μ-loop
 add-p c = search needs
@@ -60,11 +61,13 @@ loop-less c = search needs
 
 loop-again : tie.Need-loop-again Inv-loop μ-loop
 loop-again c =
+    let loop-test = c .before .before .before .before .before .before .before .before .before .loop-test in
+    let count = c .before .before .before .before .before .before .before .before .before .before .before .count in
     let a = c .before .before .before .before .before .before .before .before .before .before .before .before .before .before .before .args in
     let q = c .before .before .before .before .before .before .before .before .before .before .loop in
     let g = c .before .before .before .before .before .before .connect-output in
     turns-more _ (outputTurn (a .image .now)) (a .image .now) (a .net .now) (a .scr .now) (countAt (a .image .now) 0) (q .p) (q .net) (q .scr) _ _ (q .inv) (g .result)
-    (omega (arith, c .before .before .before .before .before .before .before .before .before .loop-test .taken, c .before .before .before .before .before .before .before .before .before .before .before .count .ensures)) (g .ensures) (c .enum-told .given .1)
+    (omega (arith, loop-test .taken, count .ensures)) (g .ensures) (c .enum-told .given .1)
 
 same-length-3 : tie.Need-same-length-3 Inv-loop μ-loop
 same-length-3 c = search needs

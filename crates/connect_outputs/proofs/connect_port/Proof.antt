@@ -3,7 +3,6 @@ use borrow.Author.Needs.{needs}
 use Rattle.connect_outputs.proofs.connect_port.Statement.{statement}
 use Rattle.connect_outputs.proofs.connect_port.Tie as tie
 use native.Mathlib.Omega.{arith}
-use Rattle.model.specs.Lowering.{signalSteps}
 use Rattle.meaning.specs.Image.{decode}
 use Rattle.walk_laws.specs.Walk.{bits-asked}
 use Rattle.connect_parts.specs.Ran.{ran-then, ran-out}
@@ -25,16 +24,22 @@ same-length-2 c = search needs
 
 returns : tie.Need-returns
 returns c =
+    let resolve-signal = c .before .before .before .before .before .resolve-signal in
     let a = c .before .before .before .before .before .before .before .before .before .before .before .args in
-    ran-out (portTurn (a .p) (a .n)) (all-ran (c .before .before .before .before .before .resolve-signal .ensures)) (not-done-tag (c .before .before .before .before .before .resolve-signal .result) (c .match .keys2))
+    ran-out (portTurn (a .p) (a .n)) (all-ran (resolve-signal .ensures)) (not-done-tag (resolve-signal .result) (c .match .keys2))
 
 add-port-requires : tie.Need-add-port-requires
 add-port-requires c κs =
+    let pre = c .before .before .before .before .before .before .before .before .before .before .before .before .before .before .pre in
     let a = c .before .before .before .before .before .before .before .before .before .before .before .before .before .before .args in
-    let g = c .before .before .before .before .before .before .before .before .resolve-signal in
-    (g .ensures .ready, g .ensures .sure (c .before .before .enum-told .given .1), c .before .before .before .before .before .before .before .before .before .before .before .before .before .before .pre .2, c .before .before .before .before .before .before .before .before .before .before .before .before .before .before .pre .3,
-    omega (arith, c .before .before .before .before .before .before .before .before .before .before .before .before .before .before .pre .3, c .before .before .before .before .before .before .before .before .before .before .before .before .before .before .pre .0 .accepted .signals (a .p) (c .before .before .before .before .before .before .before .before .before .before .before .before .before .before .pre .2) .width .1),
-    gives-after (c .before .before .before .before .before .before .before .before .before .before .before .before .before .before .pre .0 .accepted) (c .before .before .before .before .before .before .before .before .before .before .before .before .before .before .pre .1) (bits-asked (decode (a .image .now)) (a .p) 0 (a .n)) (g .ensures) (c .before .before .enum-told .given .1))
+    let g = c .before .before .before .before .before .before .before .before .resolve-signal in (
+      g .ensures .ready,
+      g .ensures .sure (c .before .before .enum-told .given .1),
+      pre .2,
+      pre .3,
+      omega (arith, pre .3, pre .0 .accepted .signals (a .p) (pre .2) .width .1),
+      gives-after (pre .0 .accepted) (pre .1) (bits-asked (decode (a .image .now)) (a .p) 0 (a .n)) (g .ensures) (c .before .before .enum-told .given .1),
+    )
 
 same-length-3 : tie.Need-same-length-3
 same-length-3 c = search needs
@@ -44,8 +49,10 @@ same-length-4 c = search needs
 
 returns-2 : tie.Need-returns-2
 returns-2 c =
+    let enum-told = c .before .before .before .before .before .enum-told in
+    let resolve-signal = c .before .before .before .before .before .before .before .before .before .before .before .resolve-signal in
     let a = c .before .before .before .before .before .before .before .before .before .before .before .before .before .before .before .before .before .args in
-    ran-then (portTurn (a .p) (a .n)) (all-ran (c .before .before .before .before .before .before .before .before .before .before .before .resolve-signal .ensures)) (c .before .before .before .before .before .enum-told .given .1) (c .before .before .add-port .ensures)
+    ran-then (portTurn (a .p) (a .n)) (all-ran (resolve-signal .ensures)) (enum-told .given .1) (c .before .before .add-port .ensures)
 
 pub connect-port-spec : {M : Type 1} → statement M
 connect-port-spec =

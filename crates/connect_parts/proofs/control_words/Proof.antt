@@ -15,9 +15,10 @@ enum-known-e c = search needs
 
 bit-net-requires : tie.Need-bit-net-requires
 bit-net-requires c κs =
+    let pre = c .before .before .before .before .before .pre in
     let a = c .before .before .before .before .before .args in
-    let h = there-present (a .e) (a .image .now) (c .before .e .given .0 .0) (c .before .e .given .1) (c .before .before .before .before .before .pre .1) in
-    (c .before .before .before .before .before .pre .0, h .there, omega (arith, h .one))
+    let h = there-present (a .e) (a .image .now) (c .before .e .given .0 .0) (c .before .e .given .1) (pre .1) in
+    (pre .0, h .there, omega (arith, h .one))
 
 low-word-requires : tie.Need-low-word-requires
 low-word-requires c κs = search needs
@@ -29,8 +30,9 @@ returns c =
 
 returns-2 : tie.Need-returns-2
 returns-2 c =
+    let e = c .before .before .before .e in
     let a = c .before .before .before .before .before .before .before .args in
-    λ l. control-present (stateOf (a .image .now) l (a .scr .now)) (a .e) (c .before .before .before .e .given .0 .0) _ _ (c .before .before .before .e .given .1) (c .before .bit-net .ensures l) (c .low-word .ensures)
+    λ l. control-present (stateOf (a .image .now) l (a .scr .now)) (a .e) (e .given .0 .0) _ _ (e .given .1) (c .before .bit-net .ensures l) (c .low-word .ensures)
 
 pub control-words-spec : {M : Type 1} → statement M
 control-words-spec =

@@ -16,14 +16,17 @@ enum-known-e c = search needs
 
 resolve-signal-bit-requires : tie.Need-resolve-signal-bit-requires
 resolve-signal-bit-requires c κs =
+    let e = c .before .before .before .e in
+    let pre = c .before .before .before .before .before .before .before .before .pre in
     let a = c .before .before .before .before .before .before .before .before .args in
-    let h = there-present (a .e) (a .image .now) (c .before .before .before .e .given .0 .0) (c .before .before .before .e .given .1) (c .before .before .before .before .before .before .before .before .pre .2) in
-    (c .before .before .before .before .before .before .before .before .pre .0, c .before .before .before .before .before .before .before .before .pre .1, h .there, omega (arith, h .one))
+    let h = there-present (a .e) (a .image .now) (e .given .0 .0) (e .given .1) (pre .2) in
+    (pre .0, pre .1, h .there, omega (arith, h .one))
 
 returns : tie.Need-returns
 returns c =
+    let pre = c .before .before .before .before .before .pre in
     let a = c .before .before .before .before .before .args in
-    rw (steps-absent (a .e) (c .enum-told .given .1)) (gives-none (a .image .now) (a .net .now) (a .scr .now) (c .before .before .before .before .before .pre .0) (c .before .before .before .before .before .pre .1))
+    rw (steps-absent (a .e) (c .enum-told .given .1)) (gives-none (a .image .now) (a .net .now) (a .scr .now) (pre .0) (pre .1))
 
 same-length : tie.Need-same-length
 same-length c = search needs
@@ -33,11 +36,13 @@ same-length-2 c = search needs
 
 returns-2 : tie.Need-returns-2
 returns-2 c =
+    let e = c .before .before .before .before .before .before .before .before .e in
+    let pre = c .before .before .before .before .before .before .before .before .before .before .before .before .before .pre in
     let a = c .before .before .before .before .before .before .before .before .before .before .before .before .before .args in
-    let x = c .before .before .before .before .before .before .before .before .e .given .0 .0 in
-    let h = there-present (a .e) (a .image .now) x (c .before .before .before .before .before .before .before .before .e .given .1) (c .before .before .before .before .before .before .before .before .before .before .before .before .before .pre .2) in
-    rw (steps-present (a .e) x (c .before .before .before .before .before .before .before .before .e .given .1))
-    (gives-one (a .image .now) (a .net .now) (a .scr .now) (Bit (x .signal) 0) _ _ _ (c .before .before .before .before .before .before .before .before .before .before .before .before .before .pre .0) (c .before .before .before .before .before .before .before .before .before .before .before .before .before .pre .1) (h .there, omega (arith, h .one)) (c .before .before .before .before .resolve-signal-bit .ensures))
+    let x = e .given .0 .0 in
+    let h = there-present (a .e) (a .image .now) x (e .given .1) (pre .2) in
+    rw (steps-present (a .e) x (e .given .1))
+    (gives-one (a .image .now) (a .net .now) (a .scr .now) (Bit (x .signal) 0) _ _ _ (pre .0) (pre .1) (h .there, omega (arith, h .one)) (c .before .before .before .before .resolve-signal-bit .ensures))
 
 pub lower-control-spec : {M : Type 1} → statement M
 lower-control-spec =

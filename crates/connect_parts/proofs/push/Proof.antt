@@ -2,8 +2,7 @@
 use borrow.Author.Needs.{needs}
 use Rattle.connect_parts.proofs.push.Statement.{statement}
 use Rattle.connect_parts.proofs.push.Tie as tie
-use Rattle.connect_parts.proofs.Laws.{answer, pushed-ran}
-use mathlib.Core.Path.{ap}
+use Rattle.connect_parts.proofs.Laws.{pushed-ran}
 
 shared-slice-read-push-record : tie.Need-shared-slice-read-push-record
 shared-slice-read-push-record c = search needs
@@ -22,18 +21,22 @@ same-length c = search needs
 
 returns : tie.Need-returns
 returns c =
+    let push-record = c .before .before .before .before .push-record in
+    let pre = c .before .before .before .before .before .before .before .before .before .before .before .pre in
     let a = c .before .before .before .before .before .before .before .before .before .before .before .args in
     rw (c .enum-told .given .1) at
-    (pushed-ran (a .image .now) (a .net .now) (a .scr .now) (a .r .now) _ (c .before .before .before .before .before .before .before .before .before .before .before .pre .0) (c .before .before .before .before .before .before .before .before .before .before .before .pre .1) (c .before .before .before .before .before .before .before .before .before .before .before .pre .2) (c .before .before .before .before .before .before .before .before .before .before .before .pre .3) (c .before .before .before .before .before .before .before .before .before .before .before .pre .4) (c .before .before .before .before .push-record .result) (c .before .before .before .before .push-record .ensures) (c .before .before .before .before .push-record .kept .0))
+    (pushed-ran (a .image .now) (a .net .now) (a .scr .now) (a .r .now) _ (pre .0) (pre .1) (pre .2) (pre .3) (pre .4) (push-record .result) (push-record .ensures) (push-record .kept .0))
 
 same-length-2 : tie.Need-same-length-2
 same-length-2 c = search needs
 
 returns-2 : tie.Need-returns-2
 returns-2 c =
+    let push-record = c .before .before .before .before .push-record in
+    let pre = c .before .before .before .before .before .before .before .before .before .before .before .pre in
     let a = c .before .before .before .before .before .before .before .before .before .before .before .args in
     rw (c .enum-told2 .given .1) at
-    (pushed-ran (a .image .now) (a .net .now) (a .scr .now) (a .r .now) _ (c .before .before .before .before .before .before .before .before .before .before .before .pre .0) (c .before .before .before .before .before .before .before .before .before .before .before .pre .1) (c .before .before .before .before .before .before .before .before .before .before .before .pre .2) (c .before .before .before .before .before .before .before .before .before .before .before .pre .3) (c .before .before .before .before .before .before .before .before .before .before .before .pre .4) (c .before .before .before .before .push-record .result) (c .before .before .before .before .push-record .ensures) (c .before .before .before .before .push-record .kept .0))
+    (pushed-ran (a .image .now) (a .net .now) (a .scr .now) (a .r .now) _ (pre .0) (pre .1) (pre .2) (pre .3) (pre .4) (push-record .result) (push-record .ensures) (push-record .kept .0))
 
 pub push-spec : {M : Type 1} → statement M
 push-spec =

@@ -16,8 +16,9 @@ register-at-requires c κs = search needs
 
 lower-register-requires : tie.Need-lower-register-requires
 lower-register-requires c κs =
+    let pre = c .before .before .before .before .before .before .pre in
     let a = c .before .before .before .before .before .before .args in
-    (c .before .before .before .before .before .before .pre .0, c .before .before .before .before .before .before .pre .1, subst (There (a .image .now)) (sym (c .before .before .register-at .ensures)) (register-there (a .image .now) (a .k) (c .before .before .before .before .before .before .pre .0 .accepted) (c .before .before .before .before .before .before .pre .2)))
+    (pre .0, pre .1, subst (There (a .image .now)) (sym (c .before .before .register-at .ensures)) (register-there (a .image .now) (a .k) (pre .0 .accepted) (pre .2)))
 
 enum-told : tie.Need-enum-told
 enum-told c = search needs
@@ -30,17 +31,22 @@ same-length-2 c = search needs
 
 returns : tie.Need-returns
 returns c =
+    let lower-register = c .before .before .before .before .before .lower-register in
+    let register-at = c .before .before .before .before .before .before .before .before .register-at in
     let a = c .before .before .before .before .before .before .before .before .before .before .before .before .args in
-    let x = c .before .before .before .before .before .before .before .before .register-at .result in
-    ran-as (turn-as (a .image .now) (a .k) x (walkState (a .image .now) (a .net .now) (a .scr .now)) (c .before .before .before .before .before .before .before .before .register-at .ensures))
-    (ran-out (bitsTurn (a .image .now) (a .k) (registerMeans x)) (all-ran (c .before .before .before .before .before .lower-register .ensures)) (not-done-tag (c .before .before .before .before .before .lower-register .result) (c .match .keys2)))
+    let x = register-at .result in
+    ran-as (turn-as (a .image .now) (a .k) x (walkState (a .image .now) (a .net .now) (a .scr .now)) (register-at .ensures))
+    (ran-out (bitsTurn (a .image .now) (a .k) (registerMeans x)) (all-ran (lower-register .ensures)) (not-done-tag (lower-register .result) (c .match .keys2)))
 
 push-bits-requires : tie.Need-push-bits-requires
 push-bits-requires c κs =
+    let lower-register = c .before .before .before .before .before .before .before .before .lower-register in
+    let register-at = c .before .before .before .before .before .before .before .before .before .before .before .register-at in
+    let pre = c .before .before .before .before .before .before .before .before .before .before .before .before .before .before .before .pre in
     let a = c .before .before .before .before .before .before .before .before .before .before .before .before .before .before .before .args in
-    let g = c .before .before .before .before .before .before .before .before .lower-register .ensures in
+    let g = lower-register .ensures in
     let d = c .before .before .enum-told .given .1 in
-    let h = subst (There (a .image .now)) (sym (c .before .before .before .before .before .before .before .before .before .before .before .register-at .ensures)) (register-there (a .image .now) (a .k) (c .before .before .before .before .before .before .before .before .before .before .before .before .before .before .before .pre .0 .accepted) (c .before .before .before .before .before .before .before .before .before .before .before .before .before .before .before .pre .2)) in
+    let h = subst (There (a .image .now)) (sym (register-at .ensures)) (register-there (a .image .now) (a .k) (pre .0 .accepted) (pre .2)) in
     (g .ready, g .sure d, h, register-whole h g d)
 
 same-length-3 : tie.Need-same-length-3
@@ -51,10 +57,13 @@ same-length-4 c = search needs
 
 returns-2 : tie.Need-returns-2
 returns-2 c =
+    let enum-told = c .before .before .before .before .before .enum-told in
+    let lower-register = c .before .before .before .before .before .before .before .before .before .before .before .lower-register in
+    let register-at = c .before .before .before .before .before .before .before .before .before .before .before .before .before .before .register-at in
     let a = c .before .before .before .before .before .before .before .before .before .before .before .before .before .before .before .before .before .before .args in
-    let x = c .before .before .before .before .before .before .before .before .before .before .before .before .before .before .register-at .result in
-    ran-as (turn-as (a .image .now) (a .k) x (walkState (a .image .now) (a .net .now) (a .scr .now)) (c .before .before .before .before .before .before .before .before .before .before .before .before .before .before .register-at .ensures))
-    (ran-then (bitsTurn (a .image .now) (a .k) (registerMeans x)) (all-ran (c .before .before .before .before .before .before .before .before .before .before .before .lower-register .ensures)) (c .before .before .before .before .before .enum-told .given .1) (c .before .before .push-bits .ensures))
+    let x = register-at .result in
+    ran-as (turn-as (a .image .now) (a .k) x (walkState (a .image .now) (a .net .now) (a .scr .now)) (register-at .ensures))
+    (ran-then (bitsTurn (a .image .now) (a .k) (registerMeans x)) (all-ran (lower-register .ensures)) (enum-told .given .1) (c .before .before .push-bits .ensures))
 
 pub connect-register-spec : {M : Type 1} → statement M
 connect-register-spec =

@@ -22,15 +22,19 @@ same-length-2 c = search needs
 
 returns : tie.Need-returns
 returns c =
+    let lower-expression = c .before .before .before .before .before .lower-expression in
+    let pre = c .before .before .before .before .before .before .before .before .before .before .before .pre in
     let a = c .before .before .before .before .before .before .before .before .before .before .before .args in
-    let g = gives-one (a .image .now) (a .net .now) (a .scr .now) (Whole (a .x .value)) _ _ _ (c .before .before .before .before .before .before .before .before .before .before .before .pre .0) (c .before .before .before .before .before .before .before .before .before .before .before .pre .1) (c .before .before .before .before .before .before .before .before .before .before .before .pre .2 .1) (c .before .before .before .before .before .lower-expression .ensures) in
-    gives-out (bitStep (a .x .control .signal)) g (not-done-tag (c .before .before .before .before .before .lower-expression .result) (c .match .keys2))
+    let g = gives-one (a .image .now) (a .net .now) (a .scr .now) (Whole (a .x .value)) _ _ _ (pre .0) (pre .1) (pre .2 .1) (lower-expression .ensures) in
+    gives-out (bitStep (a .x .control .signal)) g (not-done-tag (lower-expression .result) (c .match .keys2))
 
 resolve-signal-bit-requires : tie.Need-resolve-signal-bit-requires
 resolve-signal-bit-requires c κs =
+    let lower-expression = c .before .before .before .before .before .before .before .before .before .lower-expression in
+    let pre = c .before .before .before .before .before .before .before .before .before .before .before .before .before .before .before .pre in
     let a = c .before .before .before .before .before .before .before .before .before .before .before .before .before .before .before .args in
-    let g = gives-one (a .image .now) (a .net .now) (a .scr .now) (Whole (a .x .value)) _ _ _ (c .before .before .before .before .before .before .before .before .before .before .before .before .before .before .before .pre .0) (c .before .before .before .before .before .before .before .before .before .before .before .before .before .before .before .pre .1) (c .before .before .before .before .before .before .before .before .before .before .before .before .before .before .before .pre .2 .1) (c .before .before .before .before .before .before .before .before .before .lower-expression .ensures) in
-    (g .ready, g .sure (c .before .before .before .enum-told .given .1), c .before .before .before .before .before .before .before .before .before .before .before .before .before .before .before .pre .2 .0 .there, omega (arith, c .before .before .before .before .before .before .before .before .before .before .before .before .before .before .before .pre .2 .0 .one))
+    let g = gives-one (a .image .now) (a .net .now) (a .scr .now) (Whole (a .x .value)) _ _ _ (pre .0) (pre .1) (pre .2 .1) (lower-expression .ensures) in
+    (g .ready, g .sure (c .before .before .before .enum-told .given .1), pre .2 .0 .there, omega (arith, pre .2 .0 .one))
 
 same-length-3 : tie.Need-same-length-3
 same-length-3 c = search needs
@@ -40,10 +44,13 @@ same-length-4 c = search needs
 
 returns-2 : tie.Need-returns-2
 returns-2 c =
+    let enum-told = c .before .before .before .before .before .before .before .before .enum-told in
+    let lower-expression = c .before .before .before .before .before .before .before .before .before .before .before .before .before .before .lower-expression in
+    let pre = c .before .before .before .before .before .before .before .before .before .before .before .before .before .before .before .before .before .before .before .before .pre in
     let a = c .before .before .before .before .before .before .before .before .before .before .before .before .before .before .before .before .before .before .before .before .args in
-    let g = gives-one (a .image .now) (a .net .now) (a .scr .now) (Whole (a .x .value)) _ _ _ (c .before .before .before .before .before .before .before .before .before .before .before .before .before .before .before .before .before .before .before .before .pre .0) (c .before .before .before .before .before .before .before .before .before .before .before .before .before .before .before .before .before .before .before .before .pre .1) (c .before .before .before .before .before .before .before .before .before .before .before .before .before .before .before .before .before .before .before .before .pre .2 .1) (c .before .before .before .before .before .before .before .before .before .before .before .before .before .before .lower-expression .ensures) in
-    gives-then (bitStep (a .x .control .signal)) g (c .before .before .before .before .before .before .before .before .enum-told .given .1)
-    (gives-one (a .image .now) _ _ (Bit (a .x .control .signal) 0) _ _ _ (g .ready) (g .sure (c .before .before .before .before .before .before .before .before .enum-told .given .1)) (c .before .before .before .before .before .before .before .before .before .before .before .before .before .before .before .before .before .before .before .before .pre .2 .0 .there, omega (arith, c .before .before .before .before .before .before .before .before .before .before .before .before .before .before .before .before .before .before .before .before .pre .2 .0 .one)) (c .before .before .before .before .resolve-signal-bit .ensures))
+    let g = gives-one (a .image .now) (a .net .now) (a .scr .now) (Whole (a .x .value)) _ _ _ (pre .0) (pre .1) (pre .2 .1) (lower-expression .ensures) in
+    gives-then (bitStep (a .x .control .signal)) g (enum-told .given .1)
+    (gives-one (a .image .now) _ _ (Bit (a .x .control .signal) 0) _ _ _ (g .ready) (g .sure (enum-told .given .1)) (pre .2 .0 .there, omega (arith, pre .2 .0 .one)) (c .before .before .before .before .resolve-signal-bit .ensures))
 
 pub lower-present-spec : {M : Type 1} → statement M
 lower-present-spec =

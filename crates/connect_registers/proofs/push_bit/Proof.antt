@@ -23,10 +23,11 @@ enum-known-o c = search needs
 
 push-reset-requires : tie.Need-push-reset-requires
 push-reset-requires c κs =
+    let pre = c .before .before .before .before .before .before .before .pre in
     let a = c .before .before .before .before .before .before .before .args in
     let y = c .before .before .o .given .0 .0 in
     let q = c .before .before .o .given .1 in
-    (c .before .before .before .before .before .before .before .pre .0, c .before .before .before .before .before .before .before .pre .1, c .before .before .before .before .before .before .before .pre .2, c .before .before .before .before .before .before .before .pre .3, c .before .before .before .before .before .before .before .pre .4, there-reset (a .x) y q (a .image .now) (c .before .before .before .before .before .before .before .pre .2), omega (arith, c .before .before .before .before .before .before .before .pre .4, wide-reset (a .x) y q (a .image .now) (c .before .before .before .before .before .before .before .pre .2)), whole-reset (a .x) y q (a .image .now) (a .scr .now) (c .before .before .before .before .before .before .before .pre .3))
+    (pre .0, pre .1, pre .2, pre .3, pre .4, there-reset (a .x) y q (a .image .now) (pre .2), omega (arith, pre .4, wide-reset (a .x) y q (a .image .now) (pre .2)), whole-reset (a .x) y q (a .image .now) (a .scr .now) (pre .3))
 
 same-length : tie.Need-same-length
 same-length c = search needs
@@ -42,9 +43,10 @@ same-length-2 c = search needs
 
 returns-2 : tie.Need-returns-2
 returns-2 c =
+    let o-call = c .before .before .before .before .before .o in
     let a = c .before .before .before .before .before .before .before .before .before .before .args in
     ran-as (ap (λ (o : Option R.Reset). registerBit o (a .k) (registerMeans (a .x)) (a .b) (walkState (a .image .now) (a .net .now) (a .scr .now)))
-    (reset-is (a .x) (c .before .before .before .before .before .o .given .0 .0) (c .before .before .before .before .before .o .given .1))) (c .before .before .push-reset .ensures)
+    (reset-is (a .x) (o-call .given .0 .0) (o-call .given .1))) (c .before .before .push-reset .ensures)
 
 pub push-bit-spec : {M : Type 1} → statement M
 push-bit-spec =

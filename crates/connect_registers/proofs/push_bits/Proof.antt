@@ -27,17 +27,19 @@ signal-width-requires c κs = search needs
 
 loop-holds : tie.Need-loop-holds Inv-loop μ-loop
 loop-holds c =
+    let pre = c .before .before .before .before .pre in
     let a = c .before .before .before .before .args in
     let r = registerMeans (a .x) in
     let st = walkState (a .image .now) (a .net .now) (a .scr .now) in
     turns-start _ (registerBit (r .reset) (a .k) r) (a .image .now) (a .net .now) (a .scr .now) (signalWidth (a .image .now) (r .target))
-    (bits-turns (a .k) r 0 _ st ∙ ap (λ (j : ℕ). turns (registerBit (r .reset) (a .k) r) 0 j st) (signal-width (a .image .now) (r .target) (c .before .before .before .before .pre .2 .target))) (c .before .before .before .before .pre .0) (c .before .before .before .before .pre .1)
+    (bits-turns (a .k) r 0 _ st ∙ ap (λ (j : ℕ). turns (registerBit (r .reset) (a .k) r) 0 j st) (signal-width (a .image .now) (r .target) (pre .2 .target))) (pre .0) (pre .1)
 
 push-bit-requires : tie.Need-push-bit-requires Inv-loop μ-loop
 unfolding registerMeans
 push-bit-requires c κs =
+    let pre = c .before .before .before .before .before .before .before .pre in
     let q = c .before .before .loop in
-    (q .inv .ready, q .inv .sure, c .before .before .before .before .before .before .before .pre .2, c .before .before .before .before .before .before .before .pre .3, omega (arith, c .before .loop-test .taken, c .before .before .before .signal-width .ensures))
+    (q .inv .ready, q .inv .sure, pre .2, pre .3, omega (arith, c .before .loop-test .taken, c .before .before .before .signal-width .ensures))
 
 enum-told : tie.Need-enum-told Inv-loop μ-loop
 enum-told c = search needs
@@ -48,12 +50,14 @@ same-length c = search needs
 returns : tie.Need-returns Inv-loop μ-loop
 unfolding registerMeans
 returns c =
+    let loop-test = c .before .before .before .before .before .loop-test in
+    let signal-width = c .before .before .before .before .before .before .before .signal-width in
     let a = c .before .before .before .before .before .before .before .before .before .before .before .args in
     let r = registerMeans (a .x) in
     let q = c .before .before .before .before .before .before .loop in
     let g = c .before .before .before .push-bit in
     turns-out _ (registerBit (r .reset) (a .k) r) (a .image .now) (a .net .now) (a .scr .now) (signalWidth (a .image .now) (r .target)) (q .b) (q .net) (a .scr .now) _ _ (q .inv) (g .result)
-    (omega (arith, c .before .before .before .before .before .loop-test .taken, c .before .before .before .before .before .before .before .signal-width .ensures)) (g .ensures) (not-done-tag (g .result) (c .match .keys2))
+    (omega (arith, loop-test .taken, signal-width .ensures)) (g .ensures) (not-done-tag (g .result) (c .match .keys2))
 
 add-b : tie.Need-add-b Inv-loop μ-loop
 add-b c = search needs
@@ -64,12 +68,14 @@ loop-less c = search needs
 loop-again : tie.Need-loop-again Inv-loop μ-loop
 unfolding registerMeans
 loop-again c =
+    let loop-test = c .before .before .before .before .before .before .loop-test in
+    let signal-width = c .before .before .before .before .before .before .before .before .signal-width in
     let a = c .before .before .before .before .before .before .before .before .before .before .before .before .args in
     let r = registerMeans (a .x) in
     let q = c .before .before .before .before .before .before .before .loop in
     let g = c .before .before .before .before .push-bit in
     turns-more _ (registerBit (r .reset) (a .k) r) (a .image .now) (a .net .now) (a .scr .now) (signalWidth (a .image .now) (r .target)) (q .b) (q .net) (a .scr .now) _ _ (q .inv) (g .result)
-    (omega (arith, c .before .before .before .before .before .before .loop-test .taken, c .before .before .before .before .before .before .before .before .signal-width .ensures)) (g .ensures) (c .enum-told .given .1)
+    (omega (arith, loop-test .taken, signal-width .ensures)) (g .ensures) (c .enum-told .given .1)
 
 same-length-2 : tie.Need-same-length-2 Inv-loop μ-loop
 same-length-2 c = search needs

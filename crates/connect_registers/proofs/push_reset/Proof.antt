@@ -44,34 +44,43 @@ same-length c = search needs
 
 returns : tie.Need-returns
 returns c =
+    let enum-told = c .before .before .before .before .before .enum-told in
+    let constant-value = c .before .before .before .before .before .before .before .constant-value in
+    let expr-net = c .before .before .before .before .before .before .before .before .before .expr-net in
+    let pre = c .before .before .before .before .before .before .before .before .before .before .before .before .before .pre in
     let a = c .before .before .before .before .before .before .before .before .before .before .before .before .before .args in
     let st = walkState (a .image .now) (a .net .now) (a .scr .now) in
     let n = limitOf (a .scr .now) in
     let l = netlistOf n (a .net .now) in
-    ran-as (bit-constant (a .k) (a .b) (registerMeans (a .x)) st (resetOf (a .y)) _ (c .before .before .before .before .before .before .before .before .before .expr-net .ensures .whole l (c .before .before .before .before .before .before .before .before .before .before .before .before .before .pre .7)) false _ (rw (c .before .before .before .before .before .enum-told .given .1) at (c .before .before .before .before .before .before .before .constant-value .ensures n)) (c .before .before .before .before .reset-words .ensures l)) (c .before .before .push-register .ensures)
+    ran-as (bit-constant (a .k) (a .b) (registerMeans (a .x)) st (resetOf (a .y)) _ (expr-net .ensures .whole l (pre .7)) false _ (rw (enum-told .given .1) at (constant-value .ensures n)) (c .before .before .before .before .reset-words .ensures l)) (c .before .before .push-register .ensures)
 
 same-length-2 : tie.Need-same-length-2
 same-length-2 c = search needs
 
 returns-2 : tie.Need-returns-2
 returns-2 c =
+    let enum-told2 = c .before .before .before .before .before .enum-told2 in
+    let constant-value = c .before .before .before .before .before .before .before .constant-value in
+    let expr-net = c .before .before .before .before .before .before .before .before .before .expr-net in
+    let pre = c .before .before .before .before .before .before .before .before .before .before .before .before .before .pre in
     let a = c .before .before .before .before .before .before .before .before .before .before .before .before .before .args in
     let st = walkState (a .image .now) (a .net .now) (a .scr .now) in
     let n = limitOf (a .scr .now) in
     let l = netlistOf n (a .net .now) in
-    ran-as (bit-constant (a .k) (a .b) (registerMeans (a .x)) st (resetOf (a .y)) _ (c .before .before .before .before .before .before .before .before .before .expr-net .ensures .whole l (c .before .before .before .before .before .before .before .before .before .before .before .before .before .pre .7)) true _ (rw (c .before .before .before .before .before .enum-told2 .given .1) at (c .before .before .before .before .before .before .before .constant-value .ensures n)) (c .before .before .before .before .reset-words2 .ensures l)) (c .before .before .push-register2 .ensures)
+    ran-as (bit-constant (a .k) (a .b) (registerMeans (a .x)) st (resetOf (a .y)) _ (expr-net .ensures .whole l (pre .7)) true _ (rw (enum-told2 .given .1) at (constant-value .ensures n)) (c .before .before .before .before .reset-words2 .ensures l)) (c .before .before .push-register2 .ensures)
 
 same-length-3 : tie.Need-same-length-3
 same-length-3 c = search needs
 
 returns-3 : tie.Need-returns-3
 returns-3 c =
+    let pre = c .before .before .before .before .before .before .before .before .pre in
     let a = c .before .before .before .before .before .before .before .before .args in
     let st = walkState (a .image .now) (a .net .now) (a .scr .now) in
     let n = limitOf (a .scr .now) in
     let l = netlistOf n (a .net .now) in
-    ran-refused _ (a .image .now) (a .net .now) (a .scr .now) (Reset (a .k) (a .b)) (c .before .before .before .before .before .before .before .before .pre .0)
-    (bit-other (a .k) (a .b) (registerMeans (a .x)) st (resetOf (a .y)) _ (c .before .before .before .before .expr-net .ensures .whole l (c .before .before .before .before .before .before .before .before .pre .7)) (rw (c .enum-told3 .given .1) at (c .before .before .constant-value .ensures n))) tt
+    ran-refused _ (a .image .now) (a .net .now) (a .scr .now) (Reset (a .k) (a .b)) (pre .0)
+    (bit-other (a .k) (a .b) (registerMeans (a .x)) st (resetOf (a .y)) _ (c .before .before .before .before .expr-net .ensures .whole l (pre .7)) (rw (c .enum-told3 .given .1) at (c .before .before .constant-value .ensures n))) tt
 
 pub push-reset-spec : {M : Type 1} → statement M
 push-reset-spec =

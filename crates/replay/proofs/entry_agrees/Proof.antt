@@ -5,12 +5,6 @@ use lib.Seq.{length-take-le}
 use borrow.Author.Needs.{needs}
 use Rattle.replay.proofs.entry_agrees.Statement.{statement}
 use Rattle.replay.proofs.entry_agrees.Tie as tie
-use Rattle.replay.proofs.entry_agrees.Reads as reads
-use Rattle.replay.proofs.entry_agrees.Lts as lts
-use Rattle.fields.proofs.stretch.Reads as stretch-reads
-use Rattle.io.proofs.read_full.Reads as read-full-reads
-use Rattle.replay.proofs.check_agrees.Reads as check-agrees-reads
-use Rattle.replay.proofs.read_word.Reads as read-word-reads
 
 read-word-requires : tie.Need-read-word-requires
 read-word-requires c κs = search needs
@@ -45,14 +39,20 @@ read-full-requires-2 c κs = search needs
 stretch-requires : tie.Need-stretch-requires
 stretch-requires c κs = search needs
 
-slice-aggregate-check-agrees : tie.Need-slice-aggregate-check-agrees
-slice-aggregate-check-agrees c = search needs
+slice-aggregate-calls-agree : tie.Need-slice-aggregate-calls-agree
+slice-aggregate-calls-agree c = search needs
 
-check-agrees-requires : tie.Need-check-agrees-requires
-check-agrees-requires c κs = search needs
+calls-agree-requires : tie.Need-calls-agree-requires
+calls-agree-requires c κs = search needs
 
 same-length : tie.Need-same-length
 same-length c = search needs
+
+same-length-2 : tie.Need-same-length-2
+same-length-2 c = search needs
+
+same-length-3 : tie.Need-same-length-3
+same-length-3 c = search needs
 
 returns-2 : tie.Need-returns-2
 returns-2 c = search needs
@@ -72,7 +72,9 @@ entry-agrees-spec =
     slice-aggregate-read-full-2
     read-full-requires-2
     stretch-requires
-    slice-aggregate-check-agrees
-    check-agrees-requires
+    slice-aggregate-calls-agree
+    calls-agree-requires
     same-length
+    same-length-2
+    same-length-3
     returns-2)

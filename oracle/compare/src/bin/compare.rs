@@ -1,5 +1,5 @@
 //! Compares the port's exported functions, where its library is linked, with
-//! the reference checks and struo's lowering, on many images and limits.
+//! both readings of the checks and struo's lowering, on many images and limits.
 
 use compare::args::Words;
 use compare::call::What;
@@ -102,9 +102,9 @@ fn report_run(what: What, plan: &Plan) -> bool {
 /// Says what is held against what.
 fn sides(what: What) -> &'static str {
     match (what, HAS_CHECK, HAS_LOWER) {
-        (What::Check, true, _) => "struo_check of the library, and the reference checks",
-        (What::Check, false, _) => "NO LIBRARY FUNCTION struo_check: the reference checks, and themselves",
-        (What::Lower, _, true) => "struo_lower of the library, and the reference checks with struo's lowering",
-        (What::Lower, _, false) => "NO LIBRARY FUNCTION struo_lower: the reference checks with struo's lowering, and themselves",
+        (What::Check, true, _) => "struo_check of the library, and both readings of the checks",
+        (What::Check, false, _) => "NO LIBRARY FUNCTION struo_check: both readings of the checks",
+        (What::Lower, _, true) => "struo_lower of the library, and both readings of the checks with struo's lowering",
+        (What::Lower, _, false) => "NO LIBRARY FUNCTION struo_lower: both readings of the checks, and struo's lowering with itself",
     }
 }

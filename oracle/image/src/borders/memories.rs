@@ -92,6 +92,8 @@ fn addresses(cases: &mut Cases) {
     }
 }
 
+/// The data are numbered: 0 and 1 read by the first and the second port, 2 and
+/// 3 written.
 fn data(cases: &mut Cases) {
     for place in 0..4 {
         for width in [1, 7, 8, 9, 1024] {
@@ -101,9 +103,47 @@ fn data(cases: &mut Cases) {
             cases.image(format!("memory, data {place} of width {width}"), &image);
         }
     }
+    data_in_groups(cases);
+    data_of_one_port(cases);
     for width in [1, 64, 65, 1024] {
         let image = two_ports([2; 4], [width; 2], [width; 2]);
         cases.image(format!("memory, words of width {width}"), &image);
+    }
+}
+
+/// Two or three of the four data of another width: among these are two ports,
+/// each right in itself, that differ, and reads and writes that differ.
+fn data_in_groups(cases: &mut Cases) {
+    let groups: [&[usize]; 10] = [
+        &[0, 2],
+        &[1, 3],
+        &[0, 1],
+        &[2, 3],
+        &[0, 3],
+        &[1, 2],
+        &[0, 1, 2],
+        &[0, 1, 3],
+        &[0, 2, 3],
+        &[1, 2, 3],
+    ];
+    for group in groups {
+        for (width, others) in [(7, 8), (9, 8), (1, 2), (2, 1), (64, 65), (1023, 1024)] {
+            let mut widths = [others; 4];
+            group.iter().for_each(|&place| widths[place] = width);
+            let image = two_ports([2; 4], [widths[0], widths[1]], [widths[2], widths[3]]);
+            let name = format!("memory, data {group:?} of width {width}, others {others}");
+            cases.image(name, &image);
+        }
+    }
+}
+
+/// A memory of one port, whose read and write data differ or not.
+fn data_of_one_port(cases: &mut Cases) {
+    for (read, write) in [(7, 8), (8, 7), (1, 2), (2, 1), (1023, 1024), (1024, 1024)] {
+        let mut image = two_ports([2; 4], [read, 8], [write, 8]);
+        image.memories[0][15..].fill(0);
+        let name = format!("memory of one port, reads {read} bits, writes {write}");
+        cases.image(name, &image);
     }
 }
 

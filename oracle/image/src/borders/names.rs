@@ -64,8 +64,10 @@ fn set_name(image: &mut Image, section: usize, name: &[u8]) {
     }
 }
 
+/// Stretches at and past the end of the names (more bytes than a name may
+/// have), and past the largest number.
 fn places(cases: &mut Cases) {
-    let end = full().names.len() as u32;
+    let end = full().names.len().max(100) as u32;
     let stretches = [
         (end - 1, 1),
         (end, 1),
@@ -85,7 +87,7 @@ fn places(cases: &mut Cases) {
     for (offset, length) in stretches {
         for section in [SIGNALS, REGISTERS, MEMORIES] {
             let mut image = full();
-            image.names.resize(end.max(64) as usize, b'u');
+            image.names.resize(end as usize, b'u');
             set_name(&mut image, section, b"");
             let record: &mut [u32] = match section {
                 SIGNALS => &mut image.signals[1],

@@ -1,0 +1,3 @@
+-- The whole text, and how long it is.
+pub mod Whole
+pub mod Length

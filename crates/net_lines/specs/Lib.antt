@@ -1,0 +1,2 @@
+-- The pieces of a net line.
+pub mod Pieces

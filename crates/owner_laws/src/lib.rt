@@ -1,0 +1,1 @@
+// Whose the nodes and port records of a lowered netlist are: laws only, in specs/.

@@ -1,0 +1,20 @@
+-- `trial::input_step` meets its contract. Assumes nothing.
+use Rattle.trial.proofs.input_step.Statement.{statement}
+use Rattle.trial.proofs.input_step.Tie as tie
+use borrow.Author.Needs.{needs}
+
+slice-read-signal : tie.Need-slice-read-signal
+slice-read-signal c = search needs
+
+add-input-port-requires : tie.Need-add-input-port-requires
+add-input-port-requires c κs = search needs
+
+same-length : tie.Need-same-length
+same-length c = search needs
+
+returns : tie.Need-returns
+returns c = c .before .before .add-input-port .ensures .held _ (c .before .before .before .before .before .before .before .pre .0)
+
+pub input-step-spec : {M : Type 1} → statement M
+input-step-spec =
+    tie.close (tie.spec slice-read-signal add-input-port-requires same-length returns)

@@ -1,0 +1,40 @@
+-- `trial::output_step` meets its contract. Assumes nothing.
+use borrow.Author.Needs.{needs}
+use Rattle.trial.proofs.output_step.Statement.{statement}
+use Rattle.trial.proofs.output_step.Tie as tie
+use mathlib.Core.Path.{sym}
+use native.Mathlib.Omega.{arith}
+use Rattle.trial.proofs.Ways.{front}
+
+slice-read-signal : tie.Need-slice-read-signal
+slice-read-signal c = search needs
+
+some-nets-requires : tie.Need-some-nets-requires
+some-nets-requires c κs = search needs
+
+array-share-prefix-nets : tie.Need-array-share-prefix-nets
+array-share-prefix-nets c = search needs
+
+slice-aggregate-add-output-port : tie.Need-slice-aggregate-add-output-port
+slice-aggregate-add-output-port c = sym (front (c .before .before .before .before .before .before .before .before .args .w) (c .before .before .some-nets .result) (c .before .before .some-nets .ensures) (c .before .before .before .before .before .before .before .before .pre .1))
+
+add-output-port-requires : tie.Need-add-output-port-requires
+add-output-port-requires c κs = (c .before .before .before .before .before .before .before .before .pre .0 .built, omega (arith, front (c .before .before .before .before .before .before .before .before .args .w) (c .before .before .some-nets .result) (c .before .before .some-nets .ensures) (c .before .before .before .before .before .before .before .before .pre .1), c .before .before .before .before .before .before .before .before .pre .1))
+
+same-length : tie.Need-same-length
+same-length c = search needs
+
+returns : tie.Need-returns
+returns c = c .before .before .add-output-port .ensures .held _ (c .before .before .before .before .before .before .before .before .before .before .before .pre .0)
+
+pub output-step-spec : {M : Type 1} → statement M
+output-step-spec =
+    tie.close
+    (tie.spec
+    slice-read-signal
+    some-nets-requires
+    array-share-prefix-nets
+    slice-aggregate-add-output-port
+    add-output-port-requires
+    same-length
+    returns)

@@ -1,0 +1,50 @@
+-- `trial::put_row` meets its contract. Assumes nothing.
+use Rattle.trial.proofs.Ways.{asked}
+use Rattle.trial.proofs.put_row.Statement.{statement}
+use Rattle.trial.proofs.put_row.Tie as tie
+use borrow.Author.Needs.{needs}
+
+count-requires : tie.Need-count-requires
+count-requires c κs = search needs
+
+add-if3 : tie.Need-add-if3
+add-if3 c = search needs
+
+fusion-row-requires : tie.Need-fusion-row-requires
+fusion-row-requires c κs = asked _ _ _ _ (c .before .before .before .before .before .before .pre .0) (c .before .before .before .count .ensures) (c .before .before .if1 .taken) (c .before .if2 .taken)
+
+slice-aggregate-put-words : tie.Need-slice-aggregate-put-words
+slice-aggregate-put-words c = search needs
+
+put-words-requires : tie.Need-put-words-requires
+put-words-requires c κs = search needs
+
+same-length : tie.Need-same-length
+same-length c = search needs
+
+returns : tie.Need-returns
+returns c = search needs
+
+returns-2 : tie.Need-returns-2
+returns-2 c = search needs
+
+returns-3 : tie.Need-returns-3
+returns-3 c = search needs
+
+returns-4 : tie.Need-returns-4
+returns-4 c = search needs
+
+pub put-row-spec : {M : Type 1} → statement M
+put-row-spec =
+    tie.close
+    (tie.spec
+    count-requires
+    add-if3
+    fusion-row-requires
+    slice-aggregate-put-words
+    put-words-requires
+    same-length
+    returns
+    returns-2
+    returns-3
+    returns-4)

@@ -1,0 +1,93 @@
+-- `trial::run` meets its contract. Assumes nothing.
+use Rattle.trial.proofs.run.Statement.{statement}
+use Rattle.trial.proofs.run.Tie as tie
+use borrow.Author.Needs.{needs}
+use mathlib.Core.Path.{_≡_}
+use Prim.Native.Nat.{_-_, _≤_}
+use lib.ListN.{length}
+use Rattle.netlist_index.specs.Index.{Held}
+
+abbrev Inv-loop : tie.InvT-loop
+Inv-loop net₀ idx₀ n ops turns pool results₀ at₀ net idx results at = (Held n net idx) × (at ≤ turns) × (length net ≡ length net₀) × (length idx ≡ length idx₀) × (length results ≡ length results₀)
+
+abbrev μ-loop : tie.MeasureT-loop
+μ-loop net₀ idx₀ n ops turns pool results₀ at₀ net idx results at = turns - at
+
+loop-holds : tie.Need-loop-holds Inv-loop μ-loop
+loop-holds c = search needs
+
+mul-step : tie.Need-mul-step Inv-loop μ-loop
+mul-step c = search needs
+
+step-requires : tie.Need-step-requires Inv-loop μ-loop
+step-requires c κs = search needs
+
+enum-known-x : tie.Need-enum-known-x Inv-loop μ-loop
+enum-known-x c = search needs
+
+refusal-requires : tie.Need-refusal-requires Inv-loop μ-loop
+refusal-requires c κs = search needs
+
+same-length : tie.Need-same-length Inv-loop μ-loop
+same-length c = search needs
+
+same-length-2 : tie.Need-same-length-2 Inv-loop μ-loop
+same-length-2 c = search needs
+
+same-length-3 : tie.Need-same-length-3 Inv-loop μ-loop
+same-length-3 c = search needs
+
+returns : tie.Need-returns Inv-loop μ-loop
+returns c = search needs
+
+mul-results : tie.Need-mul-results Inv-loop μ-loop
+mul-results c = search needs
+
+slice-write-results : tie.Need-slice-write-results Inv-loop μ-loop
+slice-write-results c = search needs
+
+add-at : tie.Need-add-at Inv-loop μ-loop
+add-at c = search needs
+
+loop-less : tie.Need-loop-less Inv-loop μ-loop
+loop-less c = search needs
+
+loop-again : tie.Need-loop-again Inv-loop μ-loop
+loop-again c = (c .before .before .before .before .before .before .before .step .ensures, search needs, search needs, search needs, search needs)
+
+same-length-4 : tie.Need-same-length-4 Inv-loop μ-loop
+same-length-4 c = search needs
+
+same-length-5 : tie.Need-same-length-5 Inv-loop μ-loop
+same-length-5 c = search needs
+
+same-length-6 : tie.Need-same-length-6 Inv-loop μ-loop
+same-length-6 c = search needs
+
+returns-2 : tie.Need-returns-2 Inv-loop μ-loop
+returns-2 c = search needs
+
+pub run-spec : {M : Type 1} → statement M
+run-spec =
+    tie.close
+    (tie.spec
+    Inv-loop
+    μ-loop
+    loop-holds
+    mul-step
+    step-requires
+    enum-known-x
+    refusal-requires
+    same-length
+    same-length-2
+    same-length-3
+    returns
+    mul-results
+    slice-write-results
+    add-at
+    loop-less
+    loop-again
+    same-length-4
+    same-length-5
+    same-length-6
+    returns-2)

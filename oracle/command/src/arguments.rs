@@ -1,0 +1,100 @@
+//! The words of the command line.
+
+use crate::MOST;
+
+pub const HELP: &str = "\
+usage: ./lower FILE [--nets N] [--words P] [--image-out F] [--words-out F]
+
+Lowers the module in FILE and prints its netlist, or why it is refused.
+FILE is a text of the form in corpus/README.md or a module image: a file whose
+name ends in .img, or any file with a byte 0. - is standard input.
+
+  --nets N         at most N nets (65535)
+  --words P        at most P list words (65535)
+  --image-out F    also writes the module image to F
+  --words-out F    also writes the netlist's 16 + 6N + P words to F, four bytes
+                   each, low first, if the module is accepted
+  --netlist W      lends a netlist buffer of W words (as many as needed)
+  --scratch W      lends a scratch of W words (as many as needed)
+  --help           prints this text
+
+The netlist is printed as document 01's listing: the number of nets and of list
+words, a line for each net (number, kind, name or value or cell, inputs), a line
+for each port, register bit, memory and cell. A refusal is printed as its three
+numbers (include/struo.h) and what they mean.
+
+Ends with 0 if the module is accepted, 1 if it is refused, 2 if the command line
+or the file is no good.";
+
+/// What is asked for.
+#[derive(Clone, Debug, PartialEq, Eq)]
+pub enum Request {
+    Help,
+    Lower(Wish),
+}
+
+/// A file to lower, and how.
+#[derive(Clone, Debug, PartialEq, Eq)]
+pub struct Wish {
+    pub file: String,
+    pub nets: u32,
+    pub words: u32,
+    pub image_out: Option<String>,
+    pub words_out: Option<String>,
+    /// Words of the buffers, where they are not as many as needed.
+    pub netlist: Option<u32>,
+    pub scratch: Option<u32>,
+}
+
+/// Reads the words behind the command's name.
+///
+/// # Errors
+///
+/// Says what is wrong with them.
+pub fn request(words: &[String]) -> Result<Request, String> {
+    if words.iter().any(|word| word == "--help" || word == "-h") {
+        return Ok(Request::Help);
+    }
+    let mut wish = Wish {
+        file: String::new(),
+        nets: MOST,
+        words: MOST,
+        image_out: None,
+        words_out: None,
+        netlist: None,
+        scratch: None,
+    };
+    let mut files = Vec::new();
+    let mut words = words.iter();
+    while let Some(word) = words.next() {
+        let mut value = || words.next().cloned().ok_or(format!("{word} needs a value"));
+        match word.as_str() {
+            "--nets" => wish.nets = number(word, &value()?)?,
+            "--words" => wish.words = number(word, &value()?)?,
+            "--netlist" => wish.netlist = Some(room(word, &value()?)?),
+            "--scratch" => wish.scratch = Some(room(word, &value()?)?),
+            "--image-out" => wish.image_out = Some(value()?),
+            "--words-out" => wish.words_out = Some(value()?),
+            option if option.starts_with("--") => return Err(format!("unknown option {option}")),
+            file => files.push(file.to_string()),
+        }
+    }
+    match <[String; 1]>::try_from(files) {
+        Ok([file]) => Ok(Request::Lower(Wish { file, ..wish })),
+        Err(files) if files.is_empty() => Err("no file is named".to_string()),
+        Err(files) => Err(format!("one file is lowered, not {}: {}", files.len(), files.join(", "))),
+    }
+}
+
+fn number(option: &str, text: &str) -> Result<u32, String> {
+    text.parse().map_err(|_| format!("{option} needs a number below 4294967296, not {text:?}"))
+}
+
+/// Words of a buffer: more than any call needs, and no more than a machine has.
+fn room(option: &str, text: &str) -> Result<u32, String> {
+    const MOST_ROOM: u32 = 1 << 24;
+    match number(option, text)? {
+        words if words <= MOST_ROOM => Ok(words),
+        words => Err(format!("{option} is at most {MOST_ROOM} words, not {words}")),
+    }
+}

@@ -1,0 +1,66 @@
+//! `lower FILE`: see `--help`. The script ./lower builds and starts it.
+
+use command::arguments::{HELP, Request, Wish, request};
+use command::input::image_in;
+use command::listing::listing;
+use command::lowering::{Outcome, lower, remark};
+use command::refusal::in_words;
+use command::{ACCEPTED, Answer};
+use image::Image;
+use std::io::{ErrorKind, Write};
+use std::process::ExitCode;
+
+const REFUSED: u8 = 1;
+const NO_GOOD: u8 = 2;
+
+fn main() -> ExitCode {
+    let words: Vec<String> = std::env::args().skip(1).collect();
+    let ended = match request(&words) {
+        Ok(Request::Help) => print(&format!("{HELP}\n")).map(|()| ACCEPTED),
+        Ok(Request::Lower(wish)) => driver::with_big_stack(|| run(&wish)),
+        Err(problem) => Err(format!("{problem}; see ./lower --help")),
+    };
+    match ended {
+        Ok(ACCEPTED) => ExitCode::SUCCESS,
+        Ok(_) => ExitCode::from(REFUSED),
+        Err(problem) => {
+            eprintln!("lower: {problem}");
+            ExitCode::from(NO_GOOD)
+        }
+    }
+}
+
+fn run(wish: &Wish) -> Result<Answer, String> {
+    let image = image_in(&wish.file)?;
+    if let Some(file) = &wish.image_out {
+        write(file, &image)?;
+    }
+    if let Some(remark) = remark() {
+        // The Rust tells a limit that is met by a panic.
+        std::panic::set_hook(Box::new(|_| {}));
+        eprintln!("lower: {remark}");
+    }
+    let Outcome { answer, words, room } = lower(&image, wish);
+    if answer != ACCEPTED {
+        print(&in_words(answer, &image, wish, &room))?;
+        return Ok(answer);
+    }
+    if let Some(file) = &wish.words_out {
+        write(file, &words.iter().flat_map(|word| word.to_le_bytes()).collect::<Vec<u8>>())?;
+    }
+    let module = Image::decode(&image).ok_or("an accepted image cannot be read")?;
+    print(&listing(&module, &words).ok_or("the netlist's words cannot be read")?)?;
+    Ok(answer)
+}
+
+fn write(file: &str, bytes: &[u8]) -> Result<(), String> {
+    std::fs::write(file, bytes).map_err(|error| format!("{file}: {error}"))
+}
+
+/// Prints; a reader that has gone away has seen enough.
+fn print(text: &str) -> Result<(), String> {
+    match std::io::stdout().write_all(text.as_bytes()) {
+        Err(error) if error.kind() != ErrorKind::BrokenPipe => Err(format!("standard output: {error}")),
+        _ => Ok(()),
+    }
+}

@@ -1,0 +1,16 @@
+//! The command `lower`: lowers a module by the port's library and lists its
+//! netlist, or says in words why it is refused. Stands outside the proof.
+
+pub mod arguments;
+pub mod input;
+pub mod listing;
+pub mod lowering;
+pub mod refusal;
+
+/// A refusal's number and its two places; all 0 for acceptance.
+pub type Answer = [u32; 3];
+
+pub const ACCEPTED: Answer = [0, 0, 0];
+
+/// The most nets and list words that a call may allow.
+pub const MOST: u32 = 65_535;

@@ -1,0 +1,215 @@
+//! The command as people meet it: listings, each refusal in words, help, bad
+//! input, and its ends.
+
+use std::io::Write;
+use std::path::PathBuf;
+use std::process::{Command, Output, Stdio};
+
+/// Document 01's example, byte for byte.
+const LISTING: &str = "nets 3 list 8\n0 input a\n1 not 0\n2 output y 1\nport a 0\nport y 2\n";
+
+fn corpus(name: &str) -> String {
+    let path = PathBuf::from(env!("CARGO_MANIFEST_DIR")).join("../../corpus").join(name);
+    path.to_str().expect("a path of text").to_string()
+}
+
+/// A file of this test's own, gone with it.
+struct Temporary(PathBuf);
+
+impl Temporary {
+    fn new(name: &str) -> Temporary {
+        Temporary(std::env::temp_dir().join(format!("lower-{}-{name}", std::process::id())))
+    }
+
+    fn path(&self) -> &str {
+        self.0.to_str().expect("a path of text")
+    }
+}
+
+impl Drop for Temporary {
+    fn drop(&mut self) {
+        let _ = std::fs::remove_file(&self.0);
+    }
+}
+
+fn run(words: &[&str], stdin: &[u8]) -> Output {
+    let mut child = Command::new(env!("CARGO_BIN_EXE_lower"))
+        .args(words)
+        .stdin(Stdio::piped())
+        .stdout(Stdio::piped())
+        .stderr(Stdio::piped())
+        .spawn()
+        .expect("the command starts");
+    // A command that does not read its input may be gone.
+    let _ = child.stdin.take().expect("a pipe").write_all(stdin);
+    child.wait_with_output().expect("the command ends")
+}
+
+fn text(bytes: &[u8]) -> &str {
+    std::str::from_utf8(bytes).expect("text")
+}
+
+/// The command on a text prints `printed` and ends with `status`.
+fn expect(source: &str, options: &[&str], status: i32, printed: &str) {
+    let words = [&["-"], options].concat();
+    let output = run(&words, source.as_bytes());
+    assert_eq!(text(&output.stdout), printed, "{source} {options:?}");
+    assert_eq!(output.status.code(), Some(status), "{source} {options:?}");
+}
+
+const INVERTER: &str = "input a 1\noutput y 1\nexpr n = not a\nassign y = n\n";
+
+#[test]
+fn the_example_of_document_01() {
+    expect(INVERTER, &[], 0, LISTING);
+    let output = run(&[&corpus("listing.txt")], b"");
+    assert_eq!((text(&output.stdout), output.status.code()), (LISTING, Some(0)));
+}
+
+#[test]
+fn a_narrowed_adder() {
+    let output = run(&[&corpus("k02.txt")], b"");
+    let printed = text(&output.stdout);
+    assert!(printed.starts_with("nets 22 list 44\n0 input a[0]\n1 input a[1]\n"), "{printed}");
+    // One cell of width 5, without carry: operation Add, then both operands and its outputs.
+    let cells: Vec<&str> = printed.lines().filter(|line| line.starts_with("arithmetic ")).collect();
+    assert_eq!(cells, ["arithmetic 0 5 4294967295 0 1 2 3 8 4 5 6 7 8 9 10 11 12 13"]);
+    assert_eq!(output.status.code(), Some(0));
+}
+
+#[test]
+fn refusals_of_the_caller() {
+    expect(INVERTER, &["--nets", "0"], 1, "refused 1 0 0: the net limit 0 is outside 1 to 65535\n");
+    let both = "refused 1 0 0: the net limit 65536 is outside 1 to 65535; the list limit 70000 is outside 0 to 65535\n";
+    expect(INVERTER, &["--nets", "65536", "--words", "70000"], 1, both);
+    let netlist = "refused 2 0 0: the netlist buffer has 41 words; 16 + 6 * 3 + 8 = 42 are needed\n";
+    expect(INVERTER, &["--nets", "3", "--words", "8", "--netlist", "41"], 1, netlist);
+    let scratch = "refused 5 0 0: the scratch has 103 words; 4 * 2 + 2 * 2 + 8 * 2 + 4 * 3 + 64 = 104 are needed\n";
+    expect(INVERTER, &["--nets", "3", "--words", "8", "--scratch", "103"], 1, scratch);
+    let exact = ["--nets", "3", "--words", "8", "--netlist", "42", "--scratch", "104"];
+    expect(INVERTER, &exact, 0, LISTING);
+}
+
+#[test]
+fn refusals_of_the_header() {
+    let with = |line: &str| format!("{INVERTER}{line}\n");
+    let edition = "refused 3 0 0: header field 0 (edition) is 7: \"edition 1\"\n";
+    expect(&with("header 0 7"), &[], 1, edition);
+    let length = "refused 3 1 0: header field 1 (total bytes) is 154, the image has 155 bytes: \
+                  \"the slice is not the total length\"\n";
+    expect(&with("append \"x\""), &[], 1, length);
+    let count = "refused 3 4 0: header field 4 (count of expressions) is 2049, at most 2048: \"a count above its most\"\n";
+    expect(&with("header 4 2049"), &[], 1, count);
+    let offset = "refused 3 5 0: header field 5 (offset of expressions) is 64, it should be 96: \
+                  \"Sections follow the header in this order, without gaps\"\n";
+    expect(&with("header 5 64"), &[], 1, offset);
+    let names = "refused 3 14 0: header field 14 (count of names) is 3, at most 16384: \
+                 \"names that do not end at the total, 14\"\n";
+    expect(&with("header 14 3"), &[], 1, names);
+    let short = "refused 3 0 0: the image has 10 bytes and no whole header: \"under 64 bytes, 0\"\n";
+    expect(&with("truncate 10"), &[], 1, short);
+}
+
+#[test]
+fn refusals_of_records() {
+    let operand = "refused 4 1 1: expression 1: \"Operands have lower numbers\"\n  expr e1 : 8 = not @1\n";
+    expect("input a 8\nexpr r = signal a\nraw expr e = 2 8 0 1 0\n", &[], 1, operand);
+    let name = "refused 4 0 1: signal 1 (a): \"none equal within signals, registers or memories\"\n  wire s1 1 name \"a\"\n";
+    expect("input a 1\nwire b 1 name \"a\"\n", &[], 1, name);
+    let unprintable = "refused 4 0 0: signal 0: \"Names: 1 to 64 bytes of 33 to 126\"\n  wire s0 1 name \"\\x1b\"\n";
+    expect("wire b 1 name \"\\x1b\"\n", &[], 1, unprintable);
+    let driven = "refused 4 3 0: assignment 0 (a): \"no bit has two drivers; inputs have one already\"\n  assign a = e0\n";
+    expect("input a 1\nassign a = signal a\n", &[], 1, driven);
+    let next = "refused 4 4 0: register 0 (r): \"Next, reset value and target agree\"\n  \
+                register r target q next e0 clock c rising\n";
+    expect("input c 1\nwire q 2\nregister r target q next c clock c\n", &[], 1, next);
+    let data = "refused 4 5 0: memory 0 (m): \"all read and write data of a memory have one width\"\n";
+    let memory = "input c 1\nwire q 2\nmemory m depth 4 port raddr c rdata q waddr c wdata c wenable c clock c\n";
+    let output = run(&["-"], memory.as_bytes());
+    assert!(text(&output.stdout).starts_with(data), "{}", text(&output.stdout));
+    assert_eq!(output.status.code(), Some(1));
+}
+
+#[test]
+fn refusals_of_the_designer() {
+    let undriven = "refused 6 1 1: bit 1 of signal y is needed and has no driver\n";
+    expect("input a 1\noutput y 2\nassign y[0] = a\n", &[], 1, undriven);
+    let output = run(&[&corpus("k09.txt")], b"");
+    assert_eq!(text(&output.stdout), "refused 7 1 0: combinational loop through bit 0 of signal s\n");
+    let reset = "refused 8 0 1: bit 1 of the reset value of register r is no constant\n";
+    let register = "input c 1\noutput q 2\nregister r target q next (concat c c) clock c reset c value (concat c 1'b1)\n";
+    expect(register, &[], 1, reset);
+}
+
+#[test]
+fn refusals_by_a_limit() {
+    let nets = "refused 9 0 0: more than 2 nets (--nets) would be made; 3 are needed\n";
+    expect(INVERTER, &["--nets", "2"], 1, nets);
+    let words = "refused 10 0 0: more than 7 list words (--words) would be made; 8 are needed\n";
+    expect(INVERTER, &["--words", "7"], 1, words);
+    let never = "refused 9 0 0: more than 1 nets (--nets) would be made\n";
+    expect("input a 1\ninput b 1\noutput y 1\n", &["--nets", "1"], 1, never);
+}
+
+#[test]
+fn help() {
+    for words in [&["--help"][..], &["-h"], &["file", "--help"]] {
+        let output = run(words, b"");
+        assert!(text(&output.stdout).starts_with("usage: ./lower FILE "), "{words:?}");
+        assert_eq!((text(&output.stderr), output.status.code()), ("", Some(0)), "{words:?}");
+    }
+}
+
+/// One line on standard error, nothing on standard output, end 2.
+#[test]
+fn bad_input() {
+    let cases: [(&[&str], &[u8], &str); 11] = [
+        (&[], b"", "lower: no file is named; see ./lower --help\n"),
+        (&["a", "b"], b"", "lower: one file is lowered, not 2: a, b; see ./lower --help\n"),
+        (&["-", "--nets"], b"", "lower: --nets needs a value; see ./lower --help\n"),
+        (&["-", "--nets", "-1"], b"", "lower: --nets needs a number below 4294967296, not \"-1\"; see ./lower --help\n"),
+        (&["-", "--words", "4294967296"], b"", "lower: --words needs a number below 4294967296, not \"4294967296\"; see ./lower --help\n"),
+        (&["-", "--scratch", "99999999"], b"", "lower: --scratch is at most 16777216 words, not 99999999; see ./lower --help\n"),
+        (&["-", "--wide"], b"", "lower: unknown option --wide; see ./lower --help\n"),
+        (&["-"], b"input a 1\nwire\n", "lower: -: line 2: "),
+        (&["-"], b"\xff\xfe", "lower: -: neither an image nor a text\n"),
+        (&["/nowhere/at all.txt"], b"", "lower: /nowhere/at all.txt: "),
+        (&["-", "--image-out", "/nowhere/i.img"], b"input a 1\n", "lower: /nowhere/i.img: "),
+    ];
+    for (words, stdin, line) in cases {
+        let output = run(words, stdin);
+        let told = text(&output.stderr);
+        assert!(told.starts_with(line) && told.lines().count() == 1, "{words:?}: {told}");
+        assert_eq!((text(&output.stdout), output.status.code()), ("", Some(2)), "{words:?}");
+    }
+}
+
+#[test]
+fn files_that_are_written() {
+    let (image, words) = (Temporary::new("a.img"), Temporary::new("a.words"));
+    let options = ["--nets", "4", "--words", "9", "--image-out", image.path(), "--words-out", words.path()];
+    expect(INVERTER, &options, 0, LISTING);
+    assert_eq!(std::fs::read(&image.0).expect("an image"), image::assemble(INVERTER).expect("a text"));
+    let written = std::fs::read(&words.0).expect("words");
+    assert_eq!(written.len(), 4 * (16 + 6 * 4 + 9));
+    assert_eq!(written[..12], [1, 0, 0, 0, 3, 0, 0, 0, 16, 0, 0, 0]);
+    // The image is lowered as the text was.
+    let output = run(&[image.path()], b"");
+    assert_eq!((text(&output.stdout), output.status.code()), (LISTING, Some(0)));
+}
+
+#[test]
+fn a_refusal_writes_no_words() {
+    let words = Temporary::new("b.words");
+    expect(INVERTER, &["--nets", "0", "--words-out", words.path()], 1, "refused 1 0 0: the net limit 0 is outside 1 to 65535\n");
+    assert!(!words.0.exists());
+}
+
+#[test]
+fn bytes_of_any_sort_are_answered() {
+    for length in [1, 63, 64, 65, 4_096] {
+        let output = run(&["-"], &vec![0; length]);
+        assert!(text(&output.stdout).starts_with("refused 3 0 0: "), "{length}");
+        assert_eq!(output.status.code(), Some(1));
+    }
+}
