@@ -1,1 +1,0 @@
-// Each call of the builder keeps a sound netlist sound, over the contracts of the code. No code.
