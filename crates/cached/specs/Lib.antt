@@ -1,1 +1,2 @@
+-- Definitions and laws of this crate.
 pub mod Found

@@ -1,3 +1,4 @@
+-- Definitions and laws of this crate.
 pub mod Index
 pub mod Laws
 pub mod Held

@@ -1,3 +1,4 @@
+-- Definitions and laws of this crate.
 pub mod View
 pub mod Records
 pub mod Laws

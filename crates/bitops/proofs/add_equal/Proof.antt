@@ -1,3 +1,4 @@
+-- `bitops::add_equal` meets its contract. Assumes nothing.
 use borrow.Author.Needs.{needs}
 use Rattle.bitops.proofs.add_equal.Statement.{statement}
 use Rattle.bitops.proofs.add_equal.Tie as tie

@@ -1,3 +1,4 @@
+-- `bitops::add_gate` meets its contract. Assumes nothing.
 use borrow.Author.Needs.{needs}
 use Rattle.bitops.proofs.add_gate.Statement.{statement}
 use Rattle.bitops.proofs.add_gate.Tie as tie

@@ -1,3 +1,4 @@
+-- `bitops::bitwise` meets its contract. Assumes nothing.
 use Rattle.bitops.proofs.bitwise.Statement.{statement}
 use Rattle.bitops.proofs.bitwise.Tie as tie
 use borrow.Author.Needs.{needs}

@@ -1,3 +1,4 @@
+-- `bitops::equal_bits` meets its contract. Assumes nothing.
 use Rattle.bitops.proofs.equal_bits.Statement.{statement}
 use Rattle.bitops.proofs.equal_bits.Tie as tie
 use borrow.Author.Needs.{needs}

@@ -1,3 +1,4 @@
+-- `bitops::mux_bits` meets its contract. Assumes nothing.
 use Rattle.bitops.proofs.mux_bits.Statement.{statement}
 use Rattle.bitops.proofs.mux_bits.Tie as tie
 use borrow.Author.Needs.{needs}

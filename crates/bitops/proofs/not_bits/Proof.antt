@@ -1,3 +1,4 @@
+-- `bitops::not_bits` meets its contract. Assumes nothing.
 use Rattle.bitops.proofs.not_bits.Statement.{statement}
 use Rattle.bitops.proofs.not_bits.Tie as tie
 use borrow.Author.Needs.{needs}

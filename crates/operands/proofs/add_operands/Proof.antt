@@ -1,3 +1,4 @@
+-- `operands::add_operands` meets its contract. Assumes nothing.
 use borrow.Author.Needs.{needs}
 use Rattle.operands.proofs.add_operands.Statement.{statement}
 use Rattle.operands.proofs.add_operands.Tie as tie

@@ -1,3 +1,4 @@
+-- `operands::binary_operands` meets its contract. Assumes nothing.
 use borrow.Author.Needs.{needs}
 use Rattle.operands.proofs.binary_operands.Statement.{statement}
 use Rattle.operands.proofs.binary_operands.Tie as tie

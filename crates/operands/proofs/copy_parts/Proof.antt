@@ -1,3 +1,4 @@
+-- `operands::copy_parts` meets its contract. Assumes nothing.
 use Rattle.operands.proofs.copy_parts.Statement.{statement}
 use Rattle.operands.proofs.copy_parts.Tie as tie
 use borrow.Author.Needs.{needs}

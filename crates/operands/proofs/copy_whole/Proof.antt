@@ -1,3 +1,4 @@
+-- `operands::copy_whole` meets its contract. Assumes nothing.
 use borrow.Author.Needs.{needs}
 use Rattle.operands.proofs.copy_whole.Statement.{statement}
 use Rattle.operands.proofs.copy_whole.Tie as tie

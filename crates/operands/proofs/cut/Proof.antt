@@ -1,3 +1,4 @@
+-- `operands::cut` meets its contract. Assumes nothing.
 use Rattle.operands.proofs.cut.Statement.{statement}
 use Rattle.operands.proofs.cut.Tie as tie
 use Rattle.operands.proofs.Ways.{cut-none, cut-some}

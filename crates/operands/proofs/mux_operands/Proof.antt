@@ -1,3 +1,4 @@
+-- `operands::mux_operands` meets its contract. Assumes nothing.
 use borrow.Author.Needs.{needs}
 use Rattle.operands.proofs.mux_operands.Statement.{statement}
 use Rattle.operands.proofs.mux_operands.Tie as tie

@@ -1,3 +1,4 @@
+-- `operands::unary_operand` meets its contract. Assumes nothing.
 use borrow.Author.Needs.{needs}
 use Rattle.operands.proofs.unary_operand.Statement.{statement}
 use Rattle.operands.proofs.unary_operand.Tie as tie

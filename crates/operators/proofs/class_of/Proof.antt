@@ -1,3 +1,4 @@
+-- `operators::class_of` meets its contract. Assumes nothing.
 use borrow.Author.Needs.{needs}
 use Rattle.operators.proofs.class_of.Statement.{statement}
 use Rattle.operators.proofs.class_of.Tie as tie

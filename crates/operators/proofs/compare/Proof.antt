@@ -1,3 +1,4 @@
+-- `operators::compare` meets its contract. Assumes nothing.
 use borrow.Author.Needs.{needs}
 use Rattle.operators.proofs.compare.Statement.{statement}
 use Rattle.operators.proofs.compare.Tie as tie

@@ -1,3 +1,4 @@
+-- `operators::compare_back` meets its contract. Assumes nothing.
 use borrow.Author.Needs.{needs}
 use Rattle.operators.proofs.compare_back.Statement.{statement}
 use Rattle.operators.proofs.compare_back.Tie as tie

@@ -1,3 +1,4 @@
+-- `operators::logic_not` meets its contract. Assumes nothing.
 use borrow.Author.Needs.{needs}
 use Rattle.operators.proofs.logic_not.Statement.{statement}
 use Rattle.operators.proofs.logic_not.Tie as tie

@@ -1,3 +1,4 @@
+-- `operators::lower_arithmetic` meets its contract. Assumes nothing.
 use borrow.Author.Needs.{needs}
 use Rattle.operators.proofs.lower_arithmetic.Statement.{statement}
 use Rattle.operators.proofs.lower_arithmetic.Tie as tie

@@ -1,3 +1,4 @@
+-- `operators::lower_binary` meets its contract. Assumes nothing.
 use borrow.Author.Needs.{needs}
 use Rattle.operators.proofs.lower_binary.Statement.{statement}
 use Rattle.operators.proofs.lower_binary.Tie as tie

@@ -1,3 +1,4 @@
+-- `operators::lower_class` meets its contract. Assumes nothing.
 use borrow.Author.Needs.{needs}
 use Rattle.operators.proofs.lower_class.Statement.{statement}
 use Rattle.operators.proofs.lower_class.Tie as tie

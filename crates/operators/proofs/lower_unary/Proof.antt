@@ -1,3 +1,4 @@
+-- `operators::lower_unary` meets its contract. Assumes nothing.
 use borrow.Author.Needs.{needs}
 use Rattle.operators.proofs.lower_unary.Statement.{statement}
 use Rattle.operators.proofs.lower_unary.Tie as tie

@@ -1,3 +1,4 @@
+-- `operators::not_equal_words` meets its contract. Assumes nothing.
 use borrow.Author.Needs.{needs}
 use Rattle.operators.proofs.not_equal_words.Statement.{statement}
 use Rattle.operators.proofs.not_equal_words.Tie as tie

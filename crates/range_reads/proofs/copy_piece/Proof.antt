@@ -1,3 +1,4 @@
+-- `range_reads::copy_piece` meets its contract. Assumes nothing.
 use borrow.Author.Needs.{needs}
 use Rattle.range_reads.proofs.copy_piece.Statement.{statement}
 use Rattle.range_reads.proofs.copy_piece.Tie as tie

@@ -1,3 +1,4 @@
+-- `range_reads::copy_pieces` meets its contract. Assumes nothing.
 use Rattle.range_reads.proofs.copy_pieces.Statement.{statement}
 use Rattle.range_reads.proofs.copy_pieces.Tie as tie
 use borrow.Author.Needs.{needs}

@@ -1,3 +1,4 @@
+-- `range_reads::is_bitwise` meets its contract. Assumes nothing.
 use borrow.Author.Needs.{needs}
 use Rattle.range_reads.proofs.is_bitwise.Statement.{statement}
 use Rattle.range_reads.proofs.is_bitwise.Tie as tie

@@ -1,3 +1,4 @@
+-- `range_reads::range_binary` meets its contract. Assumes nothing.
 use borrow.Author.Needs.{needs}
 use Rattle.range_reads.proofs.range_binary.Statement.{statement}
 use Rattle.range_reads.proofs.range_binary.Tie as tie

@@ -1,3 +1,4 @@
+-- `range_reads::range_mux` meets its contract. Assumes nothing.
 use borrow.Author.Needs.{needs}
 use Rattle.range_reads.proofs.range_mux.Statement.{statement}
 use Rattle.range_reads.proofs.range_mux.Tie as tie

@@ -1,3 +1,4 @@
+-- `range_reads::range_unary` meets its contract. Assumes nothing.
 use borrow.Author.Needs.{needs}
 use Rattle.range_reads.proofs.range_unary.Statement.{statement}
 use Rattle.range_reads.proofs.range_unary.Tie as tie

@@ -1,3 +1,4 @@
+-- `range_reads::read_range` meets its contract. Assumes nothing.
 use borrow.Author.Needs.{needs}
 use Rattle.range_reads.proofs.read_range.Statement.{statement}
 use Rattle.range_reads.proofs.read_range.Tie as tie

@@ -1,3 +1,4 @@
+-- `shifts::moved_bit` meets its contract. Assumes nothing.
 use borrow.Author.Needs.{needs}
 use Rattle.shifts.proofs.moved_bit.Statement.{statement}
 use Rattle.shifts.proofs.moved_bit.Tie as tie

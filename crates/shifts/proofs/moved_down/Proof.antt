@@ -1,3 +1,4 @@
+-- `shifts::moved_down` meets its contract. Assumes nothing.
 use borrow.Author.Needs.{needs}
 use Rattle.shifts.proofs.moved_down.Statement.{statement}
 use Rattle.shifts.proofs.moved_down.Tie as tie

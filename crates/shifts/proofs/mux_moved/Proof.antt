@@ -1,3 +1,4 @@
+-- `shifts::mux_moved` meets its contract. Assumes nothing.
 use Rattle.shifts.proofs.mux_moved.Statement.{statement}
 use Rattle.shifts.proofs.mux_moved.Tie as tie
 use borrow.Author.Needs.{needs}

@@ -1,3 +1,4 @@
+-- `shifts::shift` meets its contract. Assumes nothing.
 use borrow.Author.Needs.{needs}
 use Rattle.shifts.proofs.shift.Statement.{statement}
 use Rattle.shifts.proofs.shift.Tie as tie

@@ -1,3 +1,4 @@
+-- `shifts::shift_stage` meets its contract. Assumes nothing.
 use borrow.Author.Needs.{needs}
 use Rattle.shifts.proofs.shift_stage.Statement.{statement}
 use Rattle.shifts.proofs.shift_stage.Tie as tie

@@ -1,3 +1,4 @@
+-- `shifts::shift_stages` meets its contract. Assumes nothing.
 use Rattle.shifts.proofs.shift_stages.Statement.{statement}
 use Rattle.shifts.proofs.shift_stages.Tie as tie
 use borrow.Author.Needs.{needs}

@@ -1,3 +1,4 @@
+-- `trees::equal_words` meets its contract. Assumes nothing.
 use borrow.Author.Needs.{needs}
 use Rattle.trees.proofs.equal_words.Statement.{statement}
 use Rattle.trees.proofs.equal_words.Tie as tie

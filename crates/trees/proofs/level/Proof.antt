@@ -1,3 +1,4 @@
+-- `trees::level` meets its contract. Assumes nothing.
 use Rattle.trees.proofs.level.Statement.{statement}
 use Rattle.trees.proofs.level.Tie as tie
 use borrow.Author.Needs.{needs}

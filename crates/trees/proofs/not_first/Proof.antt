@@ -1,3 +1,4 @@
+-- `trees::not_first` meets its contract. Assumes nothing.
 use borrow.Author.Needs.{needs}
 use Rattle.trees.proofs.not_first.Statement.{statement}
 use Rattle.trees.proofs.not_first.Tie as tie

@@ -1,3 +1,4 @@
+-- `trees::reduce_tree` meets its contract. Assumes nothing.
 use Rattle.trees.proofs.reduce_tree.Statement.{statement}
 use Rattle.trees.proofs.reduce_tree.Tie as tie
 use borrow.Author.Needs.{needs}

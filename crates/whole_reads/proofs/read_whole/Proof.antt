@@ -1,3 +1,4 @@
+-- `whole_reads::read_whole` meets its contract. Assumes nothing.
 use borrow.Author.Needs.{needs}
 use Rattle.whole_reads.proofs.read_whole.Statement.{statement}
 use Rattle.whole_reads.proofs.read_whole.Tie as tie

@@ -1,3 +1,4 @@
+-- `whole_reads::two_operands` meets its contract. Assumes nothing.
 use borrow.Author.Needs.{needs}
 use Rattle.whole_reads.proofs.two_operands.Statement.{statement}
 use Rattle.whole_reads.proofs.two_operands.Tie as tie
