@@ -1,7 +1,7 @@
 -- When a text stands at the start of a buffer, and when there is room for an answer's.
 use Prim.Native.Nat.{ℕ, _≤_}
 use mathlib.Core.List.{List}
-use mathlib.Core.Path.{_≡_}
+use mathlib.Core.Path.{_≡_, _∙_}
 use lib.ListN.{length, take}
 use Rattle.rules.specs.Rules.{Answer, Fine}
 use Rattle.meaning.specs.Listing.{listing}
@@ -22,3 +22,7 @@ pub record Room (s : List ℕ) (a : Answer) (ws o : List ℕ) : Type 0 where
 -- a text for which there is room was written whole
 pub written : {o t o′ : List ℕ} {r : ℕ} → Wrote o 0 t o′ r → length t ≤ length o → Written t o′ r
 written w h = record { text = wrote-whole w h; upto = w .upto }
+
+-- the same text by another name
+pub written-same : {t u o : List ℕ} {r : ℕ} → t ≡ u → Written t o r → Written u o r
+written-same e w = record { text = w .text ∙ e; upto = w .upto }
