@@ -16,7 +16,7 @@ fn list(input: &mut [u8], out: &mut [u8])
 {
     let read = io::read_full(0, input);
     let end = list_text::program(&input[..read], out);
-    io::write_all(1, &out[..end]);
+    io::write_all(1, fields::stretch(out, 0, end));
 }
 
 fn main() {

@@ -18,8 +18,8 @@ fn list_next(input: &mut [u8], out: &mut [u8])
         return;
     }
     io::read_full(0, &mut input[..bytes]);
-    let end = list_text::program(&input[..bytes], out);
-    io::write_all(1, &out[..end]);
+    let end = list_text::program(fields::stretch(input, 0, bytes), out);
+    io::write_all(1, fields::stretch(out, 0, end));
 }
 
 fn list_all(n: u32, input: &mut [u8], out: &mut [u8])
