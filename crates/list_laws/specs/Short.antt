@@ -7,21 +7,20 @@ use mathlib.Core.Logic.{⊎-elim}
 use mathlib.Core.Path.{_≡_, refl, sym, ap, subst, _∙_}
 use native.Mathlib.Nat.{add-zero, eq-or-lt-of-le}
 use native.Mathlib.Omega.{arith}
-use lib.ListN.{length, getD, drop, drop-of-length-le}
+use lib.ListN.{length, getD, drop-of-length-le}
 use Rattle.rules.specs.Rules.{Fine}
-use Rattle.meaning.specs.Image.{countAt, nameOf, decode}
-use Rattle.meaning.specs.Checks.{badName, checked, netlistNeed}
+use Rattle.meaning.specs.Image.{decode}
+use Rattle.meaning.specs.Checks.{checked, netlistNeed}
 use Rattle.meaning.specs.NetlistImage.{nodeWord, recordsOf}
 use Rattle.meaning.specs.Listing.{listing}
 use Rattle.model.specs.Words.{absent, Node, Netlist, words}
 use Rattle.model.specs.Builder.{Out, done}
 use Rattle.model.specs.Lowering.{State, lowerState}
 use Rattle.call.specs.Call as Call
-use Rattle.header.specs.Header.{Header}
 use Rattle.checks.specs.Accepted.{Accepted, accepted}
 use Rattle.accepted.specs.Decode.{lengths}
 use Rattle.accepted.specs.Name.{good-name}
-use Rattle.netlist_view.specs.View.{nodeAt, nodesOf, netlistOf, Fit}
+use Rattle.netlist_view.specs.View.{nodeAt, nodesOf, Fit}
 use Rattle.netlist_view.specs.Laws.{words-view}
 use Rattle.netlist_laws.specs.Run.{Meets}
 use Rattle.walk_laws.specs.Kept.{Any}

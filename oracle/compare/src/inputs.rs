@@ -25,12 +25,13 @@ pub fn at_the_limits() -> Vec<(&'static str, Vec<u8>)> {
 
 /// An input near one of the limits.
 pub fn near_the_limits(random: &mut Random) -> Vec<u8> {
-    match random.below(5) {
+    match random.below(6) {
         0 => with_nets(random.range(60, 110), random.range(6, 7), random.range(1_014, 1_034)),
         1 => with_list_words(random.range(24, 40), random.range(2_030, 2_060)),
         2 => with_scratch(8_172 + 4 * random.range(0, 10)),
         3 => followed(with_bytes(random.range(32_760, 32_776) as usize), random.below(2) * random.below(30_000)),
-        _ => with_names(random.range(1, 64) as usize, random.range(1, 60)),
+        4 => with_names(random.range(1, 64) as usize, random.range(1, 60)),
+        _ => with_long_lines(random.range(500, 1_020)),
     }
 }
 
@@ -106,6 +107,14 @@ fn inverter_builder() -> Builder {
     let inverted = builder.not(read);
     builder.assign(output, inverted);
     builder
+}
+
+/// An input whose bits have names of 64 bytes: one of 1,008 bits just has room
+/// in the scratch.
+fn with_long_lines(width: u32) -> Vec<u8> {
+    let mut builder = Builder::new();
+    builder.input(&"n".repeat(64), width);
+    builder.finish().encode()
 }
 
 /// A record of each sort, with names of some bytes and words of some width.

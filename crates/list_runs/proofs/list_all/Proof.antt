@@ -6,9 +6,6 @@ use native.Mathlib.Omega.{arith}
 use borrow.Author.Needs.{needs}
 use Rattle.list_runs.proofs.list_all.Statement.{statement}
 use Rattle.list_runs.proofs.list_all.Tie as tie
-use Rattle.list_runs.proofs.list_all.Reads as reads
-use Rattle.list_runs.proofs.list_all.Lts as lts
-use Rattle.list_runs.proofs.list_next.Reads as list-next-reads
 
 abbrev Inv-loop : tie.InvT-loop
 Inv-loop n input₀ out₀ k₀ input out k = (k ≤ n) × (length input ≡ length input₀) × (length out ≡ length out₀)
@@ -16,35 +13,27 @@ Inv-loop n input₀ out₀ k₀ input out k = (k ≤ n) × (length input ≡ len
 abbrev μ-loop : tie.MeasureT-loop
 μ-loop n input₀ out₀ k₀ input out k = n - k
 
--- src/main.rt:29:5
 loop-holds : tie.Need-loop-holds Inv-loop μ-loop
 loop-holds c = search needs
 
--- src/main.rt:30:9
 list-next-requires : tie.Need-list-next-requires Inv-loop μ-loop
 list-next-requires c κs = search needs
 
--- src/main.rt:31:9
 add-k : tie.Need-add-k Inv-loop μ-loop
 add-k c = search needs
 
--- src/main.rt:29:5
 loop-less : tie.Need-loop-less Inv-loop μ-loop
 loop-less c = search needs
 
--- src/main.rt:29:5
 loop-again : tie.Need-loop-again Inv-loop μ-loop
 loop-again c = (omega arith, search needs, search needs)
 
--- src/main.rt:25:1
 same-length : tie.Need-same-length Inv-loop μ-loop
 same-length c = search needs
 
--- src/main.rt:25:1
 same-length-2 : tie.Need-same-length-2 Inv-loop μ-loop
 same-length-2 c = search needs
 
--- src/main.rt:25:1
 returns : tie.Need-returns Inv-loop μ-loop
 returns c = search needs
 
