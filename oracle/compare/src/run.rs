@@ -26,7 +26,7 @@ pub struct Tally {
 }
 
 impl Tally {
-    fn count(&mut self, answer: Answer) {
+    pub(crate) fn count(&mut self, answer: Answer) {
         self.outcomes[answer[0] as usize] += 1;
     }
 
