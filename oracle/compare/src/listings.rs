@@ -3,11 +3,11 @@
 
 use crate::call::What;
 use crate::cases::{case, SizeChoice};
-use crate::expect::hex;
 use crate::inputs::{at_the_limits, near_the_limits};
-use crate::run::{Plan, Tally};
-use crate::shrink::shrink;
-use image::{disassemble, Image, Random};
+use crate::plan::Plan;
+use crate::run::Tally;
+use crate::shrunk::Shrunk;
+use image::Random;
 use std::fmt;
 use std::io::{ErrorKind, Write};
 use std::path::PathBuf;
@@ -72,26 +72,18 @@ impl fmt::Display for Difference {
     }
 }
 
-/// A difference, with the smallest input found that shows one.
+/// A difference, and where it was met.
 pub struct Failure {
     pub number: u64,
     pub origin: String,
-    pub input: Vec<u8>,
-    pub difference: Difference,
-    pub small: Vec<u8>,
-    pub small_difference: Difference,
+    pub shrunk: Shrunk<Difference>,
 }
 
 impl fmt::Display for Failure {
     fn fmt(&self, f: &mut fmt::Formatter) -> fmt::Result {
-        writeln!(f, "DIFFERENCE at input {} ({}), {} bytes", self.number, self.origin, self.input.len())?;
-        writeln!(f, "{}", self.difference)?;
-        writeln!(f, "smallest input found, {} bytes:", self.small.len())?;
-        if let Some(image) = Image::decode(&self.small) {
-            write!(f, "{}", disassemble(&image))?;
-        }
-        writeln!(f, "hex {}", hex(&self.small))?;
-        write!(f, "{}", self.small_difference)
+        let Failure { number, origin, shrunk } = self;
+        writeln!(f, "DIFFERENCE at input {number} ({origin}), {} bytes", shrunk.image.len())?;
+        write!(f, "{shrunk}")
     }
 }
 
@@ -99,34 +91,28 @@ impl fmt::Display for Failure {
 pub fn run(lister: &dyn Lister, plan: &Plan) -> Result<Listed, Box<Failure>> {
     let limits = at_the_limits();
     let mut listed = Listed::default();
-    for number in plan.first..plan.first + plan.images {
-        let mut random = Random::new(plan.seed ^ number.wrapping_mul(0xd134_2543_de82_ef95));
+    for number in plan.first..plan.first + plan.count {
+        let mut random = Random::of_case(plan.seed, number);
         let (origin, input) = match limits.get(number as usize) {
             Some((name, input)) => (name.to_string(), input.clone()),
-            None => input(&mut random, number - limits.len() as u64, plan.size),
+            None => input(&mut random, number - limits.len() as u64),
         };
         if let Some(difference) = compare(lister, &input, &mut listed) {
-            return Err(Box::new(failure(lister, number, origin, input, difference)));
+            let again = |candidate: &[u8]| compare(lister, candidate, &mut Listed::default());
+            return Err(Box::new(Failure { number, origin, shrunk: Shrunk::new(input, difference, again) }));
         }
     }
     Ok(listed)
 }
 
 /// One in eight near the listing's own limits, the others as for the calls.
-fn input(random: &mut Random, number: u64, size: SizeChoice) -> (String, Vec<u8>) {
+fn input(random: &mut Random, number: u64) -> (String, Vec<u8>) {
     const NEAR_IN: u64 = 8;
     if number % NEAR_IN == 0 {
         return ("near the limits".to_string(), near_the_limits(random));
     }
-    let case = case(random, number - number / NEAR_IN, What::Lower, size);
+    let case = case(random, number - number / NEAR_IN, What::Lower, SizeChoice::Mixed);
     (case.origin.to_string(), case.image)
-}
-
-fn failure(lister: &dyn Lister, number: u64, origin: String, input: Vec<u8>, difference: Difference) -> Failure {
-    let again = |candidate: &[u8]| compare(lister, candidate, &mut Listed::default());
-    let small = shrink(&input, &mut |candidate| again(candidate).is_some());
-    let small_difference = again(&small).unwrap_or_else(|| difference.clone());
-    Failure { number, origin, input, difference, small, small_difference }
 }
 
 /// One input.

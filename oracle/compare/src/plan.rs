@@ -1,8 +1,7 @@
-//! The command line of the comparisons of parts: which cases are compared, and
-//! what is said of the outcome.
+//! The command line of the comparisons of parts and of the listing program:
+//! which cases are compared, and what is said of the outcome.
 
 use crate::args::Words;
-use crate::parts::{HAS_TRIAL, MISSING};
 use std::process::ExitCode;
 use std::time::Instant;
 
@@ -33,11 +32,11 @@ impl Plan {
     }
 }
 
-/// A command that compares parts of the port with struo's own.
+/// A command that compares parts of the port, or a program, with the Rust.
 pub struct Command {
     pub name: &'static str,
-    /// What `--count` counts.
-    pub counted: &'static str,
+    /// The words behind its name.
+    pub words: &'static str,
     /// What is held against what.
     pub sides: &'static str,
     /// What a case is.
@@ -45,20 +44,24 @@ pub struct Command {
 }
 
 impl Command {
-    /// Runs the comparison that the process's words ask for. `run` answers what
-    /// was compared, or the first case that differs and how.
-    pub fn execute(&self, run: impl Fn(&Plan) -> Result<String, (u64, String)>) -> ExitCode {
-        match Plan::read(Words::of_process()) {
-            Ok(plan) if HAS_TRIAL => self.report(&plan, run),
-            Ok(_) => {
-                eprintln!("{}: {MISSING}", self.name);
-                ExitCode::from(2)
-            }
-            Err(error) => {
-                eprintln!("{0}: {error}\nusage: {0} --seed S --count {1} [--first I]", self.name, self.counted);
-                ExitCode::from(2)
-            }
+    /// Runs the comparison that these words ask for. `run` answers what was
+    /// compared, or the first case that differs and how.
+    pub fn execute(&self, words: Words, run: impl Fn(&Plan) -> Result<String, (u64, String)>) -> ExitCode {
+        match Plan::read(words) {
+            Ok(plan) => self.report(&plan, run),
+            Err(error) => self.misused(&error),
         }
+    }
+
+    /// Says what is wrong with the words.
+    pub fn misused(&self, error: &str) -> ExitCode {
+        self.refuse(&format!("{error}\nusage: {} {}", self.name, self.words))
+    }
+
+    /// Says why nothing is compared.
+    pub fn refuse(&self, reason: &str) -> ExitCode {
+        eprintln!("{}: {reason}", self.name);
+        ExitCode::from(2)
     }
 
     fn report(&self, plan: &Plan, run: impl Fn(&Plan) -> Result<String, (u64, String)>) -> ExitCode {

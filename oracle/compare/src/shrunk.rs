@@ -14,12 +14,13 @@ pub struct Shrunk<D> {
     pub small_difference: D,
 }
 
-impl<D> Shrunk<D> {
+impl<D: Clone> Shrunk<D> {
     /// Shrinks an image with a difference; `again` looks for one in a smaller
-    /// image.
+    /// image. What is not always alike may show none again: then the first
+    /// difference stands.
     pub fn new(image: Vec<u8>, difference: D, again: impl Fn(&[u8]) -> Option<D>) -> Self {
         let small = shrink(&image, &mut |candidate| again(candidate).is_some());
-        let small_difference = again(&small).expect("the difference persists");
+        let small_difference = again(&small).unwrap_or_else(|| difference.clone());
         Shrunk { image, difference, small, small_difference }
     }
 }

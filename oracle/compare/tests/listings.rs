@@ -1,10 +1,9 @@
 //! The comparison of listings, tried on the oracle itself: without a fault it
 //! passes and meets every answer, and each fault is found.
 
-use compare::cases::SizeChoice;
 use compare::inputs::at_the_limits;
 use compare::listings::{answer, run, Lister};
-use compare::run::Plan;
+use compare::plan::Plan;
 
 /// A fault put into what the oracle lists.
 #[derive(Clone, Copy, Debug)]
@@ -57,7 +56,7 @@ impl Lister for Oracle {
     }
 }
 
-const PLAN: Plan = Plan { seed: 1, first: 0, images: 600, size: SizeChoice::Mixed };
+const PLAN: Plan = Plan { seed: 1, first: 0, count: 600 };
 
 #[test]
 fn the_oracle_passes_and_every_answer_occurs() {
