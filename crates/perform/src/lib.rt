@@ -70,23 +70,6 @@ fn binary(
 }
 
 // The sum with a carry, in place of the first operand.
-fn add_carried(
-    net: &mut [u32],
-    idx: &mut [u32],
-    n: u32,
-    c: u32,
-    xs: &mut [u32],
-    ys: &[u32],
-) -> Filled
-    requires { ⌜ (Held n (now net) (now idx)) × (0 < length (now xs)) × (length (now xs) ≡ length (now ys)) × (length (now xs) ≤ 1024) × (c < absent) ⌝ }
-    ensures { λ r. ⌜ Fills (W.arithmetic B.Add (now (xs .entry)) (now (ys .entry)) (some c) (netlistOf n (now (net .entry)))) n r (now (xs .exit)) (now (net .exit)) (now (idx .exit)) ⌝ }
-{
-    let mut lhs = [0u32; 1024];
-    let w = xs.len();
-    lists::put_words(&mut lhs, 0, xs);
-    word_cells::arithmetic(net, idx, n, ArithmeticOp::Add, &lhs[..w], ys, c, xs)
-}
-
 fn carried(
     net: &mut [u32],
     idx: &mut [u32],
@@ -100,7 +83,7 @@ fn carried(
     ensures { λ r. ⌜ Fills (W.arithmetic B.Add (take k (now (xs .entry))) (take k (now (ys .entry))) (some c) (netlistOf n (now (net .entry)))) n r (take k (now (xs .exit))) (now (net .exit)) (now (idx .exit)) ⌝ }
 {
     let m = k as usize;
-    add_carried(net, idx, n, c, &mut xs[..m], &ys[..m])
+    word_cells::arithmetic(net, idx, n, ArithmeticOp::Add, c, &mut xs[..m], &ys[..m])
 }
 
 // Bit b of the constant whose list words begin at start.
