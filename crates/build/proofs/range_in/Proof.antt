@@ -3,7 +3,7 @@ use borrow.Author.Needs.{needs}
 use Rattle.build.proofs.range_in.Statement.{statement}
 use Rattle.build.proofs.range_in.Tie as tie
 use native.Mathlib.Omega.{arith}
-use Rattle.build.proofs.Ways.{asked-range, fits-at, room, job-model, small, built-range}
+use Rattle.build.proofs.Ways.{plain-nots, asked-range, fits-at, room, job-model, small, built-range}
 use Rattle.sure_laws.specs.Makes.{range-makes}
 
 read-range-requires : tie.Need-read-range-requires
@@ -18,7 +18,7 @@ make-requires c κs =
     let start = read .before .before .before .before .before .before .before .before .before in
     let xs = read .read-range .kept .1 .1 .1 .1 .1 .0 in
     let ys = read .read-range .kept .1 .1 .1 .1 .1 .1 .0 in
-    (start .pre .0, fits-at _ _ _ _ xs (read .read-range .ensures .fits), omega (arith, xs, start .pre .7), omega (arith, xs, ys, start .pre .8))
+    (start .pre .0, fits-at _ _ _ _ xs (read .read-range .ensures .fits), omega (arith, xs, start .pre .7), omega (arith, xs, ys, start .pre .8), plain-nots _ (start .pre .1 .sound))
 
 keep-range-requires : tie.Need-keep-range-requires
 keep-range-requires c κs =

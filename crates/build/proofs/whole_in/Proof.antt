@@ -3,7 +3,7 @@ use borrow.Author.Needs.{needs}
 use Rattle.build.proofs.whole_in.Statement.{statement}
 use Rattle.build.proofs.whole_in.Tie as tie
 use native.Mathlib.Omega.{arith}
-use Rattle.build.proofs.Ways.{asked, read-at, fits-at, room, job-model, small, built-whole}
+use Rattle.build.proofs.Ways.{plain-nots, asked, read-at, fits-at, room, job-model, small, built-whole}
 use Rattle.sure_laws.specs.Makes.{whole-makes}
 
 expr-width-requires : tie.Need-expr-width-requires
@@ -22,7 +22,7 @@ make-requires c κs =
     let start = width .before .before .before .before .before .before in
     let xs = read .read-whole .kept .1 .1 .1 .0 in
     let ys = read .read-whole .kept .1 .1 .1 .1 .0 in
-    (start .pre .0, fits-at _ _ _ _ xs (read-at _ _ _ _ _ _ _ (width .expr-width .ensures) (read .read-whole .ensures) .fits), omega (arith, xs, start .pre .5), omega (arith, xs, ys, start .pre .6))
+    (start .pre .0, fits-at _ _ _ _ xs (read-at _ _ _ _ _ _ _ (width .expr-width .ensures) (read .read-whole .ensures) .fits), omega (arith, xs, start .pre .5), omega (arith, xs, ys, start .pre .6), plain-nots _ (start .pre .1 .sound))
 
 keep-whole-requires : tie.Need-keep-whole-requires
 keep-whole-requires c κs =

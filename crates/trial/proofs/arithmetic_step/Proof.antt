@@ -40,7 +40,7 @@ arithmetic-words-requires c κs =
     let start = left .before .before .before .before .before in
     let l = front (start .args .w) (left .some-nets .result) (left .some-nets .ensures) (start .pre .2) in
     let r = front (start .args .w) (right .some-nets2 .result) (right .some-nets2 .ensures) (start .pre .2) in
-    (start .pre .0, omega (arith, l, start .pre .1), l ∙ sym r, omega (arith, l, start .pre .2))
+    (start .pre .0, omega (arith, l, start .pre .1), l ∙ sym r, omega (arith, l, start .pre .2), start .pre .3)
 
 same-length : tie.Need-same-length
 same-length c = search needs
