@@ -9,11 +9,7 @@ use lib.Seq.{length-take-le}
 use lib.Dec.{eqb}
 use borrow.Author.Tests.{eqb-true}
 use Rattle.meaning.specs.Image.{countAt}
-use Rattle.meaning.specs.Checks.{checked}
-use Rattle.checks.specs.Checked.{answerOf}
-use Rattle.checks.specs.Accepted.{Accepted, accepted}
-use Rattle.checks.specs.declared.Checked.{Checked}
-use Rattle.checks.specs.declared.Checked.the-variants.{Fine}
+use Rattle.checks.specs.Accepted.{Accepted}
 use Rattle.accepted.specs.Formed.{readable}
 use Rattle.fusion.specs.Fusion.{Inside}
 use Rattle.netlist_view.specs.Laws.{empty, Holds}
@@ -22,10 +18,6 @@ use Rattle.builder_laws.specs.Start.{held-start}
 
 pub never : {A : Type 0} → false ≡ true → A
 never e = absurd (true≢false (sym e))
-
-pub passed : (s : List ℕ) (c : Checked) → answerOf c ≡ checked s 1 0 22 98372 → c ≡ Fine → Accepted s
-unfolding answerOf
-passed s c e f = accepted s 1 0 22 98372 (sym (rw f at e)) .0
 
 pub asked : (s : List ℕ) (a b n : ℕ) → Accepted s → n ≡ countAt s 1 → a < n → b < n → Inside s a b
 asked s a b n g e l r = record { readable = readable s g; left = omega arith; right = omega arith }

@@ -3,12 +3,13 @@ ghost use mathlib.Core.Path.{_≡_};
 ghost use mathlib.Core.Bool.{true};
 ghost use Prim.Native.Nat.{_+_, _*_, _≤_, _<_};
 ghost use lib.ListN.{length, getD};
-ghost use Rattle.meaning.specs.Image.{countAt};
 ghost use Rattle.checks.specs.Accepted.{Accepted};
 ghost use Rattle.expr_laws.specs.Exprs.{exprsOf};
-ghost use Rattle.ranges.specs.Table.{filled};
-ghost use Rattle.fusion.specs.Fusion.{Inside};
+ghost use Rattle.model.specs.Words.{bitWord};
+ghost use Rattle.model.specs.Lowering.{isZeroExpression};
+ghost use Rattle.fusion.specs.Fusion.{In, Inside, carryOf, eitherSide};
 ghost use Rattle.netlist_index.specs.Index.{Held};
+ghost use Rattle.trial.specs.Rows.{passing, Widened, carryWord, testWords, rowOf, PutRow, PutRows, Fused};
 use cells::ComparisonOp;
 use checks::Checked;
 use constant_fold::ArithmeticOp;
@@ -22,7 +23,7 @@ use nodes::Added;
 
 // Whether an image passes the checks, under limits and buffers that refuse none.
 fn passes(image: &[u8]) -> bool
-    ensures { λ r. ⌜ (r ≡ true → Accepted (now (image .entry))) ⌝ }
+    ensures { λ r. ⌜ r ≡ passing (now (image .entry)) ⌝ }
 {
     let checked = checks::check(image, 1, 0, 22, 98372);
     let Checked::Fine = checked else {
@@ -34,7 +35,7 @@ fn passes(image: &[u8]) -> bool
 // Ranges and narrowed adders, eight words for each expression; false if the image is refused or the table short.
 #[no_mangle]
 pub extern "C" fn trial_adder_widths(image: &[u8], table: &mut [u32]) -> bool
-    ensures { λ r. ⌜ (r ≡ true → now (table .exit) ≡ filled (exprsOf (now (image .entry))) (countAt (now (image .entry)) 1) (now (table .entry))) ⌝ }
+    ensures { λ r. ⌜ Widened (now (image .entry)) (now (table .entry)) r (now (table .exit)) ⌝ }
 {
     if passes(image) {
         let count = fields::count(image, 1) as usize;
@@ -46,7 +47,9 @@ pub extern "C" fn trial_adder_widths(image: &[u8], table: &mut [u32]) -> bool
     false
 }
 
-fn carry_word(c: Carry) -> u32 {
+fn carry_word(c: Carry) -> u32
+    ensures { λ r. ⌜ r ≡ carryWord (carryOf c) ⌝ }
+{
     match c {
         Carry::Of(e) => e,
         Carry::Nothing => ABSENT,
@@ -56,6 +59,7 @@ fn carry_word(c: Carry) -> u32 {
 // The answer of the fusion test.
 fn fusion_words(image: &[u8], a: u32, b: u32) -> [u32; 3]
     requires { ⌜ Inside (now image) a b ⌝ }
+    ensures { λ r. ⌜ r ≡ testWords (eitherSide (now (image .entry)) a b) ⌝ }
 {
     let answer = fusion::fusion_test(image, a, b);
     let Fusion::Carried(lhs, rhs, c) = answer else {
@@ -64,14 +68,23 @@ fn fusion_words(image: &[u8], a: u32, b: u32) -> [u32; 3]
     [lhs, rhs, c]
 }
 
+// Whether a is zero.
+fn zero_word(image: &[u8], a: u32) -> u32
+    requires { ⌜ In (now image) a ⌝ }
+    ensures { λ r. ⌜ r ≡ bitWord (isZeroExpression (exprsOf (now (image .entry))) a) ⌝ }
+{
+    if fusion::is_zero_expression(image, a) {
+        return 1;
+    }
+    0
+}
+
 // Whether a is zero, its carry, the fusion test of a and b, what an Add of them lowers.
 fn fusion_row(image: &[u8], a: u32, b: u32) -> [u32; 8]
     requires { ⌜ Inside (now image) a b ⌝ }
+    ensures { λ r. ⌜ r ≡ rowOf (now (image .entry)) a b ⌝ }
 {
-    let mut zero = 0;
-    if fusion::is_zero_expression(image, a) {
-        zero = 1;
-    }
+    let zero = zero_word(image, a);
     let carry = carry_word(fusion::carry_lsb(image, a));
     let test = fusion_words(image, a, b);
     let sum = fusion::add_with_carry(image, a, b);
@@ -92,6 +105,7 @@ fn fusion_row(image: &[u8], a: u32, b: u32) -> [u32; 8]
 // The row of two expressions, if they are there and there is room for it.
 fn put_row(image: &[u8], a: u32, b: u32, out: &mut [u32], at: usize) -> bool
     requires { ⌜ (Accepted (now image)) × (at < 8000000) ⌝ }
+    ensures { λ r. ⌜ PutRow (now (image .entry)) a b at (now (out .entry)) r (now (out .exit)) ⌝ }
 {
     let count = fields::count(image, 1);
     if a < count {
@@ -109,6 +123,7 @@ fn put_row(image: &[u8], a: u32, b: u32, out: &mut [u32], at: usize) -> bool
 // The rows of pairs of expressions.
 fn put_rows(image: &[u8], pairs: &[u32], count: usize, out: &mut [u32]) -> bool
     requires { ⌜ (Accepted (now image)) × (2 * count ≤ length (now pairs)) × (count ≤ 1000000) ⌝ }
+    ensures { λ r. ⌜ PutRows (now (image .entry)) (now (pairs .entry)) count (now (out .entry)) r (now (out .exit)) ⌝ }
 {
     let mut i = 0;
     while i < count {
@@ -123,7 +138,9 @@ fn put_rows(image: &[u8], pairs: &[u32], count: usize, out: &mut [u32]) -> bool
 
 // Fusion answers for pairs of expressions, eight words each; false if the image is refused, a pair not there, or the room short.
 #[no_mangle]
-pub extern "C" fn trial_fusion(image: &[u8], pairs: &[u32], out: &mut [u32]) -> bool {
+pub extern "C" fn trial_fusion(image: &[u8], pairs: &[u32], out: &mut [u32]) -> bool
+    ensures { λ r. ⌜ Fused (now (image .entry)) (now (pairs .entry)) (now (out .entry)) r (now (out .exit)) ⌝ }
+{
     let count = pairs.len() / 2;
     if count <= 1000000 {
         if passes(image) {

@@ -1,0 +1,2 @@
+-- What the exported parts give.
+pub mod Rows
