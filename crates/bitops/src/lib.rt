@@ -6,6 +6,7 @@ ghost use Rattle.model.specs.Lowering.{addGate, addEqual};
 ghost use Rattle.netlist_view.specs.View.{netlistOf};
 ghost use Rattle.netlist_index.specs.Index.{Held};
 ghost use Rattle.nodes.specs.Gives.{Gives};
+ghost use Rattle.gates.specs.Nots.{PlainNots};
 ghost use Rattle.constant_fold.specs.Values.{Fills};
 ghost use Rattle.bitops.specs.Kinds.{gateOf};
 use constant_fold::Filled;
@@ -104,7 +105,7 @@ pub fn mux_bits(
     ts: &mut [u32],
     es: &[u32],
 ) -> Filled
-    requires { ⌜ (Held n (now net) (now idx)) × (length (now ts) ≡ length (now es)) ⌝ }
+    requires { ⌜ (Held n (now net) (now idx)) × (length (now ts) ≡ length (now es)) × (PlainNots (netlistOf n (now net))) ⌝ }
     ensures { λ r. ⌜ Fills (both (addMux c) (now (ts .entry)) (now (es .entry)) (netlistOf n (now (net .entry)))) n r (now (ts .exit)) (now (net .exit)) (now (idx .exit)) ⌝ }
 {
     let mut i = 0;

@@ -11,8 +11,10 @@ use lib.ListN.{length, getD, take, drop}
 use lib.Seq.{length-take-le, getD-take}
 use Rattle.rtl.specs.Rtl.{Valuation}
 use Rattle.meaning.specs.Image.{countAt, exprWidth}
-use Rattle.model.specs.Words.{Netlist}
-use Rattle.model.specs.Builder.{Made, Out, refused, done}
+use Rattle.meaning.specs.NetlistImage as N
+use Rattle.meaning.specs.NetlistImage.{nodeOf}
+use Rattle.model.specs.Words.{Node, Netlist}
+use Rattle.model.specs.Builder.{Made, Out, refused, done, nodeForNet}
 use Rattle.model.specs.Ranges as ranges
 use Rattle.model.specs.Lowering.{State, Need, Bit, Whole, Range, Step, Always, Unless, withNetlist, whole, wholeSteps, rangeSteps, setWhole, setRange, keepWhole, keepRange}
 use Rattle.records.specs.Expr.{kindMeans, expressionOf, decoded}
@@ -21,7 +23,9 @@ use Rattle.records.specs.declared.ExprKind.the-variants as K
 use Rattle.accepted.specs.Fits.{kindFits}
 use Rattle.accepted.specs.Formed.{readable}
 use Rattle.expr_laws.specs.Exprs.{exprsOf, kind-read}
-use Rattle.netlist_laws.specs.Sound.{count}
+use Rattle.netlist_laws.specs.Meaning.{decode}
+use Rattle.netlist_laws.specs.Sound.{count, Wired, Sound}
+use Rattle.gates.specs.Nots.{PlainNots, not-there}
 use Rattle.netlist_view.specs.View.{netlistOf}
 use Rattle.netlist_index.specs.Index.{Held}
 use Rattle.constant_fold.specs.Values.{filledOf, Fills}
@@ -98,6 +102,18 @@ module _ (s net w : List ℕ) (r : Ready s net w) (e : ℕ) (h : e < countAt s 1
   }
 
 -- ---- what is made ----
+
+-- no Not of a sound netlist has a Not or a constant as its input
+not-node : (x : Node) → x .kind ≡ 5 → decode x ≡ N.Not (x .in0)
+unfolding decode nodeOf
+not-node x e = rw e
+
+pub plain-nots : (l : Netlist) → Sound l → PlainNots l
+plain-nots l q = record {
+  all = λ i e.
+      let w = subst (λ (x : N.Node). Wired l i x) (not-node (nodeForNet l i) e) (q .wired i (not-there l i e)) in
+      record { lower = w .0; constant = w .1 .constant; inverter = w .1 .inverter };
+}
 
 -- the index is lent from word 64 on, to the end as the code has it
 pub lent : (s net w : List ℕ) → Ready s net w → Held (limitOf w) net (take (64 + 4 * limitOf w - 64) (drop 64 w))

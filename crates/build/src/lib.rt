@@ -8,6 +8,7 @@ ghost use Rattle.meaning.specs.Image.{countAt, exprWidth};
 ghost use Rattle.model.specs.Lowering as model;
 ghost use Rattle.expr_laws.specs.Exprs.{exprsOf};
 ghost use Rattle.netlist_view.specs.View.{netlistOf};
+ghost use Rattle.gates.specs.Nots.{PlainNots};
 ghost use Rattle.constant_fold.specs.declared.Filled.the-variants as F;
 ghost use Rattle.table_view.specs.View.{limitOf, Laid};
 ghost use Rattle.tables.specs.Answers.{Small};
@@ -29,7 +30,7 @@ fn make(
     xs: &mut [u32],
     ys: &[u32],
 ) -> Filled
-    requires { ⌜ (Ready (now image) (now net) (now scr)) × (JobFits w job) × (length (now xs) ≡ 1024) × (length (now ys) ≡ 1024) ⌝ }
+    requires { ⌜ (Ready (now image) (now net) (now scr)) × (JobFits w job) × (length (now xs) ≡ 1024) × (length (now ys) ≡ 1024) × (PlainNots (netlistOf (limitOf (now scr)) (now net))) ⌝ }
     ensures { λ r. ⌜ Performed (jobMade (now (image .entry)) w job (now (xs .entry)) (now (ys .entry)) (netlistOf (limitOf (now (scr .entry))) (now (net .entry)))) (now (image .entry)) (now (net .entry)) (now (scr .entry)) r (take w (now (xs .exit))) (now (net .exit)) (now (scr .exit)) ⌝ }
 {
     let n = scr[0];

@@ -7,6 +7,7 @@ ghost use Rattle.model.specs.Builder.{isConstant, addCached, addConstant, addNo
 ghost use Rattle.netlist_view.specs.View.{netlistOf};
 ghost use Rattle.netlist_index.specs.Index.{Held};
 ghost use Rattle.nodes.specs.Gives.{Gives};
+ghost use Rattle.gates.specs.Nots.{PlainNots};
 use cached::add_cached;
 use nodes::ABSENT;
 use nodes::Added;
@@ -130,9 +131,9 @@ pub fn add_xor(net: &mut [u32], idx: &mut [u32], n: u32, a: u32, b: u32) -> Adde
     add_pair(net, idx, n, 4, a, b)
 }
 
-// Where the condition is a Not the sides are exchanged. Its input is no Not, so once is enough.
+// Where the condition is a Not, the mux of its input with the sides exchanged. That input is no Not, so it calls itself once.
 pub fn add_mux(net: &mut [u32], idx: &mut [u32], n: u32, c: u32, t: u32, e: u32) -> Added
-    requires { ⌜ Held n (now net) (now idx) ⌝ }
+    requires { ⌜ (Held n (now net) (now idx)) × (PlainNots (netlistOf n (now net))) ⌝ }
     ensures { λ r. ⌜ Gives (addMux c t e (netlistOf n (now (net .entry)))) n r (now (net .exit)) (now (idx .exit)) ⌝ }
 {
     if t == e {
@@ -144,7 +145,7 @@ pub fn add_mux(net: &mut [u32], idx: &mut [u32], n: u32, c: u32, t: u32, e: u32)
         Constant::Other => {
             if nodes::kind_of(net, c) == 5 {
                 let a = nodes::input_of(net, c);
-                return add_cached(net, idx, n, 6, ABSENT, a, e, t);
+                return add_mux(net, idx, n, a, e, t);
             }
             add_cached(net, idx, n, 6, ABSENT, c, t, e)
         }

@@ -8,6 +8,7 @@ ghost use Rattle.model.specs.WordCells as W;
 ghost use Rattle.netlist_view.specs.View.{netlistOf};
 ghost use Rattle.netlist_index.specs.Index.{Held};
 ghost use Rattle.records.specs.Expr.{unaryMeans, binaryMeans};
+ghost use Rattle.gates.specs.Nots.{PlainNots};
 ghost use Rattle.constant_fold.specs.Values.{opOf, Fills};
 ghost use Rattle.cells.specs.Cells.{compareOf};
 ghost use Rattle.operators.specs.Operators.{unaryWidth, classOf, classWidth, Fit, lowerClass, logicNot, notEqual};
@@ -157,7 +158,7 @@ fn lower_class(
     xs: &mut [u32],
     ys: &[u32],
 ) -> Filled
-    requires { ⌜ (Held n (now net) (now idx)) × (0 < length (now xs)) × (length (now xs) ≤ 1024) × (Fit class (length (now xs)) (length (now ys))) ⌝ }
+    requires { ⌜ (Held n (now net) (now idx)) × (0 < length (now xs)) × (length (now xs) ≤ 1024) × (Fit class (length (now xs)) (length (now ys))) × (PlainNots (netlistOf n (now net))) ⌝ }
     ensures { λ r. ⌜ Fills (lowerClass class (now (xs .entry)) (now (ys .entry)) (netlistOf n (now (net .entry)))) n r (take (classWidth class (length (now (xs .entry)))) (now (xs .exit))) (now (net .exit)) (now (idx .exit)) ⌝ }
 {
     match class {
@@ -179,7 +180,7 @@ pub fn lower_binary(
     xs: &mut [u32],
     ys: &[u32],
 ) -> Filled
-    requires { ⌜ (Held n (now net) (now idx)) × (0 < length (now xs)) × (length (now xs) ≤ 1024) × (Fit (classOf op) (length (now xs)) (length (now ys))) ⌝ }
+    requires { ⌜ (Held n (now net) (now idx)) × (0 < length (now xs)) × (length (now xs) ≤ 1024) × (Fit (classOf op) (length (now xs)) (length (now ys))) × (PlainNots (netlistOf n (now net))) ⌝ }
     ensures { λ r. ⌜ Fills (lowerBinary (binaryMeans op) (now (xs .entry)) (now (ys .entry)) (netlistOf n (now (net .entry)))) n r (take (classWidth (classOf op) (length (now (xs .entry)))) (now (xs .exit))) (now (net .exit)) (now (idx .exit)) ⌝ }
 {
     lower_class(net, idx, n, class_of(op), xs, ys)

@@ -13,6 +13,7 @@ ghost use Rattle.model.specs.WordCells as W;
 ghost use Rattle.model.specs.Lowering.{lowerUnary, lowerBinary};
 ghost use Rattle.netlist_view.specs.View.{netlistOf};
 ghost use Rattle.netlist_index.specs.Index.{Held};
+ghost use Rattle.gates.specs.Nots.{PlainNots};
 ghost use Rattle.folding.specs.Digits.{held};
 ghost use Rattle.constant_fold.specs.Values.{Fills};
 ghost use Rattle.cells.specs.Cells.{Ready, CellKey};
@@ -39,7 +40,7 @@ fn mux(
     xs: &mut [u32],
     ys: &[u32],
 ) -> Filled
-    requires { ⌜ (Held n (now net) (now idx)) × (w ≤ length (now xs)) × (w ≤ length (now ys)) ⌝ }
+    requires { ⌜ (Held n (now net) (now idx)) × (w ≤ length (now xs)) × (w ≤ length (now ys)) × (PlainNots (netlistOf n (now net))) ⌝ }
     ensures { λ r. ⌜ Fills (both (addMux c) (take w (now (xs .entry))) (take w (now (ys .entry))) (netlistOf n (now (net .entry)))) n r (take w (now (xs .exit))) (now (net .exit)) (now (idx .exit)) ⌝ }
 {
     let k = w as usize;
@@ -64,7 +65,7 @@ fn binary(
     xs: &mut [u32],
     ys: &[u32],
 ) -> Filled
-    requires { ⌜ (Held n (now net) (now idx)) × (0 < j) × (j ≤ 1024) × (j ≤ length (now xs)) × (k ≤ length (now ys)) × (Fit (classOf op) j k) ⌝ }
+    requires { ⌜ (Held n (now net) (now idx)) × (0 < j) × (j ≤ 1024) × (j ≤ length (now xs)) × (k ≤ length (now ys)) × (Fit (classOf op) j k) × (PlainNots (netlistOf n (now net))) ⌝ }
     ensures { λ r. ⌜ Fills (lowerBinary (binaryMeans op) (take j (now (xs .entry))) (take k (now (ys .entry))) (netlistOf n (now (net .entry)))) n r (take (classWidth (classOf op) j) (now (xs .exit))) (now (net .exit)) (now (idx .exit)) ⌝ }
 {
     let a = j as usize;
@@ -309,7 +310,7 @@ fn perform_task(
     xs: &mut [u32],
     ys: &[u32],
 ) -> Filled
-    requires { ⌜ (Held n (now net) (now idx)) × (Fits v task) × (w ≤ 1024) × (length (now xs) ≡ 1024) × (length (now ys) ≡ 1024) ⌝ }
+    requires { ⌜ (Held n (now net) (now idx)) × (Fits v task) × (w ≤ 1024) × (length (now xs) ≡ 1024) × (length (now ys) ≡ 1024) × (PlainNots (netlistOf n (now net))) ⌝ }
     ensures { λ r. ⌜ Fills (taskMade (now (image .entry)) w task (now (xs .entry)) (now (ys .entry)) (netlistOf n (now (net .entry)))) n r (take (madeWidth v w task) (now (xs .exit))) (now (net .exit)) (now (idx .exit)) ⌝ }
 {
     match task {
@@ -333,7 +334,7 @@ pub fn perform(
     xs: &mut [u32],
     ys: &[u32],
 ) -> Filled
-    requires { ⌜ (Held n (now net) (now idx)) × (JobFits w job) × (length (now xs) ≡ 1024) × (length (now ys) ≡ 1024) ⌝ }
+    requires { ⌜ (Held n (now net) (now idx)) × (JobFits w job) × (length (now xs) ≡ 1024) × (length (now ys) ≡ 1024) × (PlainNots (netlistOf n (now net))) ⌝ }
     ensures { λ r. ⌜ Fills (jobMade (now (image .entry)) w job (now (xs .entry)) (now (ys .entry)) (netlistOf n (now (net .entry)))) n r (take w (now (xs .exit))) (now (net .exit)) (now (idx .exit)) ⌝ }
 {
     let task = job.task;

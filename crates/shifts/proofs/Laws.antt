@@ -17,6 +17,7 @@ use Rattle.netlist_index.specs.Index.{Held}
 use Rattle.nodes.specs.Gives.{Gives}
 use Rattle.nodes.specs.declared.Added.{Added}
 use Rattle.nodes.specs.declared.Added.the-variants as A
+use Rattle.gates.specs.Nots.{PlainNots, keeps-mux, keeps-both, kept}
 use Rattle.ports.proofs.Laws.{Refusal, length-from}
 use Rattle.constant_fold.specs.Values.{refusalOf, Fills}
 use Rattle.constant_fold.specs.declared.Filled.{Filled}
@@ -90,16 +91,18 @@ pub record Staging (model : Made (List ℕ)) (h : Shift) (z n : ℕ) (net₀ xs�
   pub distance : d ≡ min (2 ^ k) (length xs)
   pub says : model ≡ stages h z k (drop k amount) xs (netlistOf n net)
   pub held : Held n net idx
+  pub nots : PlainNots (netlistOf n net)
 
-pub staging-start : (h : Shift) (z n : ℕ) (net idx xs amount : List ℕ) → 0 < length xs → Held n net idx
+pub staging-start : (h : Shift) (z n : ℕ) (net idx xs amount : List ℕ) → 0 < length xs → Held n net idx → PlainNots (netlistOf n net)
     → Staging (stages h z 0 amount xs (netlistOf n net)) h z n net xs amount net idx xs 1 0
-staging-start h z n net idx xs amount some held = record {
+staging-start h z n net idx xs amount some held nots = record {
   within = omega arith;
   sized = refl;
   netSized = refl;
   distance = omega arith;
   says = refl;
   held = held;
+  nots = nots;
 }
 
 module _ (model : Made (List ℕ)) (h : Shift) (z n : ℕ) (net₀ xs₀ amount net idx xs : List ℕ) (d k : ℕ) (g : Staging model h z n net₀ xs₀ amount net idx xs d k) where
@@ -123,6 +126,7 @@ module _ (model : Made (List ℕ)) (h : Shift) (z n : ℕ) (net₀ xs₀ amount 
         says = stage q ∙ ap (λ (o : Made (List ℕ)). andThen o (λ (r₁, l₁). stages h z (suc k) (drop (suc k) amount) r₁ l₁)) (s .says)
             ∙ ap (λ (j : ℕ). stages h z j (drop j amount) xs′ (netlistOf n net′)) p;
         held = s .held;
+        nots = kept (keeps-both (addMux (getD amount k 0)) (keeps-mux (getD amount k 0)) (shifted h z d xs) xs (netlistOf n net) (g .nots)) (s .says);
       }
 
   pub staging-out : (r : Filled) (ns ms net′ idx′ : List ℕ) → k < length amount → NotDone r

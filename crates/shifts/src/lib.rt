@@ -6,6 +6,7 @@ ghost use Rattle.model.specs.Builder.{both, addMux};
 ghost use Rattle.model.specs.Lowering.{shifted, stages, shift};
 ghost use Rattle.netlist_view.specs.View.{netlistOf};
 ghost use Rattle.netlist_index.specs.Index.{Held};
+ghost use Rattle.gates.specs.Nots.{PlainNots};
 ghost use Rattle.constant_fold.specs.Values.{Fills};
 ghost use Rattle.shifts.specs.Kinds.{shiftOf};
 use constant_fold::Filled;
@@ -54,7 +55,7 @@ fn mux_moved(
     xs: &mut [u32],
     old: &[u32],
 ) -> Filled
-    requires { ⌜ (Held n (now net) (now idx)) × (length (now xs) ≡ length (now old)) × (d ≤ length (now old)) × (length (now old) ≤ 1024) ⌝ }
+    requires { ⌜ (Held n (now net) (now idx)) × (length (now xs) ≡ length (now old)) × (d ≤ length (now old)) × (length (now old) ≤ 1024) × (PlainNots (netlistOf n (now net))) ⌝ }
     ensures { λ r. ⌜ Fills (both (addMux s) (shifted (shiftOf kind) z d (now (old .entry))) (now (old .entry)) (netlistOf n (now (net .entry)))) n r (now (xs .exit)) (now (net .exit)) (now (idx .exit)) ⌝ }
 {
     let mut i = 0;
@@ -80,7 +81,7 @@ fn shift_stage(
     s: u32,
     xs: &mut [u32],
 ) -> Filled
-    requires { ⌜ (Held n (now net) (now idx)) × (d ≤ length (now xs)) × (length (now xs) ≤ 1024) ⌝ }
+    requires { ⌜ (Held n (now net) (now idx)) × (d ≤ length (now xs)) × (length (now xs) ≤ 1024) × (PlainNots (netlistOf n (now net))) ⌝ }
     ensures { λ r. ⌜ Fills (both (addMux s) (shifted (shiftOf kind) z d (now (xs .entry))) (now (xs .entry)) (netlistOf n (now (net .entry)))) n r (now (xs .exit)) (now (net .exit)) (now (idx .exit)) ⌝ }
 {
     let mut old = [0u32; 1024];
@@ -106,7 +107,7 @@ fn shift_stages(
     xs: &mut [u32],
     amount: &[u32],
 ) -> Filled
-    requires { ⌜ (Held n (now net) (now idx)) × (0 < length (now xs)) × (length (now xs) ≤ 1024) ⌝ }
+    requires { ⌜ (Held n (now net) (now idx)) × (0 < length (now xs)) × (length (now xs) ≤ 1024) × (PlainNots (netlistOf n (now net))) ⌝ }
     ensures { λ r. ⌜ Fills (stages (shiftOf kind) z 0 (now (amount .entry)) (now (xs .entry)) (netlistOf n (now (net .entry)))) n r (now (xs .exit)) (now (net .exit)) (now (idx .exit)) ⌝ }
 {
     let w = xs.len();
@@ -131,7 +132,7 @@ pub fn shift(
     xs: &mut [u32],
     amount: &[u32],
 ) -> Filled
-    requires { ⌜ (Held n (now net) (now idx)) × (0 < length (now xs)) × (length (now xs) ≤ 1024) ⌝ }
+    requires { ⌜ (Held n (now net) (now idx)) × (0 < length (now xs)) × (length (now xs) ≤ 1024) × (PlainNots (netlistOf n (now net))) ⌝ }
     ensures { λ r. ⌜ Fills (shift (shiftOf kind) (now (xs .entry)) (now (amount .entry)) (netlistOf n (now (net .entry)))) n r (now (xs .exit)) (now (net .exit)) (now (idx .exit)) ⌝ }
 {
     let x = gates::add_constant(net, idx, n, false);

@@ -1,2 +1,3 @@
--- What the exported parts give.
+-- Definitions of this crate.
 pub mod Rows
+pub mod Steps

@@ -8,8 +8,11 @@ ghost use Rattle.expr_laws.specs.Exprs.{exprsOf};
 ghost use Rattle.model.specs.Words.{bitWord};
 ghost use Rattle.model.specs.Lowering.{isZeroExpression};
 ghost use Rattle.fusion.specs.Fusion.{In, Inside, carryOf, eitherSide};
+ghost use Rattle.netlist_view.specs.View.{netlistOf};
 ghost use Rattle.netlist_index.specs.Index.{Held};
+ghost use Rattle.gates.specs.Nots.{PlainNots};
 ghost use Rattle.trial.specs.Rows.{passing, Widened, carryWord, testWords, rowOf, PutRow, PutRows, Fused};
+ghost use Rattle.trial.specs.Steps.{Steps};
 use cells::ComparisonOp;
 use checks::Checked;
 use constant_fold::ArithmeticOp;
@@ -155,6 +158,7 @@ pub extern "C" fn trial_fusion(image: &[u8], pairs: &[u32], out: &mut [u32]) -> 
 // A net of those made so far.
 fn some_net(net: &[u32], x: u32) -> u32
     requires { ⌜ 16 ≤ length (now net) ⌝ }
+    ensures { λ r. ⌜ (0 < getD (now (net .entry)) 1 0 → r < getD (now (net .entry)) 1 0) ⌝ }
 {
     let count = net[1];
     if count == 0 {
@@ -197,8 +201,8 @@ fn digest(nets: &[u32]) -> u32 {
 
 // A gate of nets.
 fn add_gate(net: &mut [u32], idx: &mut [u32], n: u32, op: u32, a: u32, b: u32, c: u32) -> Added
-    requires { ⌜ Held n (now net) (now idx) ⌝ }
-    ensures { λ _. ⌜ Held n (now (net .exit)) (now (idx .exit)) ⌝ }
+    requires { ⌜ (Held n (now net) (now idx)) × (PlainNots (netlistOf n (now net))) × (a < getD (now net) 1 0) × (b < getD (now net) 1 0) ⌝ }
+    ensures { λ r. ⌜ Steps n r (now (net .exit)) (now (idx .exit)) ⌝ }
 {
     match op {
         1 => gates::add_not(net, idx, n, a),
@@ -211,8 +215,8 @@ fn add_gate(net: &mut [u32], idx: &mut [u32], n: u32, op: u32, a: u32, b: u32, c
 
 // Operations 0 to 5: constants and gates.
 fn gate_step(net: &mut [u32], idx: &mut [u32], n: u32, op: u32, a: u32, b: u32, c: u32) -> Added
-    requires { ⌜ Held n (now net) (now idx) ⌝ }
-    ensures { λ _. ⌜ Held n (now (net .exit)) (now (idx .exit)) ⌝ }
+    requires { ⌜ (Held n (now net) (now idx)) × (PlainNots (netlistOf n (now net))) × ((op ≡ 0 → ⊥) → 0 < getD (now net) 1 0) ⌝ }
+    ensures { λ r. ⌜ Steps n r (now (net .exit)) (now (idx .exit)) ⌝ }
 {
     if op == 0 {
         return gates::add_constant(net, idx, n, a % 2 == 1);
@@ -242,8 +246,8 @@ fn arithmetic_words(
     carry: u32,
     out: &mut [u32],
 ) -> Added
-    requires { ⌜ (Held n (now net) (now idx)) × (length (now rhs) ≡ length (now lhs)) × (length (now out) ≡ length (now lhs)) × (0 < length (now lhs)) × (length (now lhs) ≤ 1024) ⌝ }
-    ensures { λ _. ⌜ Held n (now (net .exit)) (now (idx .exit)) ⌝ }
+    requires { ⌜ (Held n (now net) (now idx)) × (length (now rhs) ≡ length (now lhs)) × (length (now out) ≡ length (now lhs)) × (0 < length (now lhs)) × (length (now lhs) ≤ 1024) × (PlainNots (netlistOf n (now net))) ⌝ }
+    ensures { λ r. ⌜ Steps n r (now (net .exit)) (now (idx .exit)) ⌝ }
 {
     let made = word_cells::arithmetic(net, idx, n, op, lhs, rhs, carry, out);
     match made {
@@ -265,8 +269,8 @@ fn arithmetic_step(
     carry: u32,
     pool: &[u32],
 ) -> Added
-    requires { ⌜ (Held n (now net) (now idx)) × (0 < w) × (w ≤ 1024) ⌝ }
-    ensures { λ _. ⌜ Held n (now (net .exit)) (now (idx .exit)) ⌝ }
+    requires { ⌜ (Held n (now net) (now idx)) × (0 < w) × (w ≤ 1024) × (PlainNots (netlistOf n (now net))) ⌝ }
+    ensures { λ r. ⌜ Steps n r (now (net .exit)) (now (idx .exit)) ⌝ }
 {
     let lhs = some_nets(net, pool, a, w);
     let rhs = some_nets(net, pool, b, w);
@@ -304,8 +308,8 @@ fn comparison_step(
     b: u32,
     pool: &[u32],
 ) -> Added
-    requires { ⌜ (Held n (now net) (now idx)) × (0 < w) × (w ≤ 1024) ⌝ }
-    ensures { λ _. ⌜ Held n (now (net .exit)) (now (idx .exit)) ⌝ }
+    requires { ⌜ (Held n (now net) (now idx)) × (0 < w) × (w ≤ 1024) × (PlainNots (netlistOf n (now net))) ⌝ }
+    ensures { λ r. ⌜ Steps n r (now (net .exit)) (now (idx .exit)) ⌝ }
 {
     let lhs = some_nets(net, pool, a, w);
     let rhs = some_nets(net, pool, b, w);
@@ -315,8 +319,8 @@ fn comparison_step(
 
 // Operation 14: an input port. Ports count the signals.
 fn input_step(net: &mut [u32], idx: &[u32], n: u32, w: u32) -> Added
-    requires { ⌜ (Held n (now net) (now idx)) × (w ≤ 1024) ⌝ }
-    ensures { λ _. ⌜ Held n (now (net .exit)) (now (idx .entry)) ⌝ }
+    requires { ⌜ (Held n (now net) (now idx)) × (w ≤ 1024) × (PlainNots (netlistOf n (now net))) ⌝ }
+    ensures { λ r. ⌜ Steps n r (now (net .exit)) (now (idx .entry)) ⌝ }
 {
     let signal = net[5];
     ports::add_input_port(net, n, signal, w)
@@ -324,8 +328,8 @@ fn input_step(net: &mut [u32], idx: &[u32], n: u32, w: u32) -> Added
 
 // Operation 15: an output port.
 fn output_step(net: &mut [u32], idx: &[u32], n: u32, w: usize, a: u32, pool: &[u32]) -> Added
-    requires { ⌜ (Held n (now net) (now idx)) × (w ≤ 1024) ⌝ }
-    ensures { λ _. ⌜ Held n (now (net .exit)) (now (idx .entry)) ⌝ }
+    requires { ⌜ (Held n (now net) (now idx)) × (w ≤ 1024) × (PlainNots (netlistOf n (now net))) ⌝ }
+    ensures { λ r. ⌜ Steps n r (now (net .exit)) (now (idx .entry)) ⌝ }
 {
     let signal = net[5];
     let nets = some_nets(net, pool, a, w);
@@ -344,8 +348,8 @@ fn word_step(
     c: u32,
     pool: &[u32],
 ) -> Added
-    requires { ⌜ Held n (now net) (now idx) ⌝ }
-    ensures { λ _. ⌜ Held n (now (net .exit)) (now (idx .exit)) ⌝ }
+    requires { ⌜ (Held n (now net) (now idx)) × (PlainNots (netlistOf n (now net))) ⌝ }
+    ensures { λ r. ⌜ Steps n r (now (net .exit)) (now (idx .exit)) ⌝ }
 {
     let width = 1 + (w % 1024) as usize;
     match op {
@@ -363,6 +367,7 @@ fn word_step(
 // The operation done: where there is no net to take, a constant for all but an input port.
 fn done_for(net: &[u32], op: u32) -> u32
     requires { ⌜ 16 ≤ length (now net) ⌝ }
+    ensures { λ r. ⌜ ((r ≡ 0 → ⊥) → r < 6 → 0 < getD (now (net .entry)) 1 0) ⌝ }
 {
     if op == 14 {
         return op;
@@ -375,8 +380,8 @@ fn done_for(net: &[u32], op: u32) -> u32
 
 // The operation whose five words stand at a place.
 fn step(net: &mut [u32], idx: &mut [u32], n: u32, ops: &[u32], at: usize, pool: &[u32]) -> Added
-    requires { ⌜ (Held n (now net) (now idx)) × (at + 5 ≤ length (now ops)) ⌝ }
-    ensures { λ _. ⌜ Held n (now (net .exit)) (now (idx .exit)) ⌝ }
+    requires { ⌜ (Held n (now net) (now idx)) × (at + 5 ≤ length (now ops)) × (PlainNots (netlistOf n (now net))) ⌝ }
+    ensures { λ r. ⌜ Steps n r (now (net .exit)) (now (idx .exit)) ⌝ }
 {
     let op = done_for(net, ops[at]);
     let a = ops[at + 1];
@@ -408,7 +413,7 @@ fn run(
     pool: &[u32],
     results: &mut [u32],
 ) -> [u64; 2]
-    requires { ⌜ (Held n (now net) (now idx)) × (5 * turns ≤ length (now ops)) × (turns ≤ length (now results)) ⌝ }
+    requires { ⌜ (Held n (now net) (now idx)) × (5 * turns ≤ length (now ops)) × (turns ≤ length (now results)) × (PlainNots (netlistOf n (now net))) ⌝ }
 {
     let mut at = 0;
     while at < turns {

@@ -2,7 +2,7 @@
 use borrow.Author.Needs.{needs}
 use Rattle.build.proofs.build_range.Statement.{statement}
 use Rattle.build.proofs.build_range.Tie as tie
-use Rattle.build.proofs.Ways.{asked-range, room, job-model, small, built-range}
+use Rattle.build.proofs.Ways.{asked-range, plain-nots, room, job-model, small, built-range}
 use Rattle.sure_laws.specs.Makes.{range-makes}
 
 slice-aggregate-read-range : tie.Need-slice-aggregate-read-range
@@ -24,7 +24,10 @@ slice-aggregate-make-2 : tie.Need-slice-aggregate-make-2
 slice-aggregate-make-2 c = search needs
 
 make-requires : tie.Need-make-requires
-make-requires c κs = search needs
+make-requires c κs =
+    let read = c .before .before .before .before .before .before in
+    let start = read .before .before .before .before .before .before .before in
+    (start .pre .0, read .read-range .ensures .fits, search needs, search needs, plain-nots _ (start .pre .1 .sound))
 
 slice-aggregate-keep-range : tie.Need-slice-aggregate-keep-range
 slice-aggregate-keep-range c = search needs

@@ -2,7 +2,7 @@
 use borrow.Author.Needs.{needs}
 use Rattle.build.proofs.build_whole.Statement.{statement}
 use Rattle.build.proofs.build_whole.Tie as tie
-use Rattle.build.proofs.Ways.{asked, read-at, room, job-model, small, built-whole}
+use Rattle.build.proofs.Ways.{asked, plain-nots, read-at, room, job-model, small, built-whole}
 use Rattle.sure_laws.specs.Makes.{whole-makes}
 
 expr-width-requires : tie.Need-expr-width-requires
@@ -31,7 +31,7 @@ make-requires c κs =
     let read = c .before .before .before .before .before .before in
     let width = read .before .before .before .before in
     let start = width .before .before .before .before in
-    (start .pre .0, read-at _ _ _ _ _ _ _ (width .expr-width .ensures) (read .read-whole .ensures) .fits, search needs, search needs)
+    (start .pre .0, read-at _ _ _ _ _ _ _ (width .expr-width .ensures) (read .read-whole .ensures) .fits, search needs, search needs, plain-nots _ (start .pre .1 .sound))
 
 slice-aggregate-keep-whole : tie.Need-slice-aggregate-keep-whole
 slice-aggregate-keep-whole c = search needs

@@ -29,7 +29,7 @@ perform-requires : tie.Need-perform-requires
 perform-requires c κs =
     let c4 = c .before .before .before .before in
     let c8 = c4 .before .before .before .before in
-    (lent (c8 .before .args .image .now) (c8 .before .args .net .now) (c8 .before .args .scr .now) (c8 .before .pre .0), c8 .before .pre .1, c8 .before .pre .2, c8 .before .pre .3)
+    (lent (c8 .before .args .image .now) (c8 .before .args .net .now) (c8 .before .args .scr .now) (c8 .before .pre .0), c8 .before .pre .1, c8 .before .pre .2, c8 .before .pre .3, c8 .before .pre .4)
 
 same-length : tie.Need-same-length
 same-length c = search needs

@@ -25,7 +25,7 @@ lower-binary-requires : tie.Need-lower-binary-requires
 lower-binary-requires c κs =
     let c4 = c .before .before .before .before in
     let c8 = c4 .before .before .before .before in
-    rw (length-take-le (c8 .args .j) (c8 .args .xs .now) (c8 .pre .3), length-take-le (c8 .args .k) (c8 .args .ys .now) (c8 .pre .4)) (c8 .pre .0, c8 .pre .1, c8 .pre .2, c8 .pre .5)
+    rw (length-take-le (c8 .args .j) (c8 .args .xs .now) (c8 .pre .3), length-take-le (c8 .args .k) (c8 .args .ys .now) (c8 .pre .4)) (c8 .pre .0, c8 .pre .1, c8 .pre .2, c8 .pre .5, c8 .pre .6)
 
 same-length : tie.Need-same-length
 same-length c = search needs

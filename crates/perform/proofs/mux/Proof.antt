@@ -24,7 +24,7 @@ mux-bits-requires : tie.Need-mux-bits-requires
 mux-bits-requires c κs =
     let c4 = c .before .before .before .before in
     let c8 = c4 .before .before .before .before in
-    (c8 .pre .0, length-take-le (c8 .args .w) (c8 .args .xs .now) (c8 .pre .1) ∙ sym (length-take-le (c8 .args .w) (c8 .args .ys .now) (c8 .pre .2)))
+    (c8 .pre .0, length-take-le (c8 .args .w) (c8 .args .xs .now) (c8 .pre .1) ∙ sym (length-take-le (c8 .args .w) (c8 .args .ys .now) (c8 .pre .2)), c8 .pre .3)
 
 same-length : tie.Need-same-length
 same-length c = search needs

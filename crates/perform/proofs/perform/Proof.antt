@@ -10,7 +10,7 @@ perform-task-requires : tie.Need-perform-task-requires
 perform-task-requires c κs =
     let c4 = c .before .before .before .before in
     let c8 = c4 .before .before .before .before in
-    (c8 .before .pre .0, fits-whole (c8 .before .args .w) (c8 .before .args .job) (c8 .before .pre .1) (c .before .before .before .if1 .taken), c8 .before .pre .1 .most, c8 .before .pre .2, c8 .before .pre .3)
+    (c8 .before .pre .0, fits-whole (c8 .before .args .w) (c8 .before .args .job) (c8 .before .pre .1) (c .before .before .before .if1 .taken), c8 .before .pre .1 .most, c8 .before .pre .2, c8 .before .pre .3, c8 .before .pre .4)
 
 same-length : tie.Need-same-length
 same-length c = search needs
@@ -33,7 +33,7 @@ perform-task-requires-2 : tie.Need-perform-task-requires-2
 perform-task-requires-2 c κs =
     let c4 = c .before .before .before .before in
     let c8 = c4 .before .before .before .before in
-    (c8 .before .pre .0, fits-narrowed (c8 .before .args .w) (c8 .before .args .job) (c8 .before .pre .1) (c .before .before .before .if1 .left), c8 .before .pre .1 .most, c8 .before .pre .2, c8 .before .pre .3)
+    (c8 .before .pre .0, fits-narrowed (c8 .before .args .w) (c8 .before .args .job) (c8 .before .pre .1) (c .before .before .before .if1 .left), c8 .before .pre .1 .most, c8 .before .pre .2, c8 .before .pre .3, c8 .before .pre .4)
 
 enum-told : tie.Need-enum-told
 enum-told c = search needs

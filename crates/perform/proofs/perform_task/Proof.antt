@@ -33,7 +33,7 @@ binary-requires : tie.Need-binary-requires
 binary-requires c κs =
     let t = c .before .before .before .before .task3 .given .0 in
     let f = rw (c .before .before .before .before .task3 .given .1) at (c .before .before .before .before .before .before .before .before .before .before .before .pre .1) in
-    (c .before .before .before .before .before .before .before .before .before .before .before .pre .0, f .1, f .2, omega (arith, f .2, c .before .before .before .before .before .before .before .before .before .before .before .pre .3), omega (arith, f .4, c .before .before .before .before .before .before .before .before .before .before .before .pre .4), binary-fit (t .0) (c .before .before .before .before .before .before .before .before .before .before .before .args .v) (t .1 .0) (t .1 .1 .0) (f .0))
+    (c .before .before .before .before .before .before .before .before .before .before .before .pre .0, f .1, f .2, omega (arith, f .2, c .before .before .before .before .before .before .before .before .before .before .before .pre .3), omega (arith, f .4, c .before .before .before .before .before .before .before .before .before .before .before .pre .4), binary-fit (t .0) (c .before .before .before .before .before .before .before .before .before .before .before .args .v) (t .1 .0) (t .1 .1 .0) (f .0), c .before .before .before .before .before .before .before .before .before .before .before .pre .5)
 
 enum-known-task-4 : tie.Need-enum-known-task-4
 enum-known-task-4 c = search needs

@@ -3,6 +3,7 @@ use borrow.Author.Needs.{needs}
 use Rattle.shifts.proofs.shift.Statement.{statement}
 use Rattle.shifts.proofs.shift.Tie as tie
 use Rattle.netlist_view.specs.View.{netlistOf}
+use Rattle.gates.specs.Nots.{kept-constant}
 use Rattle.ports.proofs.Laws.{not-net}
 use Rattle.shifts.specs.Kinds.{shiftOf}
 use Rattle.shifts.proofs.Laws.{shift-done, shift-out}
@@ -29,7 +30,11 @@ returns c =
     rw (c .refusal .ensures) (shift-out (shiftOf (s .kind)) (s .xs .now) (s .amount .now) (netlistOf (s .n) (s .net .now)) _ _ _ (add-constant .result) _ (not-net (add-constant .result) (c .before .match .keys2)) (add-constant .ensures))
 
 shift-stages-requires : tie.Need-shift-stages-requires
-shift-stages-requires c κs = search needs
+shift-stages-requires c κs =
+    let x = c .before .before .before .before .x in
+    let add-constant = c .before .before .before .before .before .before .before .before .before .before .add-constant in
+    let pre = c .before .before .before .before .before .before .before .before .before .before .before .before .before .before .before .before .before .pre in
+    (add-constant .ensures .held, pre .1, pre .2, kept-constant _ (pre .3) (rw (x .given .1) at (add-constant .ensures)))
 
 same-length-3 : tie.Need-same-length-3
 same-length-3 c = search needs

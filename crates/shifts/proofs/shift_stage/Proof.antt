@@ -29,7 +29,7 @@ mux-moved-requires c κs =
     let put-words = c .before .before .before .before .before .put-words in
     let s = c .before .before .before .before .before .before .before .before .before .before .before .args in
     let pre = c .before .before .before .before .before .before .before .before .before .before .before .pre in
-    rw (put-words .ensures, front (s .xs .now) (pre .2)) (pre .0, refl, pre .1, pre .2)
+    rw (put-words .ensures, front (s .xs .now) (pre .2)) (pre .0, refl, pre .1, pre .2, pre .3)
 
 same-length : tie.Need-same-length
 same-length c = search needs

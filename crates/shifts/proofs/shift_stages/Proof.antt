@@ -21,7 +21,7 @@ abbrev μ-loop : tie.MeasureT-loop
 loop-holds : tie.Need-loop-holds Inv-loop μ-loop
 loop-holds c =
     let pre = c .before .before .before .before .pre in
-    staging-start _ _ _ _ _ _ _ (pre .1) (pre .0)
+    staging-start _ _ _ _ _ _ _ (pre .1) (pre .0) (pre .3)
 
 mul-shift-stage : tie.Need-mul-shift-stage Inv-loop μ-loop
 mul-shift-stage c = omega arith
@@ -32,7 +32,7 @@ shared-slice-read-shift-stage c = omega arith
 shift-stage-requires : tie.Need-shift-stage-requires Inv-loop μ-loop
 shift-stage-requires c κs =
     let loop = c .before .before .before .before .before .loop in
-    (loop .inv .held, omega (arith, loop .inv .distance), omega (arith, loop .inv .sized))
+    (loop .inv .held, omega (arith, loop .inv .distance), omega (arith, loop .inv .sized), loop .inv .nots)
 
 enum-told : tie.Need-enum-told Inv-loop μ-loop
 enum-told c = search needs

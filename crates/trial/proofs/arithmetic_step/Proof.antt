@@ -40,7 +40,7 @@ arithmetic-words-requires c κs =
     let l = front (c .before .before .before .before .before .before .before .before .before .before .before .before .before .args .w) (c .before .before .before .before .before .before .before .before .some-nets .result) (c .before .before .before .before .before .before .before .before .some-nets .ensures) (c .before .before .before .before .before .before .before .before .before .before .before .before .before .pre .2) in
     let r = front (c .before .before .before .before .before .before .before .before .before .before .before .before .before .args .w) (c .before .before .before .before .before .before .some-nets2 .result) (c .before .before .before .before .before .before .some-nets2 .ensures) (c .before .before .before .before .before .before .before .before .before .before .before .before .before .pre .2) in
     let o = front (c .before .before .before .before .before .before .before .before .before .before .before .before .before .args .w) (replicate {A = ℕ} 1024 0) (length-replicate {A = ℕ} 1024 0) (c .before .before .before .before .before .before .before .before .before .before .before .before .before .pre .2) in
-    (c .before .before .before .before .before .before .before .before .before .before .before .before .before .pre .0, r ∙ sym l, o ∙ sym l, omega (arith, l, c .before .before .before .before .before .before .before .before .before .before .before .before .before .pre .1), omega (arith, l, c .before .before .before .before .before .before .before .before .before .before .before .before .before .pre .2))
+    (c .before .before .before .before .before .before .before .before .before .before .before .before .before .pre .0, r ∙ sym l, o ∙ sym l, omega (arith, l, c .before .before .before .before .before .before .before .before .before .before .before .before .before .pre .1), omega (arith, l, c .before .before .before .before .before .before .before .before .before .before .before .before .before .pre .2), c .before .before .before .before .before .before .before .before .before .before .before .before .before .pre .3)
 
 same-length : tie.Need-same-length
 same-length c = search needs

@@ -5,6 +5,7 @@ use Rattle.trial.proofs.comparison_step.Tie as tie
 use mathlib.Core.Path.{sym, _∙_}
 use native.Mathlib.Omega.{arith}
 use Rattle.trial.proofs.Ways.{front}
+use Rattle.trial.proofs.Nots.{comparison-steps}
 
 some-nets-requires : tie.Need-some-nets-requires
 some-nets-requires c κs = search needs
@@ -40,7 +41,7 @@ same-length-2 : tie.Need-same-length-2
 same-length-2 c = search needs
 
 returns : tie.Need-returns
-returns c = search needs
+returns c = comparison-steps (c .before .before .before .before .before .before .before .before .before .before .before .before .before .before .before .before .before .pre .3) _ _ _ (c .before .before .before .before .comparison .ensures)
 
 pub comparison-step-spec : {M : Type 1} → statement M
 comparison-step-spec =

@@ -2,9 +2,10 @@
 use borrow.Author.Needs.{needs}
 use Rattle.trial.proofs.gate_step.Statement.{statement}
 use Rattle.trial.proofs.gate_step.Tie as tie
+use Rattle.trial.proofs.Nots.{constant-steps}
 
 add-constant-requires : tie.Need-add-constant-requires
-add-constant-requires c κs = c .before .before .before .before .before .pre
+add-constant-requires c κs = c .before .before .before .before .before .pre .0
 
 same-length : tie.Need-same-length
 same-length c = c .before .before .before .before .add-constant .kept .0
@@ -13,7 +14,7 @@ same-length-2 : tie.Need-same-length-2
 same-length-2 c = c .before .before .before .before .add-constant .kept .1 .0
 
 returns : tie.Need-returns
-returns c = c .before .before .before .before .add-constant .ensures .held
+returns c = constant-steps (c .before .before .before .before .before .before .before .before .before .before .pre .1) _ (c .before .before .before .before .add-constant .ensures)
 
 some-net-requires : tie.Need-some-net-requires
 some-net-requires c κs = search needs
@@ -25,7 +26,10 @@ some-net-requires-3 : tie.Need-some-net-requires-3
 some-net-requires-3 c κs = search needs
 
 add-gate-requires : tie.Need-add-gate-requires
-add-gate-requires c κs = c .before .before .before .before .before .before .before .before .before .before .before .pre
+add-gate-requires c κs =
+    let start = c .before .before .before .before .before .before .before .before .before .before .before in
+    let some = start .pre .2 (c .before .before .before .before .before .before .before .before .if1 .left) in
+    (start .pre .0, start .pre .1, c .before .before .before .before .before .before .some-net .ensures some, c .before .before .before .before .some-net2 .ensures some)
 
 same-length-3 : tie.Need-same-length-3
 same-length-3 c = c .before .before .before .before .add-gate .kept .0

@@ -2,6 +2,7 @@
 use Rattle.trial.proofs.input_step.Statement.{statement}
 use Rattle.trial.proofs.input_step.Tie as tie
 use borrow.Author.Needs.{needs}
+use Rattle.trial.proofs.Nots.{input-steps}
 
 slice-read-signal : tie.Need-slice-read-signal
 slice-read-signal c = search needs
@@ -13,7 +14,7 @@ same-length : tie.Need-same-length
 same-length c = search needs
 
 returns : tie.Need-returns
-returns c = c .before .before .add-input-port .ensures .held _ (c .before .before .before .before .before .before .before .pre .0)
+returns c = input-steps (c .before .before .before .before .before .before .before .pre .2) _ _ (c .before .before .before .before .before .before .before .pre .0) (c .before .before .add-input-port .ensures)
 
 pub input-step-spec : {M : Type 1} → statement M
 input-step-spec =

@@ -5,6 +5,7 @@ use Rattle.trial.proofs.output_step.Tie as tie
 use mathlib.Core.Path.{sym}
 use native.Mathlib.Omega.{arith}
 use Rattle.trial.proofs.Ways.{front}
+use Rattle.trial.proofs.Nots.{output-steps}
 
 slice-read-signal : tie.Need-slice-read-signal
 slice-read-signal c = search needs
@@ -25,7 +26,7 @@ same-length : tie.Need-same-length
 same-length c = search needs
 
 returns : tie.Need-returns
-returns c = c .before .before .add-output-port .ensures .held _ (c .before .before .before .before .before .before .before .before .before .before .before .pre .0)
+returns c = output-steps (c .before .before .before .before .before .before .before .before .before .before .before .pre .2) _ _ (c .before .before .before .before .before .before .before .before .before .before .before .pre .0) (c .before .before .add-output-port .ensures)
 
 pub output-step-spec : {M : Type 1} → statement M
 output-step-spec =

@@ -5,10 +5,12 @@ use borrow.Author.Needs.{needs}
 use mathlib.Core.Path.{_≡_}
 use Prim.Native.Nat.{_-_, _≤_}
 use lib.ListN.{length}
+use Rattle.netlist_view.specs.View.{netlistOf}
 use Rattle.netlist_index.specs.Index.{Held}
+use Rattle.gates.specs.Nots.{PlainNots}
 
 abbrev Inv-loop : tie.InvT-loop
-Inv-loop net₀ idx₀ n ops turns pool results₀ at₀ net idx results at = (Held n net idx) × (at ≤ turns) × (length net ≡ length net₀) × (length idx ≡ length idx₀) × (length results ≡ length results₀)
+Inv-loop net₀ idx₀ n ops turns pool results₀ at₀ net idx results at = (Held n net idx) × (at ≤ turns) × (length net ≡ length net₀) × (length idx ≡ length idx₀) × (length results ≡ length results₀) × (PlainNots (netlistOf n net))
 
 abbrev μ-loop : tie.MeasureT-loop
 μ-loop net₀ idx₀ n ops turns pool results₀ at₀ net idx results at = turns - at
@@ -53,7 +55,9 @@ loop-less : tie.Need-loop-less Inv-loop μ-loop
 loop-less c = search needs
 
 loop-again : tie.Need-loop-again Inv-loop μ-loop
-loop-again c = (c .before .before .before .before .before .before .before .step .ensures, search needs, search needs, search needs, search needs)
+loop-again c =
+    let step = c .before .before .before .before .before .before .before .step in
+    (step .ensures .held, search needs, search needs, search needs, search needs, step .ensures .nots _ (c .before .x .given .1))
 
 same-length-4 : tie.Need-same-length-4 Inv-loop μ-loop
 same-length-4 c = search needs

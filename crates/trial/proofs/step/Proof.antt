@@ -49,7 +49,9 @@ shared-slice-read-d : tie.Need-shared-slice-read-d
 shared-slice-read-d c = search needs
 
 gate-step-requires : tie.Need-gate-step-requires
-gate-step-requires c κs = c .before .before .before .before .before .before .before .before .before .before .before .before .before .before .pre .0
+gate-step-requires c κs =
+    let start = c .before .before .before .before .before .before .before .before .before .before .before .before .before .before in
+    (start .pre .0, start .pre .2, λ z. c .before .before .before .before .before .before .before .done-for .ensures z (c .before .before .if1 .taken))
 
 same-length : tie.Need-same-length
 same-length c = c .before .before .before .before .gate-step .kept .0
@@ -61,7 +63,7 @@ returns : tie.Need-returns
 returns c = c .before .before .before .before .gate-step .ensures
 
 word-step-requires : tie.Need-word-step-requires
-word-step-requires c κs = c .before .before .before .before .before .before .before .before .before .before .before .before .before .before .pre .0
+word-step-requires c κs = (c .before .before .before .before .before .before .before .before .before .before .before .before .before .before .pre .0, c .before .before .before .before .before .before .before .before .before .before .before .before .before .before .pre .2)
 
 same-length-3 : tie.Need-same-length-3
 same-length-3 c = c .before .before .before .before .word-step .kept .0

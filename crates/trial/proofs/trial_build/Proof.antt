@@ -4,6 +4,7 @@ use Rattle.trial.proofs.trial_build.Statement.{statement}
 use Rattle.trial.proofs.trial_build.Tie as tie
 use native.Mathlib.Omega.{arith}
 use Rattle.trial.proofs.Ways.{begun}
+use Rattle.trial.proofs.Nots.{nots-start}
 
 fit-requires : tie.Need-fit-requires
 fit-requires c κs = search needs
@@ -17,7 +18,7 @@ start-requires c κs = let f = c .before .before .before .before .before .before
 run-requires : tie.Need-run-requires
 run-requires c κs =
     let f = c .before .before .before .before .before .before .before .before .before .before .before .before .before .before .fit .ensures (c .before .before .before .before .before .before .before .before .before .before .before .before .before .if1 .taken) in
-    (begun _ _ _ _ _ (f .4) (c .before .before .before .before .before .start .ensures) (c .before .before .before .before .before .before .before .before .before .clear .ensures), omega (arith, c .before .before .before .before .before .before .before .before .before .before .before .before .if2 .taken), c .before .before .before .before .before .before .before .before .before .before .before .if3 .taken)
+    (begun _ _ _ _ _ (f .4) (c .before .before .before .before .before .start .ensures) (c .before .before .before .before .before .before .before .before .before .clear .ensures), omega (arith, c .before .before .before .before .before .before .before .before .before .before .before .before .if2 .taken), c .before .before .before .before .before .before .before .before .before .before .before .if3 .taken, nots-start _ _ _ (c .before .before .before .before .before .start .ensures))
 
 same-length : tie.Need-same-length
 same-length c = search needs

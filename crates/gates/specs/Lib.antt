@@ -1,0 +1,2 @@
+-- Definitions and laws of this crate.
+pub mod Nots

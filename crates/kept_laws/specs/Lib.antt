@@ -1,0 +1,2 @@
+-- The builder's calls, one by one.
+pub mod Kept
