@@ -2,3 +2,4 @@
 pub mod Ways
 pub mod Fused
 pub mod Nots
+pub mod Build

@@ -1,17 +1,20 @@
 // Parts of the port exported for comparison by running only; nothing rests on them.
 ghost use mathlib.Core.Path.{_≡_};
-ghost use mathlib.Core.Bool.{true};
-ghost use Prim.Native.Nat.{_+_, _*_, _≤_, _<_};
-ghost use lib.ListN.{length, getD};
+ghost use Prim.Native.Nat.{_+_, _*_, _%_, _≤_, _<_};
+ghost use lib.ListN.{length, getD, take};
 ghost use Rattle.checks.specs.Accepted.{Accepted};
 ghost use Rattle.expr_laws.specs.Exprs.{exprsOf};
 ghost use Rattle.model.specs.Words.{bitWord};
 ghost use Rattle.model.specs.Lowering.{isZeroExpression};
 ghost use Rattle.fusion.specs.Fusion.{In, Inside, carryOf, eitherSide};
-ghost use Rattle.netlist_view.specs.View.{netlistOf};
-ghost use Rattle.netlist_index.specs.Index.{Held};
+ghost use Rattle.model.specs.WordCells as W;
+ghost use Rattle.netlist_view.specs.View.{netlistOf, room};
+ghost use Rattle.netlist_index.specs.Index.{hashWords, Held};
+ghost use Rattle.constant_fold.specs.Values as folded;
+ghost use Rattle.cells.specs.Cells.{compareOf};
 ghost use Rattle.gates.specs.Nots.{PlainNots};
 ghost use Rattle.trial.specs.Rows.{passing, Widened, carryWord, testWords, rowOf, PutRow, PutRows, Fused};
+ghost use Rattle.trial.specs.Build.{someNet, poolWord, someNets, digestOf, gateOf, gateStep, arithmeticAt, arithmeticStep, comparisonAt, comparisonStep, inputStep, outputStep, wordStep, doneFor, stepOf, sequence, refusalWord, Ran, fitting, Tried};
 ghost use Rattle.trial.specs.Steps.{Steps};
 use cells::ComparisonOp;
 use checks::Checked;
@@ -158,7 +161,7 @@ pub extern "C" fn trial_fusion(image: &[u8], pairs: &[u32], out: &mut [u32]) -> 
 // A net of those made so far.
 fn some_net(net: &[u32], x: u32) -> u32
     requires { ⌜ 16 ≤ length (now net) ⌝ }
-    ensures { λ r. ⌜ (0 < getD (now (net .entry)) 1 0 → r < getD (now (net .entry)) 1 0) ⌝ }
+    ensures { λ r. ⌜ (r ≡ someNet (getD (now (net .entry)) 1 0) x) × (0 < getD (now (net .entry)) 1 0 → r < getD (now (net .entry)) 1 0) ⌝ }
 {
     let count = net[1];
     if count == 0 {
@@ -167,7 +170,9 @@ fn some_net(net: &[u32], x: u32) -> u32
     x % count
 }
 
-fn pool_word(pool: &[u32], k: usize) -> u32 {
+fn pool_word(pool: &[u32], k: usize) -> u32
+    ensures { λ r. ⌜ r ≡ poolWord (now (pool .entry)) k ⌝ }
+{
     if pool.len() == 0 {
         return 0;
     }
@@ -177,7 +182,7 @@ fn pool_word(pool: &[u32], k: usize) -> u32 {
 // Nets for w bits, as the words of a pool from a place on name them.
 fn some_nets(net: &[u32], pool: &[u32], start: u32, w: usize) -> [u32; 1024]
     requires { ⌜ (16 ≤ length (now net)) × (w ≤ 1024) ⌝ }
-    ensures { λ r. ⌜ length r ≡ 1024 ⌝ }
+    ensures { λ r. ⌜ (length r ≡ 1024) × (take w r ≡ someNets (getD (now (net .entry)) 1 0) (now (pool .entry)) start w) ⌝ }
 {
     let mut nets = [0u32; 1024];
     let mut i = 0;
@@ -189,7 +194,9 @@ fn some_nets(net: &[u32], pool: &[u32], start: u32, w: usize) -> [u32; 1024]
 }
 
 // One word for several nets.
-fn digest(nets: &[u32]) -> u32 {
+fn digest(nets: &[u32]) -> u32
+    ensures { λ r. ⌜ r ≡ hashWords 0 (now (nets .entry)) ⌝ }
+{
     let mut h: u32 = 0;
     let mut i = 0;
     while i < nets.len() {
@@ -202,7 +209,7 @@ fn digest(nets: &[u32]) -> u32 {
 // A gate of nets.
 fn add_gate(net: &mut [u32], idx: &mut [u32], n: u32, op: u32, a: u32, b: u32, c: u32) -> Added
     requires { ⌜ (Held n (now net) (now idx)) × (PlainNots (netlistOf n (now net))) × (a < getD (now net) 1 0) × (b < getD (now net) 1 0) ⌝ }
-    ensures { λ r. ⌜ Steps n r (now (net .exit)) (now (idx .exit)) ⌝ }
+    ensures { λ r. ⌜ Steps (gateOf op a b c (netlistOf n (now (net .entry)))) n r (now (net .exit)) (now (idx .exit)) ⌝ }
 {
     match op {
         1 => gates::add_not(net, idx, n, a),
@@ -216,7 +223,7 @@ fn add_gate(net: &mut [u32], idx: &mut [u32], n: u32, op: u32, a: u32, b: u32, c
 // Operations 0 to 5: constants and gates.
 fn gate_step(net: &mut [u32], idx: &mut [u32], n: u32, op: u32, a: u32, b: u32, c: u32) -> Added
     requires { ⌜ (Held n (now net) (now idx)) × (PlainNots (netlistOf n (now net))) × ((op ≡ 0 → ⊥) → 0 < getD (now net) 1 0) ⌝ }
-    ensures { λ r. ⌜ Steps n r (now (net .exit)) (now (idx .exit)) ⌝ }
+    ensures { λ r. ⌜ Steps (gateStep op a b c (netlistOf n (now (net .entry)))) n r (now (net .exit)) (now (idx .exit)) ⌝ }
 {
     if op == 0 {
         return gates::add_constant(net, idx, n, a % 2 == 1);
@@ -227,7 +234,9 @@ fn gate_step(net: &mut [u32], idx: &mut [u32], n: u32, op: u32, a: u32, b: u32, 
     add_gate(net, idx, n, op, x, y, z)
 }
 
-fn arithmetic_op(op: u32) -> ArithmeticOp {
+fn arithmetic_op(op: u32) -> ArithmeticOp
+    ensures { λ r. ⌜ folded.opOf r ≡ arithmeticAt op ⌝ }
+{
     match op {
         7 => ArithmeticOp::Subtract,
         8 => ArithmeticOp::Multiply,
@@ -247,7 +256,7 @@ fn arithmetic_words(
     out: &mut [u32],
 ) -> Added
     requires { ⌜ (Held n (now net) (now idx)) × (length (now rhs) ≡ length (now lhs)) × (length (now out) ≡ length (now lhs)) × (0 < length (now lhs)) × (length (now lhs) ≤ 1024) × (PlainNots (netlistOf n (now net))) ⌝ }
-    ensures { λ r. ⌜ Steps n r (now (net .exit)) (now (idx .exit)) ⌝ }
+    ensures { λ r. ⌜ Steps (digestOf (W.arithmetic (folded.opOf op) (now (lhs .entry)) (now (rhs .entry)) (folded.carryOf carry) (netlistOf n (now (net .entry))))) n r (now (net .exit)) (now (idx .exit)) ⌝ }
 {
     let made = word_cells::arithmetic(net, idx, n, op, lhs, rhs, carry, out);
     match made {
@@ -270,7 +279,7 @@ fn arithmetic_step(
     pool: &[u32],
 ) -> Added
     requires { ⌜ (Held n (now net) (now idx)) × (0 < w) × (w ≤ 1024) × (PlainNots (netlistOf n (now net))) ⌝ }
-    ensures { λ r. ⌜ Steps n r (now (net .exit)) (now (idx .exit)) ⌝ }
+    ensures { λ r. ⌜ Steps (arithmeticStep op w a b carry (now (pool .entry)) (netlistOf n (now (net .entry)))) n r (now (net .exit)) (now (idx .exit)) ⌝ }
 {
     let lhs = some_nets(net, pool, a, w);
     let rhs = some_nets(net, pool, b, w);
@@ -288,7 +297,9 @@ fn arithmetic_step(
     )
 }
 
-fn comparison_op(op: u32) -> ComparisonOp {
+fn comparison_op(op: u32) -> ComparisonOp
+    ensures { λ r. ⌜ compareOf r ≡ comparisonAt op ⌝ }
+{
     match op {
         10 => ComparisonOp::LessThanUnsigned,
         11 => ComparisonOp::LessOrEqualUnsigned,
@@ -309,7 +320,7 @@ fn comparison_step(
     pool: &[u32],
 ) -> Added
     requires { ⌜ (Held n (now net) (now idx)) × (0 < w) × (w ≤ 1024) × (PlainNots (netlistOf n (now net))) ⌝ }
-    ensures { λ r. ⌜ Steps n r (now (net .exit)) (now (idx .exit)) ⌝ }
+    ensures { λ r. ⌜ Steps (comparisonStep op w a b (now (pool .entry)) (netlistOf n (now (net .entry)))) n r (now (net .exit)) (now (idx .exit)) ⌝ }
 {
     let lhs = some_nets(net, pool, a, w);
     let rhs = some_nets(net, pool, b, w);
@@ -319,8 +330,8 @@ fn comparison_step(
 
 // Operation 14: an input port. Ports count the signals.
 fn input_step(net: &mut [u32], idx: &[u32], n: u32, w: u32) -> Added
-    requires { ⌜ (Held n (now net) (now idx)) × (w ≤ 1024) × (PlainNots (netlistOf n (now net))) ⌝ }
-    ensures { λ r. ⌜ Steps n r (now (net .exit)) (now (idx .entry)) ⌝ }
+    requires { ⌜ (Held n (now net) (now idx)) × (0 < w) × (w ≤ 1024) × (PlainNots (netlistOf n (now net))) ⌝ }
+    ensures { λ r. ⌜ Steps (inputStep w (netlistOf n (now (net .entry)))) n r (now (net .exit)) (now (idx .entry)) ⌝ }
 {
     let signal = net[5];
     ports::add_input_port(net, n, signal, w)
@@ -328,8 +339,8 @@ fn input_step(net: &mut [u32], idx: &[u32], n: u32, w: u32) -> Added
 
 // Operation 15: an output port.
 fn output_step(net: &mut [u32], idx: &[u32], n: u32, w: usize, a: u32, pool: &[u32]) -> Added
-    requires { ⌜ (Held n (now net) (now idx)) × (w ≤ 1024) × (PlainNots (netlistOf n (now net))) ⌝ }
-    ensures { λ r. ⌜ Steps n r (now (net .exit)) (now (idx .entry)) ⌝ }
+    requires { ⌜ (Held n (now net) (now idx)) × (0 < w) × (w ≤ 1024) × (PlainNots (netlistOf n (now net))) ⌝ }
+    ensures { λ r. ⌜ Steps (outputStep w a (now (pool .entry)) (netlistOf n (now (net .entry)))) n r (now (net .exit)) (now (idx .entry)) ⌝ }
 {
     let signal = net[5];
     let nets = some_nets(net, pool, a, w);
@@ -349,25 +360,29 @@ fn word_step(
     pool: &[u32],
 ) -> Added
     requires { ⌜ (Held n (now net) (now idx)) × (PlainNots (netlistOf n (now net))) ⌝ }
-    ensures { λ r. ⌜ Steps n r (now (net .exit)) (now (idx .exit)) ⌝ }
+    ensures { λ r. ⌜ Steps (wordStep op (1 + w % 1024) a b c (now (pool .entry)) (netlistOf n (now (net .entry)))) n r (now (net .exit)) (now (idx .exit)) ⌝ }
 {
     let width = 1 + (w % 1024) as usize;
-    match op {
-        6..=8 => arithmetic_step(net, idx, n, op, width, a, b, ABSENT, pool),
-        9 => {
-            let carry = some_net(net, c);
-            arithmetic_step(net, idx, n, op, width, a, b, carry, pool)
-        }
-        10..=13 => comparison_step(net, idx, n, op, width, a, b, pool),
-        14 => input_step(net, idx, n, 1 + w % 1024),
-        _ => output_step(net, idx, n, width, a, pool),
+    if op < 9 {
+        return arithmetic_step(net, idx, n, op, width, a, b, ABSENT, pool);
     }
+    if op == 9 {
+        let carry = some_net(net, c);
+        return arithmetic_step(net, idx, n, op, width, a, b, carry, pool);
+    }
+    if op < 14 {
+        return comparison_step(net, idx, n, op, width, a, b, pool);
+    }
+    if op == 14 {
+        return input_step(net, idx, n, 1 + w % 1024);
+    }
+    output_step(net, idx, n, width, a, pool)
 }
 
 // The operation done: where there is no net to take, a constant for all but an input port.
 fn done_for(net: &[u32], op: u32) -> u32
     requires { ⌜ 16 ≤ length (now net) ⌝ }
-    ensures { λ r. ⌜ ((r ≡ 0 → ⊥) → r < 6 → 0 < getD (now (net .entry)) 1 0) ⌝ }
+    ensures { λ r. ⌜ (r ≡ doneFor (getD (now (net .entry)) 1 0) op) × ((r ≡ 0 → ⊥) → r < 6 → 0 < getD (now (net .entry)) 1 0) ⌝ }
 {
     if op == 14 {
         return op;
@@ -381,7 +396,7 @@ fn done_for(net: &[u32], op: u32) -> u32
 // The operation whose five words stand at a place.
 fn step(net: &mut [u32], idx: &mut [u32], n: u32, ops: &[u32], at: usize, pool: &[u32]) -> Added
     requires { ⌜ (Held n (now net) (now idx)) × (at + 5 ≤ length (now ops)) × (PlainNots (netlistOf n (now net))) ⌝ }
-    ensures { λ r. ⌜ Steps n r (now (net .exit)) (now (idx .exit)) ⌝ }
+    ensures { λ r. ⌜ Steps (stepOf (now (ops .entry)) (now (pool .entry)) at (netlistOf n (now (net .entry)))) n r (now (net .exit)) (now (idx .exit)) ⌝ }
 {
     let op = done_for(net, ops[at]);
     let a = ops[at + 1];
@@ -395,7 +410,9 @@ fn step(net: &mut [u32], idx: &mut [u32], n: u32, ops: &[u32], at: usize, pool: 
 }
 
 // The refusal of an answer: 9 or 10.
-fn refusal(x: Added) -> u64 {
+fn refusal(x: Added) -> u64
+    ensures { λ r. ⌜ r ≡ refusalWord x ⌝ }
+{
     match x {
         Added::Net(_) => 0,
         Added::TooManyNets => 9,
@@ -414,6 +431,7 @@ fn run(
     results: &mut [u32],
 ) -> [u64; 2]
     requires { ⌜ (Held n (now net) (now idx)) × (5 * turns ≤ length (now ops)) × (turns ≤ length (now results)) × (PlainNots (netlistOf n (now net))) ⌝ }
+    ensures { λ r. ⌜ Ran n (room n (now (net .entry))) (sequence (now (ops .entry)) (now (pool .entry)) turns 0 (netlistOf n (now (net .entry))) (now (results .entry))) r (now (net .exit)) (now (results .exit)) ⌝ }
 {
     let mut at = 0;
     while at < turns {
@@ -429,7 +447,7 @@ fn run(
 
 // Whether the lent words are those of n nets and some list words.
 fn fit(n: u32, net: usize, idx: usize) -> bool
-    ensures { λ r. ⌜ (r ≡ true → (0 < n) × (n ≤ 65535) × (16 + 6 * n ≤ net) × (net ≤ 16 + 6 * n + 65535) × (idx ≡ 4 * n)) ⌝ }
+    ensures { λ r. ⌜ r ≡ fitting n net idx ⌝ }
 {
     if n == 0 {
         return false;
@@ -458,7 +476,9 @@ pub extern "C" fn trial_build(
     idx: &mut [u32],
     results: &mut [u32],
     answer: &mut [u64; 2],
-) {
+)
+    ensures { λ _. ⌜ Tried n (now (ops .entry)) turns (now (pool .entry)) (now (net .entry)) (now (idx .entry)) (now (results .entry)) (now (answer .exit)) (now (net .exit)) (now (idx .exit)) (now (results .exit)) ⌝ }
+{
     *answer = [1, 0];
     if fit(n, net.len(), idx.len()) {
         if turns <= ops.len() / 5 {

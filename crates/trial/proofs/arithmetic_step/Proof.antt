@@ -7,6 +7,7 @@ use native.Mathlib.Omega.{arith}
 use lib.ListN.{replicate, length-replicate}
 use Prim.Native.Nat.{ℕ}
 use Rattle.trial.proofs.Ways.{front}
+use Rattle.trial.proofs.Build.{steps-as, step-arithmetic}
 
 some-nets-requires : tie.Need-some-nets-requires
 some-nets-requires c κs = search needs
@@ -21,13 +22,13 @@ array-share-prefix-lhs : tie.Need-array-share-prefix-lhs
 array-share-prefix-lhs c = search needs
 
 slice-aggregate-arithmetic-words : tie.Need-slice-aggregate-arithmetic-words
-slice-aggregate-arithmetic-words c = sym (front (c .before .before .before .before .before .before .before .before .before .before .before .args .w) (c .before .before .before .before .before .before .some-nets .result) (c .before .before .before .before .before .before .some-nets .ensures) (c .before .before .before .before .before .before .before .before .before .before .before .pre .2))
+slice-aggregate-arithmetic-words c = sym (front (c .before .before .before .before .before .before .before .before .before .before .before .args .w) (c .before .before .before .before .before .before .some-nets .result) (c .before .before .before .before .before .before .some-nets .ensures .0) (c .before .before .before .before .before .before .before .before .before .before .before .pre .2))
 
 array-share-prefix-rhs : tie.Need-array-share-prefix-rhs
 array-share-prefix-rhs c = search needs
 
 slice-aggregate-arithmetic-words-2 : tie.Need-slice-aggregate-arithmetic-words-2
-slice-aggregate-arithmetic-words-2 c = sym (front (c .before .before .before .before .before .before .before .before .before .before .before .before .args .w) (c .before .before .before .before .before .some-nets2 .result) (c .before .before .before .before .before .some-nets2 .ensures) (c .before .before .before .before .before .before .before .before .before .before .before .before .pre .2))
+slice-aggregate-arithmetic-words-2 c = sym (front (c .before .before .before .before .before .before .before .before .before .before .before .before .args .w) (c .before .before .before .before .before .some-nets2 .result) (c .before .before .before .before .before .some-nets2 .ensures .0) (c .before .before .before .before .before .before .before .before .before .before .before .before .pre .2))
 
 array-borrow-prefix-out : tie.Need-array-borrow-prefix-out
 array-borrow-prefix-out c = search needs
@@ -37,8 +38,8 @@ slice-aggregate-arithmetic-words-3 c = sym (front (c .before .before .before .be
 
 arithmetic-words-requires : tie.Need-arithmetic-words-requires
 arithmetic-words-requires c κs =
-    let l = front (c .before .before .before .before .before .before .before .before .before .before .before .before .before .args .w) (c .before .before .before .before .before .before .before .before .some-nets .result) (c .before .before .before .before .before .before .before .before .some-nets .ensures) (c .before .before .before .before .before .before .before .before .before .before .before .before .before .pre .2) in
-    let r = front (c .before .before .before .before .before .before .before .before .before .before .before .before .before .args .w) (c .before .before .before .before .before .before .some-nets2 .result) (c .before .before .before .before .before .before .some-nets2 .ensures) (c .before .before .before .before .before .before .before .before .before .before .before .before .before .pre .2) in
+    let l = front (c .before .before .before .before .before .before .before .before .before .before .before .before .before .args .w) (c .before .before .before .before .before .before .before .before .some-nets .result) (c .before .before .before .before .before .before .before .before .some-nets .ensures .0) (c .before .before .before .before .before .before .before .before .before .before .before .before .before .pre .2) in
+    let r = front (c .before .before .before .before .before .before .before .before .before .before .before .before .before .args .w) (c .before .before .before .before .before .before .some-nets2 .result) (c .before .before .before .before .before .before .some-nets2 .ensures .0) (c .before .before .before .before .before .before .before .before .before .before .before .before .before .pre .2) in
     let o = front (c .before .before .before .before .before .before .before .before .before .before .before .before .before .args .w) (replicate {A = ℕ} 1024 0) (length-replicate {A = ℕ} 1024 0) (c .before .before .before .before .before .before .before .before .before .before .before .before .before .pre .2) in
     (c .before .before .before .before .before .before .before .before .before .before .before .before .before .pre .0, r ∙ sym l, o ∙ sym l, omega (arith, l, c .before .before .before .before .before .before .before .before .before .before .before .before .before .pre .1), omega (arith, l, c .before .before .before .before .before .before .before .before .before .before .before .before .before .pre .2), c .before .before .before .before .before .before .before .before .before .before .before .before .before .pre .3)
 
@@ -49,7 +50,10 @@ same-length-2 : tie.Need-same-length-2
 same-length-2 c = search needs
 
 returns : tie.Need-returns
-returns c = search needs
+returns c =
+    let a = c .before .before .before .before .before .before .before .before .before .before .before .before .before .before .before .before .before .before .before .args in
+    steps-as (step-arithmetic (a .n) (a .net .now) (a .op) (a .w) (a .a) (a .b) (a .carry) (a .pool .now) _ _ (c .before .before .before .before .before .before .before .before .before .before .before .arithmetic-op .result) (c .before .before .before .before .before .before .before .before .before .before .before .arithmetic-op .ensures) (c .before .before .before .before .before .before .before .before .before .before .before .before .before .before .some-nets .ensures .1) (c .before .before .before .before .before .before .before .before .before .before .before .before .some-nets2 .ensures .1))
+    (c .before .before .before .before .before .arithmetic-words .ensures)
 
 pub arithmetic-step-spec : {M : Type 1} → statement M
 arithmetic-step-spec =
