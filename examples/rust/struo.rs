@@ -1,6 +1,7 @@
 //! The library's two calls behind safe functions over slices. What include/struo.h asks of pointers and lengths, references and slices
 //! have by their types: they are valid, aligned, apart where one is `&mut`, and below 2^63 bytes. The stack is the caller's to give: that of
-//! the main thread by `ulimit -s`, that of others by `Builder::stack_size`.
+//! the main thread by `ulimit -s`, that of others by `Builder::stack_size`. The comparisons in oracle/compare call
+//! the library through this file too.
 
 mod library {
     extern "C" {
@@ -32,6 +33,9 @@ pub type Answer = [u32; 3];
 
 pub const ACCEPTED: Answer = [0, 0, 0];
 
+/// What an answer holds before a call: none, so that one left unwritten shows.
+const UNWRITTEN: Answer = [u32::MAX; 3];
+
 /// Words that the netlist buffer must have.
 pub fn netlist_words(n: u32, p: u32) -> usize {
     16 + 6 * n as usize + p as usize
@@ -44,7 +48,7 @@ pub fn most_scratch_words(n: u32) -> usize {
 
 /// Refusals 1 to 5, for buffers of so many words.
 pub fn check(image: &[u8], n: u32, p: u32, netlist_words: usize, scratch_words: usize) -> Answer {
-    let mut answer = ACCEPTED;
+    let mut answer = UNWRITTEN;
     // SAFETY: `image` is read for its length and `answer` is written.
     unsafe { library::struo_check(image.as_ptr(), image.len(), n, p, netlist_words, scratch_words, &mut answer) };
     answer
@@ -52,7 +56,7 @@ pub fn check(image: &[u8], n: u32, p: u32, netlist_words: usize, scratch_words: 
 
 /// Refusals 1 to 10; after acceptance `netlist` begins with the netlist image.
 pub fn lower(image: &[u8], n: u32, p: u32, netlist: &mut [u32], scratch: &mut [u32]) -> Answer {
-    let mut answer = ACCEPTED;
+    let mut answer = UNWRITTEN;
     // SAFETY: `image` is read, the two buffers are read and written, each for its length, and `answer` is written.
     unsafe {
         library::struo_lower(

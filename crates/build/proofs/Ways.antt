@@ -34,7 +34,7 @@ use Rattle.constant_fold.specs.declared.Filled.the-variants as F
 use Rattle.table_view.specs.View.{limitOf, Laid, Writes}
 use Rattle.table_view.specs.Bounds.{whole-told, expr-count, expr-width}
 use Rattle.tables.specs.Answers.{Small}
-use Rattle.tasks.specs.Tasks.{Read, jobMade}
+use Rattle.tasks.specs.Tasks.{JobFits, Read, jobMade}
 use Rattle.tasks.specs.declared.Job.{Job}
 use Rattle.whole_reads.specs.Asked.{NeedWhole, AllWhole, SignalIn, Tabled, Asked}
 use Rattle.range_reads.specs.Asked.{AskedRange}
@@ -130,15 +130,19 @@ make-way model s net w net′ idx out r g l f = record {
 }
 
 -- the width as it was read
-pub read-at : (model : Netlist → Made (List ℕ)) (s xs ys : List ℕ) (k v : ℕ) (j : Job) → k ≡ v → Read model s v j xs ys → Read model s k j xs ys
-read-at model s xs ys k v j q a = subst (λ (n : ℕ). Read model s n j xs ys) (sym q) a
+pub read-at : {m : ℕ} (model : Netlist → Made (List ℕ)) (s xs ys : List ℕ) (k v : ℕ) (j : Job) → k ≡ v → Read m model s v j xs ys → Read m model s k j xs ys
+read-at {m} model s xs ys k v j q a = subst (λ (n : ℕ). Read m model s n j xs ys) (sym q) a
+
+-- the room as it was read
+pub fits-at : (k m v : ℕ) (j : Job) → k ≡ m → JobFits m v j → JobFits k v j
+fits-at k m v j e f = subst (λ (n : ℕ). JobFits n v j) (sym e) f
 
 -- the nets made have room in the list
-pub room : (k : ℕ) (xs′ xs : List ℕ) → k ≤ 1024 → length xs′ ≡ length xs → length xs ≡ 1024 → k ≤ length xs′
-room k xs′ xs h l m = omega arith
+pub room : (k m : ℕ) (xs′ xs : List ℕ) → k ≤ m → length xs′ ≡ length xs → length xs ≡ m → k ≤ length xs′
+room k m xs′ xs h l e = omega arith
 
 -- a job's nets are what the model makes
-pub job-model : (model : Netlist → Made (List ℕ)) (s net w xs ys : List ℕ) (k : ℕ) (j : Job) (l : Netlist) (r : Filled) (out net′ w′ : List ℕ) → Read model s k j xs ys
+pub job-model : {m : ℕ} (model : Netlist → Made (List ℕ)) (s net w xs ys : List ℕ) (k : ℕ) (j : Job) (l : Netlist) (r : Filled) (out net′ w′ : List ℕ) → Read m model s k j xs ys
     → Performed (jobMade s k j xs ys l) s net w r out net′ w′ → Performed (model l) s net w r out net′ w′
 job-model model s net w xs ys k j l r out net′ w′ a p = record {
   says = a .says l ∙ p .says;

@@ -13,6 +13,7 @@ ghost use Rattle.constant_fold.specs.declared.Filled.the-variants as F;
 ghost use Rattle.table_view.specs.View.{limitOf, Laid};
 ghost use Rattle.tables.specs.Answers.{Small};
 ghost use Rattle.tasks.specs.Tasks.{jobMade, JobFits};
+ghost use Rattle.whole_reads.specs.Asked.{Room};
 ghost use Rattle.walk_view.specs.Met.{AllMet};
 ghost use Rattle.walk_view.specs.View.{walkState, Ready, Sure, Builds};
 ghost use Rattle.build.specs.Built.{Performed, Keeps};
@@ -30,7 +31,7 @@ fn make(
     xs: &mut [u32],
     ys: &[u32],
 ) -> Filled
-    requires { ⌜ (Ready (now image) (now net) (now scr)) × (JobFits w job) × (length (now xs) ≡ 1024) × (length (now ys) ≡ 1024) × (PlainNots (netlistOf (limitOf (now scr)) (now net))) ⌝ }
+    requires { ⌜ (Ready (now image) (now net) (now scr)) × (JobFits (length (now xs)) w job) × (length (now xs) ≤ 1024) × (length (now ys) ≡ length (now xs)) × (PlainNots (netlistOf (limitOf (now scr)) (now net))) ⌝ }
     ensures { λ r. ⌜ Performed (jobMade (now (image .entry)) w job (now (xs .entry)) (now (ys .entry)) (netlistOf (limitOf (now (scr .entry))) (now (net .entry)))) (now (image .entry)) (now (net .entry)) (now (scr .entry)) r (take w (now (xs .exit))) (now (net .exit)) (now (scr .exit)) ⌝ }
 {
     let n = scr[0];
@@ -53,16 +54,51 @@ fn keep_whole(image: &[u8], scr: &mut [u32], e: u32, nets: &[u32], w: u32, made:
     }
 }
 
-pub fn build_whole(image: &[u8], net: &mut [u32], scr: &mut [u32], e: u32) -> Lowered
+// A whole expression, made in two lists.
+fn whole_in(
+    image: &[u8],
+    net: &mut [u32],
+    scr: &mut [u32],
+    e: u32,
+    xs: &mut [u32],
+    ys: &mut [u32],
+) -> Lowered
+    requires { ⌜ (Ready (now image) (now net) (now scr)) × (Sure (now image) (now net) (now scr)) × (e < countAt (now image) 1) × (AllMet (walkState (now image) (now net) (now scr)) (model.wholeSteps (exprsOf (now image)) e)) × (Room (now image) (length (now xs)) e) × (length (now xs) ≤ 1024) × (length (now ys) ≡ length (now xs)) ⌝ }
+    ensures { λ r. ⌜ Builds (model.keepWhole (walkState (now (image .entry)) (now (net .entry)) (now (scr .entry))) e (model.buildWhole (exprsOf (now (image .entry))) false (walkState (now (image .entry)) (now (net .entry)) (now (scr .entry))) e)) (now (image .entry)) (now (net .entry)) (now (scr .entry)) (model.Whole e) r (now (net .exit)) (now (scr .exit)) ⌝ }
+{
+    let w = fields::expr_width(image, e);
+    let job = whole_reads::read_whole(image, scr, e, xs, ys);
+    let made = make(image, net, scr, job, w, xs, ys);
+    keep_whole(image, scr, e, xs, w, made)
+}
+
+// A narrow expression.
+fn whole_small(image: &[u8], net: &mut [u32], scr: &mut [u32], e: u32) -> Lowered
+    requires { ⌜ (Ready (now image) (now net) (now scr)) × (Sure (now image) (now net) (now scr)) × (e < countAt (now image) 1) × (AllMet (walkState (now image) (now net) (now scr)) (model.wholeSteps (exprsOf (now image)) e)) × (Room (now image) 64 e) ⌝ }
+    ensures { λ r. ⌜ Builds (model.keepWhole (walkState (now (image .entry)) (now (net .entry)) (now (scr .entry))) e (model.buildWhole (exprsOf (now (image .entry))) false (walkState (now (image .entry)) (now (net .entry)) (now (scr .entry))) e)) (now (image .entry)) (now (net .entry)) (now (scr .entry)) (model.Whole e) r (now (net .exit)) (now (scr .exit)) ⌝ }
+{
+    let mut xs = [0u32; 64];
+    let mut ys = [0u32; 64];
+    whole_in(image, net, scr, e, &mut xs, &mut ys)
+}
+
+fn whole_large(image: &[u8], net: &mut [u32], scr: &mut [u32], e: u32) -> Lowered
     requires { ⌜ (Ready (now image) (now net) (now scr)) × (Sure (now image) (now net) (now scr)) × (e < countAt (now image) 1) × AllMet (walkState (now image) (now net) (now scr)) (model.wholeSteps (exprsOf (now image)) e) ⌝ }
     ensures { λ r. ⌜ Builds (model.keepWhole (walkState (now (image .entry)) (now (net .entry)) (now (scr .entry))) e (model.buildWhole (exprsOf (now (image .entry))) false (walkState (now (image .entry)) (now (net .entry)) (now (scr .entry))) e)) (now (image .entry)) (now (net .entry)) (now (scr .entry)) (model.Whole e) r (now (net .exit)) (now (scr .exit)) ⌝ }
 {
     let mut xs = [0u32; 1024];
     let mut ys = [0u32; 1024];
-    let w = fields::expr_width(image, e);
-    let job = whole_reads::read_whole(image, scr, e, &mut xs, &mut ys);
-    let made = make(image, net, scr, job, w, &mut xs, &ys);
-    keep_whole(image, scr, e, &xs, w, made)
+    whole_in(image, net, scr, e, &mut xs, &mut ys)
+}
+
+pub fn build_whole(image: &[u8], net: &mut [u32], scr: &mut [u32], e: u32) -> Lowered
+    requires { ⌜ (Ready (now image) (now net) (now scr)) × (Sure (now image) (now net) (now scr)) × (e < countAt (now image) 1) × AllMet (walkState (now image) (now net) (now scr)) (model.wholeSteps (exprsOf (now image)) e) ⌝ }
+    ensures { λ r. ⌜ Builds (model.keepWhole (walkState (now (image .entry)) (now (net .entry)) (now (scr .entry))) e (model.buildWhole (exprsOf (now (image .entry))) false (walkState (now (image .entry)) (now (net .entry)) (now (scr .entry))) e)) (now (image .entry)) (now (net .entry)) (now (scr .entry)) (model.Whole e) r (now (net .exit)) (now (scr .exit)) ⌝ }
+{
+    if whole_reads::is_narrow(image, e) {
+        return whole_small(image, net, scr, e);
+    }
+    whole_large(image, net, scr, e)
 }
 
 // The nets made are those of w bits of the expression, from lsb on.
@@ -88,6 +124,44 @@ fn keep_range(
     }
 }
 
+// A range of an expression, made in two lists.
+fn range_in(
+    image: &[u8],
+    net: &mut [u32],
+    scr: &mut [u32],
+    e: u32,
+    lsb: u32,
+    w: u32,
+    xs: &mut [u32],
+    ys: &mut [u32],
+) -> Lowered
+    requires { ⌜ (Ready (now image) (now net) (now scr)) × (Sure (now image) (now net) (now scr)) × (e < countAt (now image) 1) × (1 ≤ w) × (lsb + w ≤ exprWidth (now image) e) × (AllMet (walkState (now image) (now net) (now scr)) (model.rangeSteps (exprsOf (now image)) e lsb w)) × (w ≤ length (now xs)) × (length (now xs) ≤ 1024) × (length (now ys) ≡ length (now xs)) ⌝ }
+    ensures { λ r. ⌜ Builds (model.keepRange (walkState (now (image .entry)) (now (net .entry)) (now (scr .entry))) e lsb (model.buildRange (exprsOf (now (image .entry))) false (walkState (now (image .entry)) (now (net .entry)) (now (scr .entry))) e lsb w)) (now (image .entry)) (now (net .entry)) (now (scr .entry)) (model.Range e lsb w) r (now (net .exit)) (now (scr .exit)) ⌝ }
+{
+    let job = range_reads::read_range(image, scr, e, lsb, w, xs, ys);
+    let made = make(image, net, scr, job, w, xs, ys);
+    keep_range(image, scr, e, lsb, xs, w, made)
+}
+
+// A narrow range.
+fn range_small(image: &[u8], net: &mut [u32], scr: &mut [u32], e: u32, lsb: u32, w: u32) -> Lowered
+    requires { ⌜ (Ready (now image) (now net) (now scr)) × (Sure (now image) (now net) (now scr)) × (e < countAt (now image) 1) × (1 ≤ w) × (lsb + w ≤ exprWidth (now image) e) × (AllMet (walkState (now image) (now net) (now scr)) (model.rangeSteps (exprsOf (now image)) e lsb w)) × (w ≤ 64) ⌝ }
+    ensures { λ r. ⌜ Builds (model.keepRange (walkState (now (image .entry)) (now (net .entry)) (now (scr .entry))) e lsb (model.buildRange (exprsOf (now (image .entry))) false (walkState (now (image .entry)) (now (net .entry)) (now (scr .entry))) e lsb w)) (now (image .entry)) (now (net .entry)) (now (scr .entry)) (model.Range e lsb w) r (now (net .exit)) (now (scr .exit)) ⌝ }
+{
+    let mut xs = [0u32; 64];
+    let mut ys = [0u32; 64];
+    range_in(image, net, scr, e, lsb, w, &mut xs, &mut ys)
+}
+
+fn range_large(image: &[u8], net: &mut [u32], scr: &mut [u32], e: u32, lsb: u32, w: u32) -> Lowered
+    requires { ⌜ (Ready (now image) (now net) (now scr)) × (Sure (now image) (now net) (now scr)) × (e < countAt (now image) 1) × (1 ≤ w) × (lsb + w ≤ exprWidth (now image) e) × AllMet (walkState (now image) (now net) (now scr)) (model.rangeSteps (exprsOf (now image)) e lsb w) ⌝ }
+    ensures { λ r. ⌜ Builds (model.keepRange (walkState (now (image .entry)) (now (net .entry)) (now (scr .entry))) e lsb (model.buildRange (exprsOf (now (image .entry))) false (walkState (now (image .entry)) (now (net .entry)) (now (scr .entry))) e lsb w)) (now (image .entry)) (now (net .entry)) (now (scr .entry)) (model.Range e lsb w) r (now (net .exit)) (now (scr .exit)) ⌝ }
+{
+    let mut xs = [0u32; 1024];
+    let mut ys = [0u32; 1024];
+    range_in(image, net, scr, e, lsb, w, &mut xs, &mut ys)
+}
+
 pub fn build_range(
     image: &[u8],
     net: &mut [u32],
@@ -99,9 +173,8 @@ pub fn build_range(
     requires { ⌜ (Ready (now image) (now net) (now scr)) × (Sure (now image) (now net) (now scr)) × (e < countAt (now image) 1) × (1 ≤ w) × (lsb + w ≤ exprWidth (now image) e) × AllMet (walkState (now image) (now net) (now scr)) (model.rangeSteps (exprsOf (now image)) e lsb w) ⌝ }
     ensures { λ r. ⌜ Builds (model.keepRange (walkState (now (image .entry)) (now (net .entry)) (now (scr .entry))) e lsb (model.buildRange (exprsOf (now (image .entry))) false (walkState (now (image .entry)) (now (net .entry)) (now (scr .entry))) e lsb w)) (now (image .entry)) (now (net .entry)) (now (scr .entry)) (model.Range e lsb w) r (now (net .exit)) (now (scr .exit)) ⌝ }
 {
-    let mut xs = [0u32; 1024];
-    let mut ys = [0u32; 1024];
-    let job = range_reads::read_range(image, scr, e, lsb, w, &mut xs, &mut ys);
-    let made = make(image, net, scr, job, w, &mut xs, &ys);
-    keep_range(image, scr, e, lsb, &xs, w, made)
+    if w <= 64 {
+        return range_small(image, net, scr, e, lsb, w);
+    }
+    range_large(image, net, scr, e, lsb, w)
 }

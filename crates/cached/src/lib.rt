@@ -5,7 +5,7 @@ ghost use lib.ListN.{length, getD};
 ghost use Rattle.model.specs.Words.{absent, node};
 ghost use Rattle.model.specs.Builder.{same, find, addCached};
 ghost use Rattle.netlist_view.specs.View.{nodeAt, nodesOf, netlistOf};
-ghost use Rattle.netlist_index.specs.Index.{mixed, hashNode, Held};
+ghost use Rattle.netlist_index.specs.Index.{mixed, bucketOf, hashNode, Held};
 ghost use Rattle.netlist_index.specs.Laws.{linked};
 ghost use Rattle.nodes.specs.Gives.{Gives};
 ghost use Rattle.cached.specs.Found.{foundOf};
@@ -21,7 +21,15 @@ pub enum Found {
 pub fn mix(h: u32, x: u32) -> u32
     ensures { λ r. ⌜ r ≡ mixed h x ⌝ }
 {
-    (((h as u64) * 2654435761 + (x as u64)) % 4294967291) as u32
+    (((h as u64) * 2654435761 + (x as u64)) % 4294967296) as u32
+}
+
+// The bucket of a hash, of n.
+pub fn bucket(n: u32, h: u32) -> u32
+    requires { ⌜ 0 < n ⌝ }
+    ensures { λ r. ⌜ (r ≡ bucketOf n h) × (r < n) ⌝ }
+{
+    (((h as u64) * (n as u64)) / 4294967296) as u32
 }
 
 fn hash(n: u32, kind: u32, owner: u32, a: u32, b: u32, c: u32) -> u32
@@ -29,7 +37,7 @@ fn hash(n: u32, kind: u32, owner: u32, a: u32, b: u32, c: u32) -> u32
     ensures { λ r. ⌜ (r ≡ hashNode n (node kind owner absent a b c)) × (r < n) ⌝ }
 {
     let h = mix(mix(mix(mix(mix(0, kind), a), b), c), owner);
-    h % n
+    bucket(n, h)
 }
 
 // Whether node k is the given one.

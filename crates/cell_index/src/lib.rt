@@ -22,7 +22,7 @@ pub fn hash_key(key: &[u32], n: u32) -> u32
         h = cached::mix(h, key[i]);
         i += 1;
     }
-    h % n
+    cached::bucket(n, h)
 }
 
 // Whether the words from a place on begin with the key.

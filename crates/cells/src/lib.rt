@@ -89,6 +89,55 @@ fn compare(net: &mut [u32], idx: &mut [u32], n: u32, buffer: &mut [u32], k: usiz
     }
 }
 
+// The comparison of two operands; the buffer is room for its record.
+fn comparison_in(
+    net: &mut [u32],
+    idx: &mut [u32],
+    n: u32,
+    op: ComparisonOp,
+    lhs: &[u32],
+    rhs: &[u32],
+    buffer: &mut [u32],
+) -> Added
+    requires { ⌜ (Held n (now net) (now idx)) × (length (now rhs) ≡ length (now lhs)) × (0 < length (now lhs)) × (length (now lhs) ≤ 1024) × (3 + 2 * length (now lhs) < length (now buffer)) ⌝ }
+    ensures { λ r. ⌜ Makes (W.comparison (compareOf op) (now (lhs .entry)) (now (rhs .entry)) (netlistOf n (now (net .entry)))) n 1 r (now (net .exit)) (now (idx .exit)) ⌝ }
+{
+    let word = comparison_word(op);
+    put_comparison(buffer, word, lhs, rhs);
+    let k = 3 + 2 * lhs.len();
+    compare(net, idx, n, buffer, k)
+}
+
+fn comparison_small(
+    net: &mut [u32],
+    idx: &mut [u32],
+    n: u32,
+    op: ComparisonOp,
+    lhs: &[u32],
+    rhs: &[u32],
+) -> Added
+    requires { ⌜ (Held n (now net) (now idx)) × (length (now rhs) ≡ length (now lhs)) × (0 < length (now lhs)) × (length (now lhs) ≤ 64) ⌝ }
+    ensures { λ r. ⌜ Makes (W.comparison (compareOf op) (now (lhs .entry)) (now (rhs .entry)) (netlistOf n (now (net .entry)))) n 1 r (now (net .exit)) (now (idx .exit)) ⌝ }
+{
+    let mut buffer = [0u32; 132];
+    comparison_in(net, idx, n, op, lhs, rhs, &mut buffer)
+}
+
+fn comparison_large(
+    net: &mut [u32],
+    idx: &mut [u32],
+    n: u32,
+    op: ComparisonOp,
+    lhs: &[u32],
+    rhs: &[u32],
+) -> Added
+    requires { ⌜ (Held n (now net) (now idx)) × (length (now rhs) ≡ length (now lhs)) × (0 < length (now lhs)) × (length (now lhs) ≤ 1024) ⌝ }
+    ensures { λ r. ⌜ Makes (W.comparison (compareOf op) (now (lhs .entry)) (now (rhs .entry)) (netlistOf n (now (net .entry)))) n 1 r (now (net .exit)) (now (idx .exit)) ⌝ }
+{
+    let mut buffer = [0u32; 2052];
+    comparison_in(net, idx, n, op, lhs, rhs, &mut buffer)
+}
+
 // An equal comparison shared, else a new one; the answer is its output.
 pub fn comparison(
     net: &mut [u32],
@@ -101,9 +150,8 @@ pub fn comparison(
     requires { ⌜ (Held n (now net) (now idx)) × (length (now rhs) ≡ length (now lhs)) × (0 < length (now lhs)) × (length (now lhs) ≤ 1024) ⌝ }
     ensures { λ r. ⌜ Makes (W.comparison (compareOf op) (now (lhs .entry)) (now (rhs .entry)) (netlistOf n (now (net .entry)))) n 1 r (now (net .exit)) (now (idx .exit)) ⌝ }
 {
-    let mut buffer = [0u32; 2052];
-    let word = comparison_word(op);
-    put_comparison(&mut buffer, word, lhs, rhs);
-    let k = 3 + 2 * lhs.len();
-    compare(net, idx, n, &mut buffer, k)
+    if lhs.len() <= 64 {
+        return comparison_small(net, idx, n, op, lhs, rhs);
+    }
+    comparison_large(net, idx, n, op, lhs, rhs)
 }

@@ -1,9 +1,11 @@
 -- A field of a record, from the part of the image that begins at its section's offset.
 use Prim.Native.Nat.{ℕ, zero, suc, _+_, _*_, _≤_, _<_}
 use mathlib.Core.List.{List, [], _∷_}
-use mathlib.Core.Path.{_≡_}
+use mathlib.Core.Path.{_≡_, sym, ap, _∙_}
 use native.Mathlib.Nat.{mul-le-mul, le-of-lt}
-use lib.ListN.{List·getD-eq-default}
+use native.Mathlib.Omega.{arith}
+use lib.ListN.{take, drop, getD, List·getD-eq-default}
+use lib.Seq.{getD-take, getD-drop}
 use lib.Dec.{lit≤}
 use Rattle.meaning.specs.Image.{wordAt, sizeOf}
 
@@ -30,3 +32,16 @@ size-none k h = List·getD-eq-default (16 ∷ 20 ∷ 4 ∷ 16 ∷ 48 ∷ 104 ∷
 -- a 32-bit record number times a size is far below 2 ^ 64
 pub scaled : (r n : ℕ) → r < 4294967296 → n ≤ 104 → r * n ≤ 446676598784
 scaled r n hr hn = mul-le-mul (le-of-lt hr) hn
+
+-- a byte, and the word, of the n bytes from a place on
+pub byte-in : (s : List ℕ) (at n k j : ℕ) → k < n → at + k ≡ j → getD (take n (drop at s)) k 0 ≡ getD s j 0
+byte-in s at n k j h e = getD-take n (drop at s) k 0 h ∙ getD-drop at s k 0 ∙ ap (λ (i : ℕ). getD s i 0) e
+
+pub word-in : (s : List ℕ) (at n k : ℕ) → k + 3 < n → wordAt (take n (drop at s)) k ≡ wordAt s (at + k)
+unfolding wordAt
+word-in s at n k h = rw (
+  byte-in s at n k (at + k) (omega arith) (omega arith),
+  byte-in s at n (k + 1) (at + k + 1) (omega arith) (omega arith),
+  byte-in s at n (k + 2) (at + k + 2) (omega arith) (omega arith),
+  byte-in s at n (k + 3) (at + k + 3) (omega arith) (omega arith),
+)

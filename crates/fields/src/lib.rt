@@ -1,7 +1,7 @@
 // Total readers of the module image: past the end a byte reads as 0, so no reader asks anything of its caller.
 ghost use mathlib.Core.Path.{_≡_};
 ghost use Prim.Native.Nat.{_+_, _≤_, _<_};
-ghost use lib.ListN.{take, drop, getD};
+ghost use lib.ListN.{length, take, drop, getD};
 ghost use Rattle.rules.specs.Rules.{outside};
 ghost use Rattle.meaning.specs.Image as image;
 ghost use Rattle.fields.specs.Fields.{fieldIn};
@@ -53,16 +53,21 @@ fn wide(b: u8) -> u32
     b as u32
 }
 
+// The 32-bit word at the start of four bytes or more: one load.
+fn first_word(p: &[u8]) -> u32
+    requires { ⌜ 4 ≤ length (now p) ⌝ }
+    ensures { λ r. ⌜ r ≡ image.wordAt (now (p .entry)) 0 ⌝ }
+{
+    wide(p[0]) + wide(p[1]) * 256 + wide(p[2]) * 65536 + wide(p[3]) * 16777216
+}
+
 // The 32-bit word at a place.
 pub fn word(s: &[u8], at: usize) -> u32
     requires { ⌜ at + 3 < 18446744073709551616 ⌝ }
     ensures { λ r. ⌜ r ≡ image.wordAt (now (s .entry)) at ⌝ }
 {
     if at + 3 < s.len() {
-        return wide(s[at])
-            + wide(s[at + 1]) * 256
-            + wide(s[at + 2]) * 65536
-            + wide(s[at + 3]) * 16777216;
+        return first_word(&s[at..at + 4]);
     }
     last_word(s, at)
 }

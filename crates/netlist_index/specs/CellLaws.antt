@@ -6,7 +6,6 @@ use mathlib.Core.Logic.{_≢_}
 use mathlib.Core.Option.{none, some}
 use Prim.Native.Nat.{ℕ, suc, _+_, _*_, _≤_, _<_}
 use native.Mathlib.Omega.{arith}
-use native.Mathlib.Nat.{mod-lt}
 use lib.ListN.{length, getD, set, take, drop, length-set}
 use lib.Seq.{getD-set-same, getD-set-other, getD-take}
 use lib.Dec.{eqb}
@@ -15,6 +14,7 @@ use Rattle.model.specs.Words.{absent, Netlist, used}
 use Rattle.model.specs.WordCells.{begins, findCell}
 use Rattle.netlist_view.specs.View.{netlistOf}
 use Rattle.netlist_view.specs.Laws.{withRecord, Holds}
+use Rattle.netlist_index.specs.Laws.{bucket-less}
 use Rattle.netlist_index.specs.Index.{hashWords, isCell, keyLength, Key, keyOf, firstOutput, hashKey, cellBucket, newestCell, findNewest, CellsChained, CellsIndexed, Indexed, Held}
 
 pub reverse-snoc : {A : Type 0} (xs : List A) (x : A) → reverse (xs ++ (x ∷ [])) ≡ x ∷ reverse xs
@@ -177,7 +177,7 @@ used-back rs = used-reverse rs [] ∙ omega arith
 
 pub key-hash-less : (m : ℕ) (k : List ℕ) → 0 < m → hashKey m k < m
 unfolding hashKey
-key-hash-less m k h = mod-lt (hashWords 0 k) h
+key-hash-less m k h = bucket-less m (hashWords 0 k) h
 
 -- a store that is no cell's word
 cells-set : (m o : ℕ) (rs : List (List ℕ)) (idx : List ℕ) (j v : ℕ) → ((i : ℕ) → i < o → m + i ≢ j) → CellsChained m o rs idx → CellsChained m o rs (set idx j v)

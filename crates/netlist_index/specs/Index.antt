@@ -4,25 +4,29 @@ use mathlib.Core.Path.{_≡_}
 use mathlib.Core.Bool.{Bool, true, false, cond, _&&_, _||_}
 use mathlib.Core.List.{List, [], _∷_, reverse}
 use mathlib.Core.Option.{Option, none, some}
-use Prim.Native.Nat.{ℕ, suc, _+_, _*_, _%_, _≤_, _<_}
+use Prim.Native.Nat.{ℕ, suc, _+_, _*_, _/_, _%_, _≤_, _<_}
 use lib.ListN.{length, getD, take, drop}
 use lib.Dec.{eqb, ltb}
 use Rattle.model.specs.Words.{absent, Node, used}
 use Rattle.model.specs.WordCells.{begins, findCell}
 use Rattle.netlist_view.specs.View.{netlistOf, Built}
 
--- the hash of words, below a prime
+-- the hash of words, below 2 ^ 32
 unfoldable pub mixed : ℕ → ℕ → ℕ
-mixed h x = (h * 2654435761 + x) % 4294967291
+mixed h x = (h * 2654435761 + x) % 4294967296
 
 unfoldable pub hashWords : ℕ → List ℕ → ℕ
 hashWords h [] = h
 hashWords h (x ∷ xs) = hashWords (mixed h x) xs
 
+-- the bucket of a hash, of m: by its high digits
+unfoldable pub bucketOf : ℕ → ℕ → ℕ
+bucketOf m h = h % 4294967296 * m / 4294967296
+
 -- ---- constants and gates ----
 
 unfoldable pub hashNode : ℕ → Node → ℕ
-hashNode m x = hashWords 0 (x .kind ∷ x .in0 ∷ x .in1 ∷ x .in2 ∷ x .owner ∷ []) % m
+hashNode m x = bucketOf m (hashWords 0 (x .kind ∷ x .in0 ∷ x .in1 ∷ x .in2 ∷ x .owner ∷ []))
 
 unfoldable pub isGate : Node → Bool
 isGate x = ltb 0 (x .kind) && ltb (x .kind) 7
@@ -67,7 +71,7 @@ unfoldable pub firstOutput : List ℕ → ℕ
 firstOutput r = getD r (keyLength r) 0
 
 unfoldable pub hashKey : ℕ → List ℕ → ℕ
-hashKey m k = hashWords 0 k % m
+hashKey m k = bucketOf m (hashWords 0 k)
 
 unfoldable pub cellBucket : ℕ → ℕ → List ℕ → Bool
 cellBucket m h r = isCell r && eqb (hashKey m (keyOf r)) h

@@ -4,9 +4,9 @@ use mathlib.Core.Bool.{Bool, true, false, cond, _&&_}
 use mathlib.Core.List.{List, [], _∷_}
 use mathlib.Core.Logic.{_≢_, ⊎-elim}
 use mathlib.Core.Option.{none, some}
-use Prim.Native.Nat.{ℕ, zero, suc, _+_, _-_, _%_, _≤_, _<_}
+use Prim.Native.Nat.{ℕ, zero, suc, _+_, _*_, _-_, _/_, _%_, _≤_, _<_}
 use native.Mathlib.Omega.{arith}
-use native.Mathlib.Nat.{eq-or-lt-of-le, mod-lt}
+use native.Mathlib.Nat.{eq-or-lt-of-le, le-refl, mul-le-mul, mod-eq-of-lt}
 use lib.ListN.{length, getD, set, length-set}
 use lib.Seq.{getD-set-same, getD-set-other}
 use lib.Dec.{eqb, ltb}
@@ -15,11 +15,22 @@ use Rattle.model.specs.Words.{Node}
 use Rattle.model.specs.Builder.{same, find}
 use Rattle.netlist_view.specs.View.{nodeAt, nodesOf}
 use Rattle.netlist_view.specs.Laws.{nodesOf-suc, length-nodesOf}
-use Rattle.netlist_index.specs.Index.{hashWords, hashNode, isGate, inBucket, newest, Chained, Indexed}
+use Rattle.netlist_index.specs.Index.{hashWords, bucketOf, hashNode, isGate, inBucket, newest, Chained, Indexed}
+
+pub bucket-less : (m h : ℕ) → 0 < m → bucketOf m h < m
+unfolding bucketOf
+bucket-less m h p =
+    let x : h % 4294967296 * m ≤ 4294967295 * m = mul-le-mul (omega arith) (le-refl m) in
+    omega arith
+
+-- of a 32-bit hash
+pub bucket-is : (m h : ℕ) → h < 4294967296 → h * m / 4294967296 ≡ bucketOf m h
+unfolding bucketOf
+bucket-is m h l = ap (λ (k : ℕ). k * m / 4294967296) (sym (mod-eq-of-lt l))
 
 pub hash-less : (m : ℕ) (x : Node) → 0 < m → hashNode m x < m
 unfolding hashNode
-hash-less m x h = mod-lt (hashWords 0 (x .kind ∷ x .in0 ∷ x .in1 ∷ x .in2 ∷ x .owner ∷ [])) h
+hash-less m x h = bucket-less m (hashWords 0 (x .kind ∷ x .in0 ∷ x .in1 ∷ x .in2 ∷ x .owner ∷ [])) h
 
 -- ---- equal nodes ----
 
@@ -48,7 +59,7 @@ pub same-hash : (m : ℕ) (x y : Node) → same x y ≡ true → hashNode m x �
 unfolding hashNode
 same-hash m x y e =
     let s = same-true x y e in
-    λ i. hashWords 0 (s .kinds i ∷ s .ins0 i ∷ s .ins1 i ∷ s .ins2 i ∷ s .owners i ∷ []) % m
+    λ i. bucketOf m (hashWords 0 (s .kinds i ∷ s .ins0 i ∷ s .ins1 i ∷ s .ins2 i ∷ s .owners i ∷ []))
 
 same-gate : (x y : Node) → same x y ≡ true → isGate x ≡ isGate y
 unfolding isGate

@@ -1,7 +1,7 @@
 -- For each way through the functions that read operands one law, from what they call to what they give. Assumes nothing.
 use mathlib.Core.Path.{_≡_, refl, sym, ap, _∙_}
 use mathlib.Core.Bool.{Bool, true, false, cond}
-use mathlib.Core.List.{List, _++_}
+use mathlib.Core.List.{List, [], _++_}
 use mathlib.Core.Option.{Option, none, some}
 use Prim.Native.Nat.{ℕ, zero, suc, _+_, _-_, _*_, _≤_, _<_, max}
 use native.Mathlib.Omega.{arith}
@@ -13,7 +13,7 @@ use Rattle.rules.specs.Rules.{each, listOf, sumTo}
 use Rattle.rtl.specs.Rtl as R
 use Rattle.rtl.specs.Rtl.{word}
 use Rattle.meaning.specs.Image.{countAt, exprWidth, listWord}
-use Rattle.model.specs.Words.{Netlist}
+use Rattle.model.specs.Words.{absent, Netlist}
 use Rattle.model.specs.Ranges.{widthAt, adderWidth, narrowBy, rangeAt}
 use Rattle.model.specs.Ranges as ranges
 use Rattle.model.specs.Lowering.{State, Operands, operandsOf, rangeNets, wholeNets, wholeNet, partNets, truncated, resized, lowerUnary, lowerBinary, buildOperands, buildBinary, buildMux}
@@ -28,8 +28,9 @@ use Rattle.expr_laws.specs.Exprs.{exprsOf, width-at, in-exprs, width-least}
 use Rattle.fusion.specs.Fusion.{partsOf}
 use Rattle.table_view.specs.Rows.{length-listOf, sum-suc}
 use Rattle.table_view.specs.View as view
-use Rattle.table_view.specs.View.{limitOf, isWhole, stateOf, Laid}
-use Rattle.table_view.specs.Reads.{read-range, whole-nets}
+use Rattle.table_view.specs.View.{limitOf, netWord, isWhole, stateOf, Laid}
+use Rattle.table_view.specs.Laws.{netWord-some, expr-ends}
+use Rattle.table_view.specs.Reads.{read-range, whole-nets, whole-net}
 use Rattle.tasks.specs.Tasks.{taskMade, narrowOf, cutTo, Read}
 use Rattle.tasks.specs.declared.Task.the-variants as T
 use Rattle.operands.specs.Reads.{WholeIn, CopiedWhole, partsWidth, MuxIn, CarryIn, AddIn, addMade}
@@ -113,41 +114,41 @@ module _ (s w : List ℕ) (start n : ℕ) (xs₀ : List ℕ) where
 
 -- ---- operators ----
 
-module _ (s w : List ℕ) (h : Laid s w) where
-  pub unary-read : (v : ℕ) (op : UnaryOp) (a k : ℕ) (xs xs′ : List ℕ) → WholeIn s w a → UnWidth (unaryMeans op) v (exprWidth s a) → 1 ≤ v → v ≤ 1024
+module _ (s w : List ℕ) (h : Laid s w) (m : ℕ) where
+  pub unary-read : (v : ℕ) (op : UnaryOp) (a k : ℕ) (xs xs′ : List ℕ) → WholeIn s w a → UnWidth (unaryMeans op) v (exprWidth s a) → 1 ≤ v → v ≤ m → exprWidth s a ≤ m
       → CopiedWhole s w a xs 0 k xs′ → (ys : List ℕ)
-      → Read (λ l. lowerUnary (unaryMeans op) (wholeNets (stateOf s l w) a) l) s v (record { task = T.Unary op k; narrow = 0 }) xs′ ys
+      → Read m (λ l. lowerUnary (unaryMeans op) (wholeNets (stateOf s l w) a) l) s v (record { task = T.Unary op k; narrow = 0 }) xs′ ys
   unfolding taskMade narrowOf cutTo
-  unary-read v op a k xs xs′ u f least most c ys = record {
+  unary-read v op a k xs xs′ u f least most room c ys = record {
     says = λ l. ap (λ (ns : List ℕ). lowerUnary (unaryMeans op) ns l) (sym (copied-all s w xs xs′ a k c l));
     fits = record {
       least = least;
       most = most;
       narrow = omega arith;
-      task = (rw (c .width) f, omega (arith, c .width, h .image .exprSome a (u .there)), omega (arith, c .width, h .image .exprMost a (u .there)));
+      task = (rw (c .width) f, omega (arith, c .width, h .image .exprSome a (u .there)), omega (arith, c .width));
     };
   }
 
-  pub mux-read : (v c t e k j i : ℕ) (xs xs′ ys ys′ : List ℕ) → MuxIn s w v c t e → 1 ≤ v → v ≤ 1024
+  pub mux-read : (v c t e k j i : ℕ) (xs xs′ ys ys′ : List ℕ) → MuxIn s w v c t e → 1 ≤ v → v ≤ m
       → ((l : Netlist) → isWhole s (limitOf w) w c ≡ true → k ≡ wholeNet (stateOf s l w) c 0)
       → CopiedWhole s w t xs 0 j xs′ → CopiedWhole s w e ys 0 i ys′
-      → Read (λ l. buildMux none (wholeNet (stateOf s l w) c 0) (wholeNets (stateOf s l w) t) (wholeNets (stateOf s l w) e) l) s v (record { task = T.Mux k; narrow = 0 }) xs′ ys′
+      → Read m (λ l. buildMux none (wholeNet (stateOf s l w) c 0) (wholeNets (stateOf s l w) t) (wholeNets (stateOf s l w) e) l) s v (record { task = T.Mux k; narrow = 0 }) xs′ ys′
   unfolding taskMade narrowOf cutTo
-  mux-read v c t e k j i xs xs′ ys ys′ m least most n p q =
-      let a : j ≡ v = p .width ∙ m .left-wide in
-      let b : i ≡ v = q .width ∙ m .right-wide in
+  mux-read v c t e k j i xs xs′ ys ys′ u least most n p q =
+      let a : j ≡ v = p .width ∙ u .left-wide in
+      let b : i ≡ v = q .width ∙ u .right-wide in
       record {
         says = λ l.
-            rw (← n l (m .condition .whole), ← copied-all s w xs xs′ t j p l, ← copied-all s w ys ys′ e i q l, a, b);
+            rw (← n l (u .condition .whole), ← copied-all s w xs xs′ t j p l, ← copied-all s w ys ys′ e i q l, a, b);
         fits = record { least = least; most = most; narrow = omega arith; task = tt };
       }
 
   pub binary-read : (v : ℕ) (op : BinaryOp) (a b j k : ℕ) (xs xs′ ys ys′ : List ℕ) → WholeIn s w a → WholeIn s w b
-      → BinWidth (binaryMeans op) v (exprWidth s a) (exprWidth s b) → 1 ≤ v → v ≤ 1024
+      → BinWidth (binaryMeans op) v (exprWidth s a) (exprWidth s b) → 1 ≤ v → v ≤ m → exprWidth s a ≤ m → exprWidth s b ≤ m
       → CopiedWhole s w a xs 0 j xs′ → CopiedWhole s w b ys 0 k ys′
-      → Read (λ l. lowerBinary (binaryMeans op) (wholeNets (stateOf s l w) a) (wholeNets (stateOf s l w) b) l) s v (record { task = T.Binary op j k; narrow = 0 }) xs′ ys′
+      → Read m (λ l. lowerBinary (binaryMeans op) (wholeNets (stateOf s l w) a) (wholeNets (stateOf s l w) b) l) s v (record { task = T.Binary op j k; narrow = 0 }) xs′ ys′
   unfolding taskMade narrowOf cutTo
-  binary-read v op a b j k xs xs′ ys ys′ u x f least most p q = record {
+  binary-read v op a b j k xs xs′ ys ys′ u x f least most left right p q = record {
     says = λ l. rw (← copied-all s w xs xs′ a j p l, ← copied-all s w ys ys′ b k q l);
     fits = record {
       least = least;
@@ -156,9 +157,9 @@ module _ (s w : List ℕ) (h : Laid s w) where
       task = (
         rw (p .width, q .width) f,
         omega (arith, p .width, h .image .exprSome a (u .there)),
-        omega (arith, p .width, h .image .exprMost a (u .there)),
+        omega (arith, p .width),
         omega (arith, q .width, h .image .exprSome b (x .there)),
-        omega (arith, q .width, h .image .exprMost b (x .there)),
+        omega (arith, q .width),
       );
     };
   }
@@ -205,6 +206,9 @@ narrow-by v (some r) = go (max 1 (ranges.bitLen 64 (r .hi))) (omega arith)
 
 -- ---- additions ----
 
+nothing : Netlist
+nothing = record { maxNets = 0; maxList = 0; nodes = []; records = [] }
+
 module _ (s w : List ℕ) (e a b : ℕ) (i : AddIn s w e a b) where
   narrow-is : (narrowOf (narrowWord (adderWidth (exprsOf s) e)) ≡ adderWidth (exprsOf s) e) × (narrowWord (adderWidth (exprsOf s) e) ≤ exprWidth s e)
   unfolding adderWidth
@@ -228,14 +232,14 @@ module _ (s w : List ℕ) (e a b : ℕ) (i : AddIn s w e a b) where
     pub rhs-in : WholeIn s w y
     rhs-in = rw (ap (λ (o : Operands). o .rhs) q) (i .operands .rhs)
 
-    lhs-wide : exprWidth s x ≡ exprWidth s e
+    pub lhs-wide : exprWidth s x ≡ exprWidth s e
     lhs-wide = wide x (rw (ap (λ (o : Operands). o .lhs) q) (operate .lhs-below)) (rw (ap (λ (o : Operands). o .lhs) q) (operate .lhs-wide refl))
 
-    rhs-wide : exprWidth s y ≡ exprWidth s e
+    pub rhs-wide : exprWidth s y ≡ exprWidth s e
     rhs-wide = wide y (rw (ap (λ (o : Operands). o .rhs) q) (operate .rhs-below)) (rw (ap (λ (o : Operands). o .rhs) q) (operate .rhs-wide refl))
 
     module _ (n j g k : ℕ) (xs xs′ ys ys′ : List ℕ) (r : n ≡ narrowWord (adderWidth (exprsOf s) e)) (p : CopiedWhole s w x xs 0 j xs′) (p′ : CopiedWhole s w y ys 0 g ys′)
-        (z : k ≡ cutTo n j) where
+        (z : k ≡ cutTo n j) (m : ℕ) (most : exprWidth s e ≤ m) where
       narrow-back : narrowOf n ≡ adderWidth (exprsOf s) e
       narrow-back = ap narrowOf r ∙ narrow-is .0
 
@@ -250,7 +254,7 @@ module _ (s w : List ℕ) (e a b : ℕ) (i : AddIn s w e a b) where
           → truncated (narrowOf n) (wholeNets (stateOf s l w) o) ≡ take k us′
       nets-cut l o j′ us us′ cp ow ho =
           let all : take j′ us′ ≡ wholeNets (stateOf s l w) o = copied-all s w us us′ o j′ cp l in
-          let m : j′ ≡ exprWidth s e = cp .width ∙ ow in
+          let v : j′ ≡ exprWidth s e = cp .width ∙ ow in
           cut-nets n (exprWidth s e) (wholeNets (stateOf s l w) o) (whole-long s w l o ho ∙ ow)
           ∙ ap (take (cutTo n (exprWidth s e))) (sym all)
           ∙ take-take (cutTo n (exprWidth s e)) j′ us′ (omega (arith, cut-most n (exprWidth s e) narrow-less))
@@ -261,35 +265,35 @@ module _ (s w : List ℕ) (e a b : ℕ) (i : AddIn s w e a b) where
       unfolding buildBinary
       made l =
           ap (λ (o : Operands). resized (adderWidth (exprsOf s) e) (exprWidth s e) (buildOperands R.Add (adderWidth (exprsOf s) e) (stateOf s l w) o)) (sym q)
-          ∙ ap (λ (m : Option ℕ). resized m (exprWidth s e) (buildOperands R.Add m (stateOf s l w) (record { lhs = x; rhs = y; carry = c }))) (sym narrow-back)
+          ∙ ap (λ (v : Option ℕ). resized v (exprWidth s e) (buildOperands R.Add v (stateOf s l w) (record { lhs = x; rhs = y; carry = c }))) (sym narrow-back)
 
-      fits : 1 ≤ k × (k ≤ 1024)
+      fits : 1 ≤ k × (k ≤ m)
       fits =
           let d = width-least s (i .readable) e (i .inside) in
-          (omega (arith, cell-width, cut-least n (exprWidth s e) d), omega (arith, cell-width, cut-most n (exprWidth s e) narrow-less, i .readable .most e (i .inside)))
+          (omega (arith, cell-width, cut-least n (exprWidth s e) d), omega (arith, cell-width, cut-most n (exprWidth s e) narrow-less))
 
-      pub plain-read : c ≡ none → Read (λ l. addMade s l w e a b) s (exprWidth s e) (record { task = T.Binary BO.Add k k; narrow = n }) xs′ ys′
+      pub plain-read : c ≡ none → Read m (λ l. addMade s l w e a b) s (exprWidth s e) (record { task = T.Binary BO.Add k k; narrow = n }) xs′ ys′
       unfolding taskMade binaryMeans
       plain-read is = record {
         says = λ l. made l ∙ rw (is, nets-cut l x j xs xs′ p lhs-wide lhs-in, nets-cut l y g ys ys′ p′ rhs-wide rhs-in);
         fits = record {
           least = width-least s (i .readable) e (i .inside);
-          most = i .readable .most e (i .inside);
+          most = most;
           narrow = narrow-less;
           task = ((cell-width, cell-width), fits .0, fits .1, fits .0, fits .1);
         };
       }
 
-      pub carried-read : (d m : ℕ) → c ≡ some d → ((l : Netlist) → m ≡ wholeNet (stateOf s l w) d 0)
-          → Read (λ l. addMade s l w e a b) s (exprWidth s e) (record { task = T.Carried k m; narrow = n }) xs′ ys′
+      pub carried-read : (d f : ℕ) → c ≡ some d → ((l : Netlist) → f ≡ wholeNet (stateOf s l w) d 0) → f < absent
+          → Read m (λ l. addMade s l w e a b) s (exprWidth s e) (record { task = T.Carried k f; narrow = n }) xs′ ys′
       unfolding taskMade
-      carried-read d m is h = record {
+      carried-read d f is h there = record {
         says = λ l. made l ∙ rw (is, nets-cut l x j xs xs′ p lhs-wide lhs-in, nets-cut l y g ys ys′ p′ rhs-wide rhs-in, ← h l);
         fits = record {
           least = width-least s (i .readable) e (i .inside);
-          most = i .readable .most e (i .inside);
+          most = most;
           narrow = narrow-less;
-          task = (cell-width, fits .0, fits .1);
+          task = (cell-width, fits .0, fits .1, there);
         };
       }
 
@@ -302,6 +306,15 @@ module _ (s w : List ℕ) (e a b : ℕ) (i : AddIn s w e a b) where
   carry-in x y d q =
       let h : CarryIn s w (operandsOf (exprsOf s) R.Add a b .carry) = i .operands .carry in
       rw (← q) at h
+
+  -- bit 0 of a carry has its net
+  pub carry-net : (d f : ℕ) → WholeIn s w d → ((l : Netlist) → f ≡ wholeNet (stateOf s l w) d 0) → f < absent
+  carry-net d f h q =
+      let n = limitOf w in
+      let v : 0 < exprWidth s d = i .laid .image .exprSome d (h .there) in
+      let x : ℕ = getD w (view.bitAt s n d 0) 0 in
+      let y : f ≡ netWord x = q nothing ∙ whole-net s n nothing w d (h .there) 0 v (h .whole) in
+      omega (arith, y, netWord-some x (i .laid .wholes d 0 (h .there) v (h .whole)), i .laid .exprNets (view.exprBit s d 0) (omega (arith, expr-ends s d (h .there))))
 
   -- word 6 of the expression, where the code finds it
   pub narrow-word : getD w (getD w 2 0 + 8 * e + 6) 0 ≡ narrowWord (adderWidth (exprsOf s) e)

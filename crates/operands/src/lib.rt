@@ -49,8 +49,8 @@ pub fn copy_parts(image: &[u8], scr: &[u32], start: u32, count: u32, out: &mut [
 }
 
 pub fn unary_operand(image: &[u8], scr: &[u32], v: u32, op: UnaryOp, a: u32, xs: &mut [u32]) -> Job
-    requires { ⌜ (Laid (now image) (now scr)) × (WholeIn (now image) (now scr) a) × (UnWidth (unaryMeans op) v (exprWidth (now image) a)) × (1 ≤ v) × (v ≤ 1024) × (length (now xs) ≡ 1024) ⌝ }
-    ensures { λ r. ⌜ ((ys : List ℕ) → Read (λ l. lowerUnary (unaryMeans op) (wholeNets (stateOf (now (image .entry)) l (now (scr .entry))) a) l) (now (image .entry)) v r (now (xs .exit)) ys) ⌝ }
+    requires { ⌜ (Laid (now image) (now scr)) × (WholeIn (now image) (now scr) a) × (UnWidth (unaryMeans op) v (exprWidth (now image) a)) × (1 ≤ v) × (v ≤ length (now xs)) × (exprWidth (now image) a ≤ length (now xs)) ⌝ }
+    ensures { λ r. ⌜ ((ys : List ℕ) → Read (length (now (xs .entry))) (λ l. lowerUnary (unaryMeans op) (wholeNets (stateOf (now (image .entry)) l (now (scr .entry))) a) l) (now (image .entry)) v r (now (xs .exit)) ys) ⌝ }
 {
     let k = copy_whole(image, scr, a, xs, 0);
     Job {
@@ -69,8 +69,8 @@ pub fn mux_operands(
     xs: &mut [u32],
     ys: &mut [u32],
 ) -> Job
-    requires { ⌜ (Laid (now image) (now scr)) × (MuxIn (now image) (now scr) v c t e) × (1 ≤ v) × (v ≤ 1024) × (length (now xs) ≡ 1024) × (length (now ys) ≡ 1024) ⌝ }
-    ensures { λ r. ⌜ Read (λ l. buildMux none (wholeNet (stateOf (now (image .entry)) l (now (scr .entry))) c 0) (wholeNets (stateOf (now (image .entry)) l (now (scr .entry))) t) (wholeNets (stateOf (now (image .entry)) l (now (scr .entry))) e) l) (now (image .entry)) v r (now (xs .exit)) (now (ys .exit)) ⌝ }
+    requires { ⌜ (Laid (now image) (now scr)) × (MuxIn (now image) (now scr) v c t e) × (1 ≤ v) × (v ≤ length (now xs)) × (length (now ys) ≡ length (now xs)) ⌝ }
+    ensures { λ r. ⌜ Read (length (now (xs .entry))) (λ l. buildMux none (wholeNet (stateOf (now (image .entry)) l (now (scr .entry))) c 0) (wholeNets (stateOf (now (image .entry)) l (now (scr .entry))) t) (wholeNets (stateOf (now (image .entry)) l (now (scr .entry))) e) l) (now (image .entry)) v r (now (xs .exit)) (now (ys .exit)) ⌝ }
 {
     let k = tables::expr_net(image, scr, c, 0);
     copy_whole(image, scr, t, xs, 0);
@@ -92,8 +92,8 @@ pub fn binary_operands(
     xs: &mut [u32],
     ys: &mut [u32],
 ) -> Job
-    requires { ⌜ (Laid (now image) (now scr)) × (WholeIn (now image) (now scr) a) × (WholeIn (now image) (now scr) b) × (BinWidth (binaryMeans op) v (exprWidth (now image) a) (exprWidth (now image) b)) × (1 ≤ v) × (v ≤ 1024) × (length (now xs) ≡ 1024) × (length (now ys) ≡ 1024) ⌝ }
-    ensures { λ r. ⌜ Read (λ l. lowerBinary (binaryMeans op) (wholeNets (stateOf (now (image .entry)) l (now (scr .entry))) a) (wholeNets (stateOf (now (image .entry)) l (now (scr .entry))) b) l) (now (image .entry)) v r (now (xs .exit)) (now (ys .exit)) ⌝ }
+    requires { ⌜ (Laid (now image) (now scr)) × (WholeIn (now image) (now scr) a) × (WholeIn (now image) (now scr) b) × (BinWidth (binaryMeans op) v (exprWidth (now image) a) (exprWidth (now image) b)) × (1 ≤ v) × (v ≤ length (now xs)) × (exprWidth (now image) a ≤ length (now xs)) × (exprWidth (now image) b ≤ length (now xs)) × (length (now ys) ≡ length (now xs)) ⌝ }
+    ensures { λ r. ⌜ Read (length (now (xs .entry))) (λ l. lowerBinary (binaryMeans op) (wholeNets (stateOf (now (image .entry)) l (now (scr .entry))) a) (wholeNets (stateOf (now (image .entry)) l (now (scr .entry))) b) l) (now (image .entry)) v r (now (xs .exit)) (now (ys .exit)) ⌝ }
 {
     let j = copy_whole(image, scr, a, xs, 0);
     let k = copy_whole(image, scr, b, ys, 0);
@@ -120,8 +120,8 @@ pub fn add_operands(
     xs: &mut [u32],
     ys: &mut [u32],
 ) -> Job
-    requires { ⌜ (AddIn (now image) (now scr) e a b) × (length (now xs) ≡ 1024) × (length (now ys) ≡ 1024) ⌝ }
-    ensures { λ r. ⌜ Read (λ l. addMade (now (image .entry)) l (now (scr .entry)) e a b) (now (image .entry)) (exprWidth (now (image .entry)) e) r (now (xs .exit)) (now (ys .exit)) ⌝ }
+    requires { ⌜ (AddIn (now image) (now scr) e a b) × (exprWidth (now image) e ≤ length (now xs)) × (length (now ys) ≡ length (now xs)) ⌝ }
+    ensures { λ r. ⌜ Read (length (now (xs .entry))) (λ l. addMade (now (image .entry)) l (now (scr .entry)) e a b) (now (image .entry)) (exprWidth (now (image .entry)) e) r (now (xs .exit)) (now (ys .exit)) ⌝ }
 {
     let narrow = scr[scr[2] as usize + 8 * (e as usize) + 6];
     let answer = fusion::fusion_test(image, a, b);

@@ -107,10 +107,7 @@ fn lower_arithmetic(
     requires { ⌜ (Held n (now net) (now idx)) × (0 < length (now xs)) × (length (now xs) ≡ length (now ys)) × (length (now xs) ≤ 1024) ⌝ }
     ensures { λ r. ⌜ Fills (W.arithmetic (opOf op) (now (xs .entry)) (now (ys .entry)) none (netlistOf n (now (net .entry)))) n r (now (xs .exit)) (now (net .exit)) (now (idx .exit)) ⌝ }
 {
-    let mut lhs = [0u32; 1024];
-    let w = xs.len();
-    lists::put_words(&mut lhs, 0, xs);
-    word_cells::arithmetic(net, idx, n, op, &lhs[..w], ys, ABSENT, xs)
+    word_cells::arithmetic(net, idx, n, op, ABSENT, xs, ys)
 }
 
 // A binary operator by what makes it.

@@ -26,13 +26,13 @@ use Rattle.perform.specs.Widths.{madeWidth, extended}
 
 -- ---- widths ----
 
-pub made-whole : (w : ℕ) (t : Task) → Fits w t → madeWidth w w t ≡ w
-made-whole w Copied f = refl
-made-whole w (Constant start k lsb) f = let h = f .0 in omega arith
-made-whole w (Unary op k) f = refl
-made-whole w (Binary op j k) f = refl
-made-whole w (Carried k c) f = refl
-made-whole w (Mux c) f = refl
+pub made-whole : (m w : ℕ) (t : Task) → Fits m w t → madeWidth w w t ≡ w
+made-whole m w Copied f = refl
+made-whole m w (Constant start k lsb) f = let h = f .0 in omega arith
+made-whole m w (Unary op k) f = refl
+made-whole m w (Binary op j k) f = refl
+made-whole m w (Carried k c) f = refl
+made-whole m w (Mux c) f = refl
 
 pub made-within : (v w : ℕ) (t : Task) → v ≤ w → madeWidth v w t ≤ w
 made-within v w Copied h = omega arith
@@ -62,17 +62,26 @@ unfolding cutTo
 cut-some zero w n = absurd (n refl)
 cut-some (suc k) w n = refl
 
-module _ (w : ℕ) (j : Job) (f : JobFits w j) where
-  pub fits-whole : j .narrow ≡ 0 → Fits w (j .task)
+-- lists that are longer have room too
+pub fits-more : (m k w : ℕ) (t : Task) → m ≤ k → Fits m w t → Fits k w t
+fits-more m k w Copied h f = tt
+fits-more m k w (Constant start v lsb) h f = f
+fits-more m k w (Unary op v) h f = (f .0, f .1, omega (arith, f .2))
+fits-more m k w (Binary op v u) h f = (f .0, f .1, omega (arith, f .2), f .3, omega (arith, f .4))
+fits-more m k w (Carried v c) h f = (f .0, f .1, omega (arith, f .2), f .3)
+fits-more m k w (Mux c) h f = tt
+
+module _ (m w : ℕ) (j : Job) (f : JobFits m w j) where
+  pub fits-whole : j .narrow ≡ 0 → Fits m w (j .task)
   fits-whole e = rw (cut-none (j .narrow) w e) at (f .task)
 
-  pub fits-narrowed : (j .narrow ≡ 0 → ⊥) → Fits (j .narrow) (j .task)
+  pub fits-narrowed : (j .narrow ≡ 0 → ⊥) → Fits m (j .narrow) (j .task)
   fits-narrowed n = rw (cut-some (j .narrow) w n) at (f .task)
 
   module _ (s xs ys : List ℕ) (l : Netlist) (n : ℕ) (r : Filled) where
     pub job-whole : (ns net idx : List ℕ) → j .narrow ≡ 0 → Fills (taskMade s w (j .task) xs ys l) n r (take (madeWidth w w (j .task)) ns) net idx
         → Fills (jobMade s w j xs ys l) n r (take w ns) net idx
-    job-whole ns net idx e g = list-by _ _ _ _ _ _ _ (narrow-none (j .narrow) w (taskMade s w (j .task) xs ys l) e) (rw (made-whole w (j .task) (fits-whole e)) at g)
+    job-whole ns net idx e g = list-by _ _ _ _ _ _ _ (narrow-none (j .narrow) w (taskMade s w (j .task) xs ys l) e) (rw (made-whole m w (j .task) (fits-whole e)) at g)
 
     pub job-out : (ns ms net idx : List ℕ) → (j .narrow ≡ 0 → ⊥) → NotDone r → Fills (taskMade s w (j .task) xs ys l) n r ns net idx → Fills (jobMade s w j xs ys l) n r ms net idx
     job-out ns ms net idx z q g = list-by _ _ _ _ _ _ _ (narrow-some (j .narrow) w (taskMade s w (j .task) xs ys l) z) (first-out _ (λ (ns, l). extended w ns l) n r ns ms net idx q g)

@@ -1,5 +1,5 @@
 -- Laws that the proofs of this crate cite.
 pub mod Laws
 pub mod Bits
-pub mod Cells
+pub mod Carry
 pub mod Jobs

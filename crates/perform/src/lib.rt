@@ -6,9 +6,9 @@ ghost use Prim.Native.Nat.{ℕ, _+_, _*_, _-_, _/_, _%_, _^_, _≤_, _<_, min};
 ghost use lib.ListN.{length, take, drop, replicate};
 ghost use Rattle.rtl.specs.Word.{bits};
 ghost use Rattle.meaning.specs.Image.{listWord, constantOf};
-ghost use Rattle.model.specs.Words.{absent, source, arithmeticKey, count};
+ghost use Rattle.model.specs.Words.{absent};
 ghost use Rattle.model.specs.Builder as B;
-ghost use Rattle.model.specs.Builder.{each, both, addConstant, addMux, addNodes, addRecorded};
+ghost use Rattle.model.specs.Builder.{each, both, addConstant, addMux};
 ghost use Rattle.model.specs.WordCells as W;
 ghost use Rattle.model.specs.Lowering.{lowerUnary, lowerBinary};
 ghost use Rattle.netlist_view.specs.View.{netlistOf};
@@ -16,15 +16,12 @@ ghost use Rattle.netlist_index.specs.Index.{Held};
 ghost use Rattle.gates.specs.Nots.{PlainNots};
 ghost use Rattle.folding.specs.Digits.{held};
 ghost use Rattle.constant_fold.specs.Values.{Fills};
-ghost use Rattle.cells.specs.Cells.{Ready, CellKey};
 ghost use Rattle.records.specs.Expr.{unaryMeans, binaryMeans};
 ghost use Rattle.operators.specs.Operators.{unaryWidth, classOf, classWidth, Fit};
 ghost use Rattle.tasks.specs.Tasks.{taskMade, jobMade, Fits, JobFits};
 ghost use Rattle.perform.specs.Widths.{madeWidth, extended};
-use cell_index::Found;
 use constant_fold::ArithmeticOp;
 use constant_fold::Filled;
-use nodes::ABSENT;
 use nodes::Added;
 use records::BinaryOp;
 use records::UnaryOp;
@@ -73,113 +70,7 @@ fn binary(
     operators::lower_binary(net, idx, n, op, &mut xs[..a], &ys[..b])
 }
 
-// An addition's key in front of a buffer, its carry no net.
-fn put_key(buffer: &mut [u32], lhs: &[u32], rhs: &[u32])
-    requires { ⌜ (length (now rhs) ≡ length (now lhs)) × (length (now lhs) ≤ 1024) × (4 + 2 * length (now lhs) ≤ length (now buffer)) ⌝ }
-    ensures { λ _. ⌜ take (4 + 2 * length (now (lhs .entry))) (now (buffer .exit)) ≡ arithmeticKey 0 (now (lhs .entry)) (now (rhs .entry)) (some absent) ⌝ }
-{
-    buffer[0] = 3;
-    buffer[1] = 0;
-    buffer[2] = lhs.len() as u32;
-    buffer[3] = ABSENT;
-    lists::put_words(buffer, 4, lhs);
-    let at = 4 + lhs.len();
-    lists::put_words(buffer, at, rhs);
-}
-
-// The outputs that stand at a place, into out.
-fn copy_outputs(net: &[u32], p: usize, out: &mut [u32])
-    requires { ⌜ p + length (now out) ≤ length (now net) ⌝ }
-    ensures { λ _. ⌜ now (out .exit) ≡ take (length (now (out .entry))) (drop p (now (net .entry))) ⌝ }
-{
-    let end = p + out.len();
-    lists::put_words(out, 0, &net[p..end]);
-}
-
-// A new cell, its outputs in out.
-fn new_cell(
-    net: &mut [u32],
-    idx: &mut [u32],
-    n: u32,
-    h: u32,
-    buffer: &mut [u32],
-    k: usize,
-    out: &mut [u32],
-) -> Filled
-    requires { ⌜ (k ≤ length (now buffer)) × (length (now out) ≤ 1024) × (Ready n h 10 (length (now out)) (take k (now buffer)) (now net) (now idx) (now buffer)) ⌝ }
-    ensures { λ r. ⌜ Fills (addRecorded (take k (now (buffer .entry))) (addNodes (source 10 (count 3 (netlistOf n (now (net .entry)) .records))) 0 (length (now (out .entry))) (netlistOf n (now (net .entry))))) n r (now (out .exit)) (now (net .exit)) (now (idx .exit)) ⌝ }
-{
-    let owner = net[8];
-    let w = out.len() as u32;
-    let x = cells::add_cell(net, idx, n, h, 10, owner, buffer, k, w);
-    let Added::Net(first) = x else {
-        return constant_fold::refusal(x);
-    };
-    ports::put_run(out, 0, first, w);
-    Filled::Done
-}
-
-// The cell whose key is the first k words of a buffer: shared, or made.
-fn share(
-    net: &mut [u32],
-    idx: &mut [u32],
-    n: u32,
-    buffer: &mut [u32],
-    k: usize,
-    out: &mut [u32],
-) -> Filled
-    requires { ⌜ (Held n (now net) (now idx)) × (k + length (now out) ≤ length (now buffer)) × (CellKey 10 (length (now out)) (take k (now buffer))) ⌝ }
-    ensures { λ r. ⌜ Fills (B.orMade (W.findCell (take k (now (buffer .entry))) (netlistOf n (now (net .entry)) .records)) (netlistOf n (now (net .entry))) (addRecorded (take k (now (buffer .entry))) (addNodes (source 10 (count 3 (netlistOf n (now (net .entry)) .records))) 0 (length (now (out .entry))) (netlistOf n (now (net .entry)))))) n r (now (out .exit)) (now (net .exit)) (now (idx .exit)) ⌝ }
-{
-    let h = cell_index::hash_key(&buffer[..k], n);
-    match cell_index::find_cell(net, idx, n, h, &buffer[..k]) {
-        Found::At(p) => {
-            copy_outputs(net, p, out);
-            Filled::Done
-        }
-        Found::Nothing => new_cell(net, idx, n, h, buffer, k, out),
-    }
-}
-
-// The sum with a carry that is no net, and so no constant.
-fn add_absent(
-    net: &mut [u32],
-    idx: &mut [u32],
-    n: u32,
-    lhs: &[u32],
-    rhs: &[u32],
-    out: &mut [u32],
-) -> Filled
-    requires { ⌜ (Held n (now net) (now idx)) × (length (now rhs) ≡ length (now lhs)) × (length (now out) ≡ length (now lhs)) × (0 < length (now lhs)) × (length (now lhs) ≤ 1024) ⌝ }
-    ensures { λ r. ⌜ Fills (W.arithmetic B.Add (now (lhs .entry)) (now (rhs .entry)) (some absent) (netlistOf n (now (net .entry)))) n r (now (out .exit)) (now (net .exit)) (now (idx .exit)) ⌝ }
-{
-    let mut buffer = [0u32; 3076];
-    put_key(&mut buffer, lhs, rhs);
-    let k = 4 + 2 * lhs.len();
-    share(net, idx, n, &mut buffer, k, out)
-}
-
 // The sum with a carry, in place of the first operand.
-fn add_carried(
-    net: &mut [u32],
-    idx: &mut [u32],
-    n: u32,
-    c: u32,
-    xs: &mut [u32],
-    ys: &[u32],
-) -> Filled
-    requires { ⌜ (Held n (now net) (now idx)) × (0 < length (now xs)) × (length (now xs) ≡ length (now ys)) × (length (now xs) ≤ 1024) ⌝ }
-    ensures { λ r. ⌜ Fills (W.arithmetic B.Add (now (xs .entry)) (now (ys .entry)) (some c) (netlistOf n (now (net .entry)))) n r (now (xs .exit)) (now (net .exit)) (now (idx .exit)) ⌝ }
-{
-    let mut lhs = [0u32; 1024];
-    let w = xs.len();
-    lists::put_words(&mut lhs, 0, xs);
-    if c == ABSENT {
-        return add_absent(net, idx, n, &lhs[..w], ys, xs);
-    }
-    word_cells::arithmetic(net, idx, n, ArithmeticOp::Add, &lhs[..w], ys, c, xs)
-}
-
 fn carried(
     net: &mut [u32],
     idx: &mut [u32],
@@ -189,11 +80,11 @@ fn carried(
     xs: &mut [u32],
     ys: &[u32],
 ) -> Filled
-    requires { ⌜ (Held n (now net) (now idx)) × (0 < k) × (k ≤ 1024) × (k ≤ length (now xs)) × (k ≤ length (now ys)) ⌝ }
+    requires { ⌜ (Held n (now net) (now idx)) × (0 < k) × (k ≤ 1024) × (k ≤ length (now xs)) × (k ≤ length (now ys)) × (c < absent) ⌝ }
     ensures { λ r. ⌜ Fills (W.arithmetic B.Add (take k (now (xs .entry))) (take k (now (ys .entry))) (some c) (netlistOf n (now (net .entry)))) n r (take k (now (xs .exit))) (now (net .exit)) (now (idx .exit)) ⌝ }
 {
     let m = k as usize;
-    add_carried(net, idx, n, c, &mut xs[..m], &ys[..m])
+    word_cells::arithmetic(net, idx, n, ArithmeticOp::Add, c, &mut xs[..m], &ys[..m])
 }
 
 // Bit b of the constant whose list words begin at start.
@@ -285,7 +176,7 @@ fn extend(net: &mut [u32], idx: &mut [u32], n: u32, m: u32, w: u32, xs: &mut [u3
 
 // How many nets a task of width v makes in a job of width w.
 fn task_width(task: Task, v: u32, w: u32) -> u32
-    requires { ⌜ Fits v task ⌝ }
+    requires { ⌜ Fits 1024 v task ⌝ }
     ensures { λ r. ⌜ r ≡ madeWidth v w task ⌝ }
 {
     match task {
@@ -310,7 +201,7 @@ fn perform_task(
     xs: &mut [u32],
     ys: &[u32],
 ) -> Filled
-    requires { ⌜ (Held n (now net) (now idx)) × (Fits v task) × (w ≤ 1024) × (length (now xs) ≡ 1024) × (length (now ys) ≡ 1024) × (PlainNots (netlistOf n (now net))) ⌝ }
+    requires { ⌜ (Held n (now net) (now idx)) × (Fits (length (now xs)) v task) × (w ≤ length (now xs)) × (length (now xs) ≤ 1024) × (length (now ys) ≡ length (now xs)) × (PlainNots (netlistOf n (now net))) ⌝ }
     ensures { λ r. ⌜ Fills (taskMade (now (image .entry)) w task (now (xs .entry)) (now (ys .entry)) (netlistOf n (now (net .entry)))) n r (take (madeWidth v w task) (now (xs .exit))) (now (net .exit)) (now (idx .exit)) ⌝ }
 {
     match task {
@@ -334,7 +225,7 @@ pub fn perform(
     xs: &mut [u32],
     ys: &[u32],
 ) -> Filled
-    requires { ⌜ (Held n (now net) (now idx)) × (JobFits w job) × (length (now xs) ≡ 1024) × (length (now ys) ≡ 1024) × (PlainNots (netlistOf n (now net))) ⌝ }
+    requires { ⌜ (Held n (now net) (now idx)) × (JobFits (length (now xs)) w job) × (length (now xs) ≤ 1024) × (length (now ys) ≡ length (now xs)) × (PlainNots (netlistOf n (now net))) ⌝ }
     ensures { λ r. ⌜ Fills (jobMade (now (image .entry)) w job (now (xs .entry)) (now (ys .entry)) (netlistOf n (now (net .entry)))) n r (take w (now (xs .exit))) (now (net .exit)) (now (idx .exit)) ⌝ }
 {
     let task = job.task;

@@ -72,9 +72,6 @@ module _ (s w : List ℕ) (e lsb n : ℕ) (h : AskedRange s w e lsb n) where
   pub own-range : Within s e lsb n
   own-range = record { there = t .inside; inside = h .inside }
 
-  pub most : n ≤ 1024
-  most = omega (arith, h .inside, t .readable .most e (t .inside))
-
   -- a range of an operand as wide as the expression
   same-range : (a : ℕ) → a < e → widthAt (exprsOf s) a ≡ exprWidth s e → Within s a lsb n
   same-range a l q =
@@ -103,8 +100,8 @@ module _ (s w : List ℕ) (e lsb n : ℕ) (h : AskedRange s w e lsb n) where
       signal : SignalIn s (exprWidth s e) k
       signal = rw is at (t .signals)
 
-      as-made : (j : Job) (xs ys : List ℕ) → Read (λ l. rangeKind (exprsOf s) false (stateOf s l w) e lsb n (exprWidth s e) k) s n j xs ys
-          → Read (λ l. buildRange (exprsOf s) false (stateOf s l w) e lsb n) s n j xs ys
+      as-made : {m : ℕ} (j : Job) (xs ys : List ℕ) → Read m (λ l. rangeKind (exprsOf s) false (stateOf s l w) e lsb n (exprWidth s e) k) s n j xs ys
+          → Read m (λ l. buildRange (exprsOf s) false (stateOf s l w) e lsb n) s n j xs ys
       as-made j xs ys p = record { says = λ l. made (stateOf s l w) ∙ p .says l; fits = p .fits }
 
     abbrev kindIs : (k : ExprKind) → x .kind ≡ k → (ranges.exprAt (exprsOf s) e) .kind ≡ kindMeans s (x .width) k
@@ -118,10 +115,10 @@ module _ (s w : List ℕ) (e lsb n : ℕ) (h : AskedRange s w e lsb n) where
       pub signal-few : first + lsb ≤ 1024
       signal-few = omega (arith, signal-in .1, t .laid .image .signalMost p (signal-in .0))
 
-      pub signal-read : (j : Job) (xs xs′ ys : List ℕ) → ((l : Netlist) → xs′ ≡ paste xs 0 (signalNets (stateOf s l w) p (first + lsb) n) n)
-          → j ≡ record { task = T.Copied; narrow = 0 } → Read (λ l. buildRange (exprsOf s) false (stateOf s l w) e lsb n) s n j xs′ ys
+      pub signal-read : {m : ℕ} → n ≤ m → (j : Job) (xs xs′ ys : List ℕ) → ((l : Netlist) → xs′ ≡ paste xs 0 (signalNets (stateOf s l w) p (first + lsb) n) n)
+          → j ≡ record { task = T.Copied; narrow = 0 } → Read m (λ l. buildRange (exprsOf s) false (stateOf s l w) e lsb n) s n j xs′ ys
       unfolding kindMeans
-      signal-read j xs xs′ ys c z =
+      signal-read most j xs xs′ ys c z =
           as-made (R.Signal p first) (kindIs (K.Signal p first) q) j xs′ ys
           (copied-read _ (λ l. signalNets (stateOf s l w) p (first + lsb) n) s n j xs′ ys (h .least) most z (λ l. refl)
           (λ l. paste-nets xs xs′ _ n (signals-long (stateOf s l w) p (first + lsb) n) (c l)))
@@ -138,18 +135,18 @@ module _ (s w : List ℕ) (e lsb n : ℕ) (h : AskedRange s w e lsb n) where
       pub slice-few : first + lsb ≤ 1024
       slice-few = omega (arith, slice-in .inside, t .readable .most a (slice-in .there))
 
-      pub slice-read : (j : Job) (xs xs′ ys : List ℕ) → ((l : Netlist) → xs′ ≡ paste xs 0 (rangeNets (stateOf s l w) a (first + lsb) n) n)
-          → j ≡ record { task = T.Copied; narrow = 0 } → Read (λ l. buildRange (exprsOf s) false (stateOf s l w) e lsb n) s n j xs′ ys
+      pub slice-read : {m : ℕ} → n ≤ m → (j : Job) (xs xs′ ys : List ℕ) → ((l : Netlist) → xs′ ≡ paste xs 0 (rangeNets (stateOf s l w) a (first + lsb) n) n)
+          → j ≡ record { task = T.Copied; narrow = 0 } → Read m (λ l. buildRange (exprsOf s) false (stateOf s l w) e lsb n) s n j xs′ ys
       unfolding kindMeans
-      slice-read j xs xs′ ys c z =
+      slice-read most j xs xs′ ys c z =
           as-made (R.Slice a first) (kindIs (K.Slice a first) q) j xs′ ys
           (copied-read _ (λ l. rangeNets (stateOf s l w) a (first + lsb) n) s n j xs′ ys (h .least) most z (λ l. refl)
           (λ l. paste-nets xs xs′ _ n (range-long s w l a (first + lsb) n (slice-in .there) (slice-in .inside)) (c l)))
 
     module _ (start : ℕ) (q : x .kind ≡ K.Constant start) where
-      pub constant-read : (xs ys : List ℕ) → Read (λ l. buildRange (exprsOf s) false (stateOf s l w) e lsb n) s n (record { task = T.Constant start (x .width) lsb; narrow = 0 }) xs ys
+      pub constant-read : {m : ℕ} → n ≤ m → (xs ys : List ℕ) → Read m (λ l. buildRange (exprsOf s) false (stateOf s l w) e lsb n) s n (record { task = T.Constant start (x .width) lsb; narrow = 0 }) xs ys
       unfolding kindMeans taskMade narrowOf cutTo
-      constant-read xs ys =
+      constant-read most xs ys =
           let g : Listed (exprWidth s e) (K.Constant start) = rw q at (listed-read s (t .readable) e (t .inside) x d) in
           as-made (R.Constant (constantOf s (x .width) start)) (kindIs (K.Constant start) q) _ xs ys (record {
             says = λ l. rw width-is;
@@ -161,8 +158,8 @@ module _ (s w : List ℕ) (e lsb n : ℕ) (h : AskedRange s w e lsb n) where
       unfolding kindMeans
       unary-in b = same-range a (low (R.Un (unaryMeans op) a) (kindIs (K.Unary op a) q)) (not-width op _ _ b (wide (R.Un (unaryMeans op) a) (kindIs (K.Unary op a) q)))
 
-      pub unary-made : (j : Job) (xs ys : List ℕ) → Read (λ l. notMade (isBitNot (unaryMeans op)) (stateOf s l w) e a lsb n) s n j xs ys
-          → Read (λ l. buildRange (exprsOf s) false (stateOf s l w) e lsb n) s n j xs ys
+      pub unary-made : {m : ℕ} (j : Job) (xs ys : List ℕ) → Read m (λ l. notMade (isBitNot (unaryMeans op)) (stateOf s l w) e a lsb n) s n j xs ys
+          → Read m (λ l. buildRange (exprsOf s) false (stateOf s l w) e lsb n) s n j xs ys
       unfolding kindMeans
       unary-made j xs ys r = as-made (R.Un (unaryMeans op) a) (kindIs (K.Unary op a) q) j xs ys r
 
@@ -174,8 +171,8 @@ module _ (s w : List ℕ) (e lsb n : ℕ) (h : AskedRange s w e lsb n) where
           let o = gate-width op _ _ _ g (wide (R.Bin (binaryMeans op) a b) (kindIs (K.Binary op a b) q)) in
           (same-range a (l .0) (o .0), same-range b (l .1) (o .1))
 
-      pub binary-made : (j : Job) (xs ys : List ℕ) → Read (λ l. rangeGate (gateOf (classOf (binaryMeans op))) (stateOf s l w) e a b lsb n) s n j xs ys
-          → Read (λ l. buildRange (exprsOf s) false (stateOf s l w) e lsb n) s n j xs ys
+      pub binary-made : {m : ℕ} (j : Job) (xs ys : List ℕ) → Read m (λ l. rangeGate (gateOf (classOf (binaryMeans op))) (stateOf s l w) e a b lsb n) s n j xs ys
+          → Read m (λ l. buildRange (exprsOf s) false (stateOf s l w) e lsb n) s n j xs ys
       unfolding kindMeans
       binary-made j xs ys r = as-made (R.Bin (binaryMeans op) a b) (kindIs (K.Binary op a b) q) j xs ys r
 
@@ -190,41 +187,41 @@ module _ (s w : List ℕ) (e lsb n : ℕ) (h : AskedRange s w e lsb n) where
             same-range b (l .2) (o .2),
           )
 
-      pub mux-made : (j : Job) (xs ys : List ℕ)
-          → Read (λ l. buildMux none (wholeNet (stateOf s l w) c 0) (rangeNets (stateOf s l w) a lsb n) (rangeNets (stateOf s l w) b lsb n) l) s n j xs ys
-          → Read (λ l. buildRange (exprsOf s) false (stateOf s l w) e lsb n) s n j xs ys
+      pub mux-made : {m : ℕ} (j : Job) (xs ys : List ℕ)
+          → Read m (λ l. buildMux none (wholeNet (stateOf s l w) c 0) (rangeNets (stateOf s l w) a lsb n) (rangeNets (stateOf s l w) b lsb n) l) s n j xs ys
+          → Read m (λ l. buildRange (exprsOf s) false (stateOf s l w) e lsb n) s n j xs ys
       unfolding kindMeans
       mux-made j xs ys r = as-made (R.Mux c a b) (kindIs (K.Mux c a b) q) j xs ys r
 
-    module _ (start m : ℕ) (q : x .kind ≡ K.Concat start m) where
-      pub parts-in : PartsIn s start m
+    module _ (start k : ℕ) (q : x .kind ≡ K.Concat start k) where
+      pub parts-in : PartsIn s start k
       unfolding kindMeans listOf
       parts-in =
           let f : ℕ → ℕ = λ i. listWord s (start + i) in
-          let g : Listed (exprWidth s e) (K.Concat start m) = rw q at (listed-read s (t .readable) e (t .inside) x d) in
-          let l = low (R.Concat (partsOf s start m)) (kindIs (K.Concat start m) q) in
+          let g : Listed (exprWidth s e) (K.Concat start k) = rw q at (listed-read s (t .readable) e (t .inside) x d) in
+          let l = low (R.Concat (partsOf s start k)) (kindIs (K.Concat start k) q) in
           record {
             room = g;
             there = λ i v.
                 let z : 0 + i ≡ i = omega arith in
-                let lo : f (0 + i) < e = below-each e f 0 m l i v in
+                let lo : f (0 + i) < e = below-each e f 0 k l i v in
                 let r : f (0 + i) < countAt s 1 = omega (arith, t .inside) in
                 rw z at r;
           }
 
-      pub parts-wide : partsWidth s start m ≡ exprWidth s e
+      pub parts-wide : partsWidth s start k ≡ exprWidth s e
       unfolding kindMeans listOf sumTo
       parts-wide =
-          let o : WidthOk (widthAt (exprsOf s)) (exprWidth s e) (R.Concat (partsOf s start m)) = wide (R.Concat (partsOf s start m)) (kindIs (K.Concat start m) q) in
-          let z : 0 + m ≡ m = omega arith in
-          let r = sums (λ i. listWord s (start + i)) (widthAt (exprsOf s)) (λ i. exprWidth s (listWord s (start + i))) 0 m (λ i u.
+          let o : WidthOk (widthAt (exprsOf s)) (exprWidth s e) (R.Concat (partsOf s start k)) = wide (R.Concat (partsOf s start k)) (kindIs (K.Concat start k) q) in
+          let z : 0 + k ≡ k = omega arith in
+          let r = sums (λ i. listWord s (start + i)) (widthAt (exprsOf s)) (λ i. exprWidth s (listWord s (start + i))) 0 k (λ i u.
           let y : 0 + i ≡ i = omega arith in
           rw y (width-at s (t .readable) (listWord s (start + i)) (parts-in .there i u))) in
           omega (arith, ap (partsWidth s start) z, r, o)
 
-      pub pieces-read : (j : Job) (xs ys : List ℕ) → ((l : Netlist) → take n xs ≡ pieceNets (stateOf s l w) (concatPieces (exprsOf s) (partsOf s start m) lsb n))
-          → j ≡ record { task = T.Copied; narrow = 0 } → Read (λ l. buildRange (exprsOf s) false (stateOf s l w) e lsb n) s n j xs ys
+      pub pieces-read : {m : ℕ} → n ≤ m → (j : Job) (xs ys : List ℕ) → ((l : Netlist) → take n xs ≡ pieceNets (stateOf s l w) (concatPieces (exprsOf s) (partsOf s start k) lsb n))
+          → j ≡ record { task = T.Copied; narrow = 0 } → Read m (λ l. buildRange (exprsOf s) false (stateOf s l w) e lsb n) s n j xs ys
       unfolding kindMeans
-      pieces-read j xs ys c z =
-          as-made (R.Concat (partsOf s start m)) (kindIs (K.Concat start m) q) j xs ys
-          (copied-read _ (λ l. pieceNets (stateOf s l w) (concatPieces (exprsOf s) (partsOf s start m) lsb n)) s n j xs ys (h .least) most z (λ l. refl) c)
+      pieces-read most j xs ys c z =
+          as-made (R.Concat (partsOf s start k)) (kindIs (K.Concat start k) q) j xs ys
+          (copied-read _ (λ l. pieceNets (stateOf s l w) (concatPieces (exprsOf s) (partsOf s start k) lsb n)) s n j xs ys (h .least) most z (λ l. refl) c)

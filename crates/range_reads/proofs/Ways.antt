@@ -32,52 +32,49 @@ use Rattle.fusion.specs.Fusion.{partsOf}
 use Rattle.operands.specs.Reads.{partsWidth}
 use Rattle.table_view.specs.Rows.{sum-suc}
 use Rattle.table_view.specs.Bounds.{expr-width}
-use Rattle.table_view.specs.View.{stateOf, Laid}
+use Rattle.table_view.specs.View.{stateOf}
 use Rattle.tasks.specs.Tasks.{taskMade, narrowOf, cutTo, Read}
 use Rattle.tasks.specs.declared.Task.the-variants as T
 use Rattle.whole_reads.proofs.Ways.{paste-nets, range-long}
 use Rattle.range_reads.specs.Asked.{Within, isBitwise, notMade, piece, CopiedPiece, PartsIn}
 
-module _ (s w : List ℕ) (h : Laid s w) where
+module _ (s w : List ℕ) where
   -- a copy of a range
   range-read : (xs xs′ : List ℕ) (a lsb n : ℕ) → Within s a lsb n → ((l : Netlist) → xs′ ≡ paste xs 0 (rangeNets (stateOf s l w) a lsb n) n)
       → (l : Netlist) → take n xs′ ≡ rangeNets (stateOf s l w) a lsb n
   range-read xs xs′ a lsb n u c l = paste-nets xs xs′ (rangeNets (stateOf s l w) a lsb n) n (range-long s w l a lsb n (u .there) (u .inside)) (c l)
 
-  pub most : (a lsb n : ℕ) → Within s a lsb n → n ≤ 1024
-  most a lsb n u = omega (arith, u .inside, h .image .exprMost a (u .there))
-
-  own : (e lsb n : ℕ) (xs xs′ ys : List ℕ) (model : Netlist → Made (List ℕ)) → Within s e lsb n → 1 ≤ n
+  own : {m : ℕ} (e lsb n : ℕ) (xs xs′ ys : List ℕ) (model : Netlist → Made (List ℕ)) → Within s e lsb n → 1 ≤ n → n ≤ m
       → ((l : Netlist) → model l ≡ done (rangeNets (stateOf s l w) e lsb n, l)) → ((l : Netlist) → xs′ ≡ paste xs 0 (rangeNets (stateOf s l w) e lsb n) n)
-      → Read model s n (record { task = T.Copied; narrow = 0 }) xs′ ys
+      → Read m model s n (record { task = T.Copied; narrow = 0 }) xs′ ys
   unfolding taskMade narrowOf cutTo
-  own e lsb n xs xs′ ys model u least m c = record {
-    says = λ l. m l ∙ ap (λ (ns : List ℕ). done (ns, l)) (sym (range-read xs xs′ e lsb n u c l));
-    fits = record { least = least; most = most e lsb n u; narrow = omega arith; task = tt };
+  own e lsb n xs xs′ ys model u least most q c = record {
+    says = λ l. q l ∙ ap (λ (ns : List ℕ). done (ns, l)) (sym (range-read xs xs′ e lsb n u c l));
+    fits = record { least = least; most = most; narrow = omega arith; task = tt };
   }
 
-  pub not-read : (e lsb n a : ℕ) (op : UnaryOp) (xs xs′ ys : List ℕ) → op ≡ U.BitNot → Within s a lsb n → 1 ≤ n
+  pub not-read : {m : ℕ} (e lsb n a : ℕ) (op : UnaryOp) (xs xs′ ys : List ℕ) → op ≡ U.BitNot → Within s a lsb n → 1 ≤ n → n ≤ m
       → ((l : Netlist) → xs′ ≡ paste xs 0 (rangeNets (stateOf s l w) a lsb n) n)
-      → Read (λ l. notMade (isBitNot (unaryMeans op)) (stateOf s l w) e a lsb n) s n (record { task = T.Unary U.BitNot n; narrow = 0 }) xs′ ys
+      → Read m (λ l. notMade (isBitNot (unaryMeans op)) (stateOf s l w) e a lsb n) s n (record { task = T.Unary U.BitNot n; narrow = 0 }) xs′ ys
   unfolding taskMade narrowOf cutTo unaryMeans lowerUnary
-  not-read e lsb n a op xs xs′ ys q u least c = record {
+  not-read e lsb n a op xs xs′ ys q u least most c = record {
     says = λ l. rw (q, range-read xs xs′ a lsb n u c l);
-    fits = record { least = least; most = most a lsb n u; narrow = omega arith; task = (refl, least, most a lsb n u) };
+    fits = record { least = least; most = most; narrow = omega arith; task = (refl, least, most) };
   }
 
-  pub not-other : (e lsb n a : ℕ) (op : UnaryOp) (xs xs′ ys : List ℕ) → isBitNot (unaryMeans op) ≡ false → Within s e lsb n → 1 ≤ n
+  pub not-other : {m : ℕ} (e lsb n a : ℕ) (op : UnaryOp) (xs xs′ ys : List ℕ) → isBitNot (unaryMeans op) ≡ false → Within s e lsb n → 1 ≤ n → n ≤ m
       → ((l : Netlist) → xs′ ≡ paste xs 0 (rangeNets (stateOf s l w) e lsb n) n)
-      → Read (λ l. notMade (isBitNot (unaryMeans op)) (stateOf s l w) e a lsb n) s n (record { task = T.Copied; narrow = 0 }) xs′ ys
-  not-other e lsb n a op xs xs′ ys q u least c = own e lsb n xs xs′ ys _ u least (λ l. rw q) c
+      → Read m (λ l. notMade (isBitNot (unaryMeans op)) (stateOf s l w) e a lsb n) s n (record { task = T.Copied; narrow = 0 }) xs′ ys
+  not-other e lsb n a op xs xs′ ys q u least most c = own e lsb n xs xs′ ys _ u least most (λ l. rw q) c
 
-  pub mux-read : (lsb n c t e k : ℕ) (xs xs′ ys ys′ : List ℕ) → Within s t lsb n → Within s e lsb n → 1 ≤ n
+  pub mux-read : {m : ℕ} (lsb n c t e k : ℕ) (xs xs′ ys ys′ : List ℕ) → Within s t lsb n → Within s e lsb n → 1 ≤ n → n ≤ m
       → ((l : Netlist) → k ≡ wholeNet (stateOf s l w) c 0)
       → ((l : Netlist) → xs′ ≡ paste xs 0 (rangeNets (stateOf s l w) t lsb n) n) → ((l : Netlist) → ys′ ≡ paste ys 0 (rangeNets (stateOf s l w) e lsb n) n)
-      → Read (λ l. buildMux none (wholeNet (stateOf s l w) c 0) (rangeNets (stateOf s l w) t lsb n) (rangeNets (stateOf s l w) e lsb n) l) s n (record { task = T.Mux k; narrow = 0 }) xs′ ys′
+      → Read m (λ l. buildMux none (wholeNet (stateOf s l w) c 0) (rangeNets (stateOf s l w) t lsb n) (rangeNets (stateOf s l w) e lsb n) l) s n (record { task = T.Mux k; narrow = 0 }) xs′ ys′
   unfolding taskMade narrowOf cutTo
-  mux-read lsb n c t e k xs xs′ ys ys′ u v least q p r = record {
+  mux-read lsb n c t e k xs xs′ ys ys′ u v least most q p r = record {
     says = λ l. rw (← q l, range-read xs xs′ t lsb n u p l, range-read ys ys′ e lsb n v r l);
-    fits = record { least = least; most = most t lsb n u; narrow = omega arith; task = tt };
+    fits = record { least = least; most = most; narrow = omega arith; task = tt };
   }
 
 -- ---- operators bit by bit ----
@@ -134,24 +131,24 @@ no-gate B.ShiftLeft q = refl
 no-gate B.ShiftRightLogical q = refl
 no-gate B.ShiftRightArithmetic q = refl
 
-module _ (s w : List ℕ) (h : Laid s w) (e lsb n : ℕ) (op : BinaryOp) (a b : ℕ) (least : 1 ≤ n) where
+module _ (s w : List ℕ) (e lsb n : ℕ) (op : BinaryOp) (a b : ℕ) (least : 1 ≤ n) (m : ℕ) (most : n ≤ m) where
   pub gate-read : (xs xs′ ys ys′ : List ℕ) → isBitwise op ≡ true → Within s a lsb n → Within s b lsb n
       → ((l : Netlist) → xs′ ≡ paste xs 0 (rangeNets (stateOf s l w) a lsb n) n) → ((l : Netlist) → ys′ ≡ paste ys 0 (rangeNets (stateOf s l w) b lsb n) n)
-      → Read (λ l. rangeGate (gateOf (classOf (binaryMeans op))) (stateOf s l w) e a b lsb n) s n (record { task = T.Binary op n n; narrow = 0 }) xs′ ys′
+      → Read m (λ l. rangeGate (gateOf (classOf (binaryMeans op))) (stateOf s l w) e a b lsb n) s n (record { task = T.Binary op n n; narrow = 0 }) xs′ ys′
   unfolding taskMade narrowOf cutTo
   gate-read xs xs′ ys ys′ q u v p r = record {
-    says = λ l. bitwise-gate op q (stateOf s l w) e a b lsb n .0 ∙ rw (range-read s w h xs xs′ a lsb n u p l, range-read s w h ys ys′ b lsb n v r l);
+    says = λ l. bitwise-gate op q (stateOf s l w) e a b lsb n .0 ∙ rw (range-read s w xs xs′ a lsb n u p l, range-read s w ys ys′ b lsb n v r l);
     fits = record {
       least = least;
-      most = most s w h a lsb n u;
+      most = most;
       narrow = omega arith;
-      task = (bitwise-gate op q (stateOf s (record { maxNets = 0; maxList = 0; nodes = []; records = [] }) w) e a b lsb n .1, least, most s w h a lsb n u, least, most s w h a lsb n u);
+      task = (bitwise-gate op q (stateOf s (record { maxNets = 0; maxList = 0; nodes = []; records = [] }) w) e a b lsb n .1, least, most, least, most);
     };
   }
 
   pub gate-other : (xs xs′ ys : List ℕ) → isBitwise op ≡ false → Within s e lsb n → ((l : Netlist) → xs′ ≡ paste xs 0 (rangeNets (stateOf s l w) e lsb n) n)
-      → Read (λ l. rangeGate (gateOf (classOf (binaryMeans op))) (stateOf s l w) e a b lsb n) s n (record { task = T.Copied; narrow = 0 }) xs′ ys
-  gate-other xs xs′ ys q u c = own s w h e lsb n xs xs′ ys _ u least (λ l. rw (no-gate op q)) c
+      → Read m (λ l. rangeGate (gateOf (classOf (binaryMeans op))) (stateOf s l w) e a b lsb n) s n (record { task = T.Copied; narrow = 0 }) xs′ ys
+  gate-other xs xs′ ys q u c = own s w e lsb n xs xs′ ys _ u least most (λ l. rw (no-gate op q)) c
 
 -- ---- the parts of a Concat ----
 

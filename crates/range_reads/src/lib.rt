@@ -33,8 +33,8 @@ fn range_unary(
     a: u32,
     xs: &mut [u32],
 ) -> Job
-    requires { ⌜ (Laid (now image) (now scr)) × (Within (now image) e lsb n) × (isBitNot (unaryMeans op) ≡ true → Within (now image) a lsb n) × (1 ≤ n) × (length (now xs) ≡ 1024) ⌝ }
-    ensures { λ r. ⌜ ((ys : List ℕ) → Read (λ l. notMade (isBitNot (unaryMeans op)) (stateOf (now (image .entry)) l (now (scr .entry))) e a lsb n) (now (image .entry)) n r (now (xs .exit)) ys) ⌝ }
+    requires { ⌜ (Laid (now image) (now scr)) × (Within (now image) e lsb n) × (isBitNot (unaryMeans op) ≡ true → Within (now image) a lsb n) × (1 ≤ n) × (n ≤ length (now xs)) ⌝ }
+    ensures { λ r. ⌜ ((ys : List ℕ) → Read (length (now (xs .entry))) (λ l. notMade (isBitNot (unaryMeans op)) (stateOf (now (image .entry)) l (now (scr .entry))) e a lsb n) (now (image .entry)) n r (now (xs .exit)) ys) ⌝ }
 {
     match op {
         UnaryOp::BitNot => {
@@ -79,8 +79,8 @@ fn range_binary(
     xs: &mut [u32],
     ys: &mut [u32],
 ) -> Job
-    requires { ⌜ (Laid (now image) (now scr)) × (Within (now image) e lsb n) × (isBitwise op ≡ true → Within (now image) a lsb n) × (isBitwise op ≡ true → Within (now image) b lsb n) × (1 ≤ n) × (length (now xs) ≡ 1024) × (length (now ys) ≡ 1024) ⌝ }
-    ensures { λ r. ⌜ Read (λ l. rangeGate (gateOf (classOf (binaryMeans op))) (stateOf (now (image .entry)) l (now (scr .entry))) e a b lsb n) (now (image .entry)) n r (now (xs .exit)) (now (ys .exit)) ⌝ }
+    requires { ⌜ (Laid (now image) (now scr)) × (Within (now image) e lsb n) × (isBitwise op ≡ true → Within (now image) a lsb n) × (isBitwise op ≡ true → Within (now image) b lsb n) × (1 ≤ n) × (n ≤ length (now xs)) × (length (now ys) ≡ length (now xs)) ⌝ }
+    ensures { λ r. ⌜ Read (length (now (xs .entry))) (λ l. rangeGate (gateOf (classOf (binaryMeans op))) (stateOf (now (image .entry)) l (now (scr .entry))) e a b lsb n) (now (image .entry)) n r (now (xs .exit)) (now (ys .exit)) ⌝ }
 {
     if is_bitwise(op) {
         tables::copy_range(image, scr, a, lsb, n, xs, 0);
@@ -109,8 +109,8 @@ fn range_mux(
     xs: &mut [u32],
     ys: &mut [u32],
 ) -> Job
-    requires { ⌜ (Laid (now image) (now scr)) × (WholeIn (now image) (now scr) c) × (Within (now image) t lsb n) × (Within (now image) e lsb n) × (1 ≤ n) × (length (now xs) ≡ 1024) × (length (now ys) ≡ 1024) ⌝ }
-    ensures { λ r. ⌜ Read (λ l. buildMux none (wholeNet (stateOf (now (image .entry)) l (now (scr .entry))) c 0) (rangeNets (stateOf (now (image .entry)) l (now (scr .entry))) t lsb n) (rangeNets (stateOf (now (image .entry)) l (now (scr .entry))) e lsb n) l) (now (image .entry)) n r (now (xs .exit)) (now (ys .exit)) ⌝ }
+    requires { ⌜ (Laid (now image) (now scr)) × (WholeIn (now image) (now scr) c) × (Within (now image) t lsb n) × (Within (now image) e lsb n) × (1 ≤ n) × (n ≤ length (now xs)) × (length (now ys) ≡ length (now xs)) ⌝ }
+    ensures { λ r. ⌜ Read (length (now (xs .entry))) (λ l. buildMux none (wholeNet (stateOf (now (image .entry)) l (now (scr .entry))) c 0) (rangeNets (stateOf (now (image .entry)) l (now (scr .entry))) t lsb n) (rangeNets (stateOf (now (image .entry)) l (now (scr .entry))) e lsb n) l) (now (image .entry)) n r (now (xs .exit)) (now (ys .exit)) ⌝ }
 {
     let k = tables::expr_net(image, scr, c, 0);
     tables::copy_range(image, scr, t, lsb, n, xs, 0);
@@ -159,7 +159,7 @@ fn copy_piece(
 
 // The nets of the bits from lsb on, n of them, of a Concat's parts, the last part first.
 fn copy_pieces(image: &[u8], scr: &[u32], start: u32, count: u32, lsb: u32, n: u32, out: &mut [u32])
-    requires { ⌜ (Laid (now image) (now scr)) × (PartsIn (now image) start count) × (lsb + n ≤ partsWidth (now image) start count) × (partsWidth (now image) start count ≤ 1024) × (length (now out) ≡ 1024) ⌝ }
+    requires { ⌜ (Laid (now image) (now scr)) × (PartsIn (now image) start count) × (lsb + n ≤ partsWidth (now image) start count) × (partsWidth (now image) start count ≤ 1024) × (n ≤ length (now out)) ⌝ }
     ensures { λ _. ⌜ ((l : Netlist) → take n (now (out .exit)) ≡ pieceNets (stateOf (now (image .entry)) l (now (scr .entry))) (concatPieces (exprsOf (now (image .entry))) (partsOf (now (image .entry)) start count) lsb n)) ⌝ }
 {
     let end = lsb + n;
@@ -183,8 +183,8 @@ pub fn read_range(
     xs: &mut [u32],
     ys: &mut [u32],
 ) -> Job
-    requires { ⌜ (AskedRange (now image) (now scr) e lsb n) × (length (now xs) ≡ 1024) × (length (now ys) ≡ 1024) ⌝ }
-    ensures { λ r. ⌜ Read (λ l. buildRange (exprsOf (now (image .entry))) false (stateOf (now (image .entry)) l (now (scr .entry))) e lsb n) (now (image .entry)) n r (now (xs .exit)) (now (ys .exit)) ⌝ }
+    requires { ⌜ (AskedRange (now image) (now scr) e lsb n) × (n ≤ length (now xs)) × (length (now ys) ≡ length (now xs)) ⌝ }
+    ensures { λ r. ⌜ Read (length (now (xs .entry))) (λ l. buildRange (exprsOf (now (image .entry))) false (stateOf (now (image .entry)) l (now (scr .entry))) e lsb n) (now (image .entry)) n r (now (xs .exit)) (now (ys .exit)) ⌝ }
 {
     let x = records::expression_at(image, e);
     let width = x.width;

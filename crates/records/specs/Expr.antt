@@ -1,13 +1,15 @@
 -- The code's expression record: from the fields of the image, and the expression that it stands for.
-use Prim.Native.Nat.{ℕ, _+_}
+use Prim.Native.Nat.{ℕ, _+_, _*_, _<_}
 use mathlib.Core.List.{List, [], _∷_}
 use mathlib.Core.Path.{_≡_, refl, sym, ap, _∙_}
 use mathlib.Core.Bool.{Bool, true, false}
-use lib.ListN.{getD, List·getD-map}
+use lib.ListN.{take, drop, getD, List·getD-map}
+use lib.Dec.{lit≤}
+use native.Mathlib.Omega.{arith}
 use Rattle.rules.specs.Rules.{_≡?_, pick, listOf}
 use Rattle.rtl.specs.Rtl as R
 use Rattle.meaning.specs.Image as image
-use Rattle.fields.specs.Fields.{fieldIn}
+use Rattle.fields.specs.Fields.{fieldIn, word-in}
 use Rattle.records.specs.declared.UnaryOp.{UnaryOp}
 use Rattle.records.specs.declared.UnaryOp.the-variants as U
 use Rattle.records.specs.declared.BinaryOp.{BinaryOp}
@@ -47,6 +49,16 @@ kindOf k a b c =
 -- record r of the expressions' part of the image, and of the image
 unfoldable pub expressionIn : List ℕ → ℕ → Expression
 expressionIn p r = record { width = fieldIn p 1 r 1; kind = kindOf (fieldIn p 1 r 0) (fieldIn p 1 r 2) (fieldIn p 1 r 3) (fieldIn p 1 r 4) }
+
+-- a record's own bytes are enough
+field-own : (p : List ℕ) (at r f : ℕ) → at ≡ 20 * r → f < 5 → fieldIn (take 20 (drop at p)) 1 0 f ≡ fieldIn p 1 r f
+unfolding fieldIn image.sizeOf
+field-own p at r f e h = word-in p at 20 (0 * 20 + f * 4) (omega arith) ∙ ap (λ (k : ℕ). image.wordAt p k) (omega arith)
+
+pub expression-own : (p : List ℕ) (at r : ℕ) → at ≡ 20 * r → expressionIn (take 20 (drop at p)) 0 ≡ expressionIn p r
+unfolding expressionIn
+expression-own p at r e =
+    rw (field-own p at r 0 e (lit≤ tt), field-own p at r 1 e (lit≤ tt), field-own p at r 2 e (lit≤ tt), field-own p at r 3 e (lit≤ tt), field-own p at r 4 e (lit≤ tt))
 
 unfoldable pub expressionOf : List ℕ → ℕ → Expression
 expressionOf s r = expressionIn (image.part s 1) r

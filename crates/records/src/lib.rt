@@ -118,8 +118,23 @@ pub fn kind(k: u32, a: u32, b: u32, c: u32) -> ExprKind
     }
 }
 
-// Expression record r of the part of the image that begins at the expressions' offset.
-pub fn expression_in(part: &[u8], r: u32) -> Expression
+// The expression record that some bytes begin with.
+fn first_expression(p: &[u8]) -> Expression
+    ensures { λ x. ⌜ x ≡ expressionIn (now (p .entry)) 0 ⌝ }
+{
+    let k = fields::word(p, 0);
+    let width = fields::word(p, 4);
+    let a = fields::word(p, 8);
+    let b = fields::word(p, 12);
+    let c = fields::word(p, 16);
+    Expression {
+        width,
+        kind: kind(k, a, b, c),
+    }
+}
+
+// Expression record r near or past the end of the part.
+fn last_expression(part: &[u8], r: u32) -> Expression
     ensures { λ x. ⌜ x ≡ expressionIn (now (part .entry)) r ⌝ }
 {
     let k = fields::field(part, 1, r, 0);
@@ -131,6 +146,18 @@ pub fn expression_in(part: &[u8], r: u32) -> Expression
         width,
         kind: kind(k, a, b, c),
     }
+}
+
+// Expression record r of the part of the image that begins at the expressions' offset. A record that is there whole is lent by itself, so
+// that its five words are read without a test.
+pub fn expression_in(part: &[u8], r: u32) -> Expression
+    ensures { λ x. ⌜ x ≡ expressionIn (now (part .entry)) r ⌝ }
+{
+    let at = 20 * (r as usize);
+    if at + 20 <= part.len() {
+        return first_expression(&part[at..at + 20]);
+    }
+    last_expression(part, r)
 }
 
 // Expression r of the image.

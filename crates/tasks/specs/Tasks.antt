@@ -2,11 +2,11 @@
 use mathlib.Core.Path.{_≡_}
 use mathlib.Core.List.{List}
 use mathlib.Core.Option.{Option, none, some}
-use Prim.Native.Nat.{ℕ, zero, suc, _+_, _≤_}
+use Prim.Native.Nat.{ℕ, zero, suc, _+_, _≤_, _<_}
 use lib.ListN.{take, drop}
 use Rattle.rtl.specs.Word.{bits}
 use Rattle.meaning.specs.Image.{constantOf, constantWords}
-use Rattle.model.specs.Words.{Netlist}
+use Rattle.model.specs.Words.{absent, Netlist}
 use Rattle.model.specs.Builder as B
 use Rattle.model.specs.Builder.{Made, done, each, both, addConstant, addMux}
 use Rattle.model.specs.WordCells.{arithmetic}
@@ -33,28 +33,28 @@ narrowOf (suc k) = some (suc k)
 abbrev pub jobMade : List ℕ → ℕ → Job → List ℕ → List ℕ → Netlist → Made (List ℕ)
 jobMade s w j xs ys l = resized (narrowOf (j .narrow)) w (taskMade s w (j .task) xs ys l)
 
--- ---- widths ----
+-- ---- widths: each list has room for m nets; a carry is a net ----
 
-abbrev pub Fits : ℕ → Task → Type 0
-Fits w Copied = Unit {0}
-Fits w (Constant start v lsb) = (lsb + w ≤ v) × (v ≤ 1024) × (start + constantWords v ≤ 8192)
-Fits w (Unary op k) = UnWidth (unaryMeans op) w k × (1 ≤ k) × (k ≤ 1024)
-Fits w (Binary op j k) = BinWidth (binaryMeans op) w j k × (1 ≤ j) × (j ≤ 1024) × (1 ≤ k) × (k ≤ 1024)
-Fits w (Carried k c) = (k ≡ w) × (1 ≤ k) × (k ≤ 1024)
-Fits w (Mux c) = Unit {0}
+abbrev pub Fits : ℕ → ℕ → Task → Type 0
+Fits m w Copied = Unit {0}
+Fits m w (Constant start v lsb) = (lsb + w ≤ v) × (v ≤ 1024) × (start + constantWords v ≤ 8192)
+Fits m w (Unary op k) = UnWidth (unaryMeans op) w k × (1 ≤ k) × (k ≤ m)
+Fits m w (Binary op j k) = BinWidth (binaryMeans op) w j k × (1 ≤ j) × (j ≤ m) × (1 ≤ k) × (k ≤ m)
+Fits m w (Carried k c) = (k ≡ w) × (1 ≤ k) × (k ≤ m) × (c < absent)
+Fits m w (Mux c) = Unit {0}
 
 -- the width of the task of a job of width w
 unfoldable pub cutTo : ℕ → ℕ → ℕ
 cutTo zero w = w
 cutTo (suc k) w = suc k
 
-pub record JobFits (w : ℕ) (j : Job) : Type 0 where
+pub record JobFits (m w : ℕ) (j : Job) : Type 0 where
   pub least : 1 ≤ w
-  pub most : w ≤ 1024
+  pub most : w ≤ m
   pub narrow : j .narrow ≤ w
-  pub task : Fits (cutTo (j .narrow) w) (j .task)
+  pub task : Fits m (cutTo (j .narrow) w) (j .task)
 
 -- the lists that were read and the job give what the model makes, whatever the netlist
-pub record Read (model : Netlist → Made (List ℕ)) (s : List ℕ) (w : ℕ) (j : Job) (xs ys : List ℕ) : Type 0 where
+pub record Read (m : ℕ) (model : Netlist → Made (List ℕ)) (s : List ℕ) (w : ℕ) (j : Job) (xs ys : List ℕ) : Type 0 where
   pub says : (l : Netlist) → model l ≡ jobMade s w j xs ys l
-  pub fits : JobFits w j
+  pub fits : JobFits m w j

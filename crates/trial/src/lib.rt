@@ -250,17 +250,16 @@ fn arithmetic_words(
     idx: &mut [u32],
     n: u32,
     op: ArithmeticOp,
-    lhs: &[u32],
-    rhs: &[u32],
     carry: u32,
-    out: &mut [u32],
+    xs: &mut [u32],
+    ys: &[u32],
 ) -> Added
-    requires { ⌜ (Held n (now net) (now idx)) × (length (now rhs) ≡ length (now lhs)) × (length (now out) ≡ length (now lhs)) × (0 < length (now lhs)) × (length (now lhs) ≤ 1024) × (PlainNots (netlistOf n (now net))) ⌝ }
-    ensures { λ r. ⌜ Steps (digestOf (W.arithmetic (folded.opOf op) (now (lhs .entry)) (now (rhs .entry)) (folded.carryOf carry) (netlistOf n (now (net .entry))))) n r (now (net .exit)) (now (idx .exit)) ⌝ }
+    requires { ⌜ (Held n (now net) (now idx)) × (0 < length (now xs)) × (length (now xs) ≡ length (now ys)) × (length (now xs) ≤ 1024) × (PlainNots (netlistOf n (now net))) ⌝ }
+    ensures { λ r. ⌜ Steps (digestOf (W.arithmetic (folded.opOf op) (now (xs .entry)) (now (ys .entry)) (folded.carryOf carry) (netlistOf n (now (net .entry))))) n r (now (net .exit)) (now (idx .exit)) ⌝ }
 {
-    let made = word_cells::arithmetic(net, idx, n, op, lhs, rhs, carry, out);
+    let made = word_cells::arithmetic(net, idx, n, op, carry, xs, ys);
     match made {
-        Filled::Done => Added::Net(digest(out)),
+        Filled::Done => Added::Net(digest(xs)),
         Filled::TooManyNets => Added::TooManyNets,
         Filled::ListFull => Added::ListFull,
     }
@@ -281,20 +280,10 @@ fn arithmetic_step(
     requires { ⌜ (Held n (now net) (now idx)) × (0 < w) × (w ≤ 1024) × (PlainNots (netlistOf n (now net))) ⌝ }
     ensures { λ r. ⌜ Steps (arithmeticStep op w a b carry (now (pool .entry)) (netlistOf n (now (net .entry)))) n r (now (net .exit)) (now (idx .exit)) ⌝ }
 {
-    let lhs = some_nets(net, pool, a, w);
+    let mut lhs = some_nets(net, pool, a, w);
     let rhs = some_nets(net, pool, b, w);
-    let mut out = [0u32; 1024];
     let kind = arithmetic_op(op);
-    arithmetic_words(
-        net,
-        idx,
-        n,
-        kind,
-        &lhs[..w],
-        &rhs[..w],
-        carry,
-        &mut out[..w],
-    )
+    arithmetic_words(net, idx, n, kind, carry, &mut lhs[..w], &rhs[..w])
 }
 
 fn comparison_op(op: u32) -> ComparisonOp

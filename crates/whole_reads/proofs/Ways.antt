@@ -30,7 +30,8 @@ use Rattle.records.specs.declared.BinaryOp.the-variants as B
 use Rattle.records.specs.declared.Expression.{Expression}
 use Rattle.records.specs.declared.ExprKind.{ExprKind}
 use Rattle.records.specs.declared.ExprKind.the-variants as K
-use Rattle.expr_laws.specs.Exprs.{exprsOf, Listed, width-at, in-exprs, width-least, width-read, kind-read, listed-read}
+use Rattle.expr_laws.specs.Exprs.{exprsOf, Listed, Readable, width-at, in-exprs, width-least, width-read, kind-read, listed-read}
+use Rattle.records.proofs.ExprKind.{the-type as kind-type}
 use Rattle.op_class.specs.OpClass.{opClassOf, addsOf, add-class}
 use Rattle.op_class.specs.declared.OpClass.{OpClass}
 use Rattle.op_class.proofs.OpClass.{the-type}
@@ -43,7 +44,7 @@ use Rattle.tasks.specs.Tasks.{taskMade, narrowOf, cutTo, Read}
 use Rattle.tasks.specs.declared.Task.the-variants as T
 use Rattle.tasks.specs.declared.Job.{Job}
 use Rattle.operands.specs.Reads.{IsWhole, WholeIn, Parts, partsWidth, MuxIn, OperandsIn, AddIn, addMade}
-use Rattle.whole_reads.specs.Asked.{AllWhole, SignalIn, Tabled, Asked, BinaryIn}
+use Rattle.whole_reads.specs.Asked.{AllWhole, SignalIn, SidesFit, Room, Tabled, Asked, BinaryIn}
 
 -- ---- operators with two operands ----
 
@@ -100,11 +101,11 @@ module _ (s w : List ℕ) (e : ℕ) (op : BinaryOp) (a b : ℕ) (h : BinaryIn s 
         operands = rw m at operands-in;
       }
 
-  pub add-made : (r : OpClass) (j : Job) (xs ys : List ℕ) → r ≡ opClassOf op → r ≡ C.Adds → Read (λ l. addMade s l w e a b) s (exprWidth s e) j xs ys
-      → Read (λ l. buildBinary (exprsOf s) (stateOf s l w) e (exprWidth s e) (binaryMeans op) a b) s (exprWidth s e) j xs ys
+  pub add-made : {m : ℕ} (r : OpClass) (j : Job) (xs ys : List ℕ) → r ≡ opClassOf op → r ≡ C.Adds → Read m (λ l. addMade s l w e a b) s (exprWidth s e) j xs ys
+      → Read m (λ l. buildBinary (exprsOf s) (stateOf s l w) e (exprWidth s e) (binaryMeans op) a b) s (exprWidth s e) j xs ys
   add-made r j xs ys q z p =
-      let m : binaryMeans op ≡ R.Add = adds-add op (ap addsOf (sym q ∙ z)) in
-      record { says = λ l. ap (λ (o : R.Binary). buildBinary (exprsOf s) (stateOf s l w) e (exprWidth s e) o a b) m ∙ p .says l; fits = p .fits }
+      let is : binaryMeans op ≡ R.Add = adds-add op (ap addsOf (sym q ∙ z)) in
+      record { says = λ l. ap (λ (o : R.Binary). buildBinary (exprsOf s) (stateOf s l w) e (exprWidth s e) o a b) is ∙ p .says l; fits = p .fits }
 
   module _ (no : isAdd (classOf (binaryMeans op)) ≡ false) where
     plain : operandsOf (exprsOf s) (binaryMeans op) a b ≡ record { lhs = a; rhs = b; carry = none }
@@ -123,12 +124,12 @@ module _ (s w : List ℕ) (e : ℕ) (op : BinaryOp) (a b : ℕ) (h : BinaryIn s 
         let o : WidthOk (widthAt (exprsOf s)) (widthAt (exprsOf s) e) (R.Bin (binaryMeans op) a b) = rw (h .is) at (t .readable .formed .wide e (in-exprs s (t .readable) e (t .inside))) in
         rw (width-at s (t .readable) e (t .inside), width-at s (t .readable) a (plain-in .lhs .there), width-at s (t .readable) b (plain-in .rhs .there)) at o
 
-    pub plain-made : (j : Job) (v : ℕ) (xs ys : List ℕ) → v ≡ exprWidth s e
-        → Read (λ l. lowerBinary (binaryMeans op) (wholeNets (stateOf s l w) a) (wholeNets (stateOf s l w) b) l) s v j xs ys
-        → Read (λ l. buildBinary (exprsOf s) (stateOf s l w) e (exprWidth s e) (binaryMeans op) a b) s (exprWidth s e) j xs ys
+    pub plain-made : {m : ℕ} (j : Job) (v : ℕ) (xs ys : List ℕ) → v ≡ exprWidth s e
+        → Read m (λ l. lowerBinary (binaryMeans op) (wholeNets (stateOf s l w) a) (wholeNets (stateOf s l w) b) l) s v j xs ys
+        → Read m (λ l. buildBinary (exprsOf s) (stateOf s l w) e (exprWidth s e) (binaryMeans op) a b) s (exprWidth s e) j xs ys
     unfolding buildBinary
-    plain-made j v xs ys q p =
-        let r : Read (λ l. lowerBinary (binaryMeans op) (wholeNets (stateOf s l w) a) (wholeNets (stateOf s l w) b) l) s (exprWidth s e) j xs ys = rw q at p in
+    plain-made {m} j v xs ys q p =
+        let r : Read m (λ l. lowerBinary (binaryMeans op) (wholeNets (stateOf s l w) a) (wholeNets (stateOf s l w) b) l) s (exprWidth s e) j xs ys = rw q at p in
         record { says = λ l. rw (no, plain) (r .says l); fits = r .fits }
 
 -- another operator than an Add
@@ -148,11 +149,11 @@ paste-nets xs xs′ ns n h p =
     ap (take n) p ∙ ap (λ (j : ℕ). take j (paste xs 0 ns n)) (sym (zero-add n)) ∙ take-paste xs 0 ns n (omega arith) (omega arith)
     ∙ ap (λ (j : ℕ). take j ns) (sym h) ∙ take-length ns
 
-pub copied-read : (model : Netlist → Made (List ℕ)) (f : Netlist → List ℕ) (s : List ℕ) (v : ℕ) (j : Job) (xs ys : List ℕ) → 1 ≤ v → v ≤ 1024
-    → j ≡ record { task = T.Copied; narrow = 0 } → ((l : Netlist) → model l ≡ done (f l, l)) → ((l : Netlist) → take v xs ≡ f l) → Read model s v j xs ys
+pub copied-read : {m : ℕ} (model : Netlist → Made (List ℕ)) (f : Netlist → List ℕ) (s : List ℕ) (v : ℕ) (j : Job) (xs ys : List ℕ) → 1 ≤ v → v ≤ m
+    → j ≡ record { task = T.Copied; narrow = 0 } → ((l : Netlist) → model l ≡ done (f l, l)) → ((l : Netlist) → take v xs ≡ f l) → Read m model s v j xs ys
 unfolding taskMade narrowOf cutTo
-copied-read model f s v j xs ys least most q m n = rw q (record {
-  says = λ l. m l ∙ ap (λ (ns : List ℕ). done (ns, l)) (sym (n l));
+copied-read model f s v j xs ys least most q o n = rw q (record {
+  says = λ l. o l ∙ ap (λ (ns : List ℕ). done (ns, l)) (sym (n l));
   fits = record { least = least; most = most; narrow = omega arith; task = tt };
 })
 
@@ -214,6 +215,9 @@ module _ (s w : List ℕ) (e : ℕ) (h : Asked s w e) (x : Expression) (d : Deco
   pub most : x .width ≤ 1024
   most = omega (arith, width-is, t .readable .most e (t .inside))
 
+  pub fit : {m : ℕ} → Room s m e → x .width ≤ m
+  fit r = omega (arith, width-is, r .most)
+
   module _ (k : R.Kind) (is : (ranges.exprAt (exprsOf s) e) .kind ≡ k) where
     made : (st : State) → buildWhole (exprsOf s) false st e ≡ buildKind (exprsOf s) false st e (exprWidth s e) k
     unfolding buildWhole
@@ -233,11 +237,14 @@ module _ (s w : List ℕ) (e : ℕ) (h : Asked s w e) (x : Expression) (d : Deco
     signal = rw is at (t .signals)
 
     -- what was read by the width of the record
-    pub by-width : (j : Job) (xs ys : List ℕ) (model : Netlist → Made (List ℕ)) → ((l : Netlist) → model l ≡ buildKind (exprsOf s) false (stateOf s l w) e (exprWidth s e) k)
-        → Read model s (x .width) j xs ys → Read (λ l. buildWhole (exprsOf s) false (stateOf s l w) e) s (exprWidth s e) j xs ys
-    by-width j xs ys model m p =
-        let r : Read model s (exprWidth s e) j xs ys = rw width-is at p in
-        record { says = λ l. made (stateOf s l w) ∙ sym (m l) ∙ r .says l; fits = r .fits }
+    pub by-width : {m : ℕ} (j : Job) (xs ys : List ℕ) (model : Netlist → Made (List ℕ)) → ((l : Netlist) → model l ≡ buildKind (exprsOf s) false (stateOf s l w) e (exprWidth s e) k)
+        → Read m model s (x .width) j xs ys → Read m (λ l. buildWhole (exprsOf s) false (stateOf s l w) e) s (exprWidth s e) j xs ys
+    by-width {m} j xs ys model o p =
+        let r : Read m model s (exprWidth s e) j xs ys = rw width-is at p in
+        record { says = λ l. made (stateOf s l w) ∙ sym (o l) ∙ r .says l; fits = r .fits }
+
+  sides-fit : (m : ℕ) → Room s m e → (k : R.Kind) → (ranges.exprAt (exprsOf s) e) .kind ≡ k → SidesFit s m k
+  sides-fit m o k is = rw is at (o .sides)
 
   abbrev kindIs : (k : ExprKind) → x .kind ≡ k → (ranges.exprAt (exprsOf s) e) .kind ≡ kindMeans s (x .width) k
   kindIs k q = kind-read s (t .readable) e (t .inside) x d ∙ ap (kindMeans s (x .width)) q
@@ -247,12 +254,12 @@ module _ (s w : List ℕ) (e : ℕ) (h : Asked s w e) (x : Expression) (d : Deco
     unfolding kindMeans
     signal-in = let g = signal (R.Signal p lsb) (kindIs (K.Signal p lsb) q) in (g .0, omega (arith, g .1, width-is))
 
-    pub signal-read : (j : Job) (xs xs′ ys : List ℕ) → ((l : Netlist) → xs′ ≡ paste xs 0 (signalNets (stateOf s l w) p lsb (x .width)) (x .width))
-        → j ≡ record { task = T.Copied; narrow = 0 } → Read (λ l. buildWhole (exprsOf s) false (stateOf s l w) e) s (exprWidth s e) j xs′ ys
+    pub signal-read : {m : ℕ} → Room s m e → (j : Job) (xs xs′ ys : List ℕ) → ((l : Netlist) → xs′ ≡ paste xs 0 (signalNets (stateOf s l w) p lsb (x .width)) (x .width))
+        → j ≡ record { task = T.Copied; narrow = 0 } → Read m (λ l. buildWhole (exprsOf s) false (stateOf s l w) e) s (exprWidth s e) j xs′ ys
     unfolding kindMeans
-    signal-read j xs xs′ ys c z =
+    signal-read o j xs xs′ ys c z =
         by-width (R.Signal p lsb) (kindIs (K.Signal p lsb) q) j xs′ ys (λ l. done (signalNets (stateOf s l w) p lsb (x .width), l)) (λ l. rw width-is)
-        (copied-read _ (λ l. signalNets (stateOf s l w) p lsb (x .width)) s (x .width) j xs′ ys least most z (λ l. refl)
+        (copied-read _ (λ l. signalNets (stateOf s l w) p lsb (x .width)) s (x .width) j xs′ ys least (fit o) z (λ l. refl)
         (λ l. paste-nets xs xs′ _ (x .width) (signals-long (stateOf s l w) p lsb (x .width)) (c l)))
 
   module _ (a lsb : ℕ) (q : x .kind ≡ K.Slice a lsb) where
@@ -264,25 +271,25 @@ module _ (s w : List ℕ) (e : ℕ) (h : Asked s w e) (x : Expression) (d : Deco
         let o : WidthOk (widthAt (exprsOf s)) (exprWidth s e) (R.Slice a lsb) = wide (R.Slice a lsb) (kindIs (K.Slice a lsb) q) in
         (u, omega (arith, width-is, width-at s (t .readable) a u))
 
-    pub slice-read : (j : Job) (xs xs′ ys : List ℕ) → ((l : Netlist) → xs′ ≡ paste xs 0 (rangeNets (stateOf s l w) a lsb (x .width)) (x .width))
-        → j ≡ record { task = T.Copied; narrow = 0 } → Read (λ l. buildWhole (exprsOf s) false (stateOf s l w) e) s (exprWidth s e) j xs′ ys
+    pub slice-read : {m : ℕ} → Room s m e → (j : Job) (xs xs′ ys : List ℕ) → ((l : Netlist) → xs′ ≡ paste xs 0 (rangeNets (stateOf s l w) a lsb (x .width)) (x .width))
+        → j ≡ record { task = T.Copied; narrow = 0 } → Read m (λ l. buildWhole (exprsOf s) false (stateOf s l w) e) s (exprWidth s e) j xs′ ys
     unfolding kindMeans
-    slice-read j xs xs′ ys c z =
+    slice-read o j xs xs′ ys c z =
         by-width (R.Slice a lsb) (kindIs (K.Slice a lsb) q) j xs′ ys (λ l. done (rangeNets (stateOf s l w) a lsb (x .width), l)) (λ l. rw width-is)
-        (copied-read _ (λ l. rangeNets (stateOf s l w) a lsb (x .width)) s (x .width) j xs′ ys least most z (λ l. refl)
+        (copied-read _ (λ l. rangeNets (stateOf s l w) a lsb (x .width)) s (x .width) j xs′ ys least (fit o) z (λ l. refl)
         (λ l. paste-nets xs xs′ _ (x .width) (range-long s w l a lsb (x .width) (slice-in .0) (slice-in .1)) (c l)))
 
   module _ (start : ℕ) (q : x .kind ≡ K.Constant start) where
-    pub constant-read : (xs ys : List ℕ) → Read (λ l. buildWhole (exprsOf s) false (stateOf s l w) e) s (exprWidth s e) (record { task = T.Constant start (x .width) 0; narrow = 0 }) xs ys
+    pub constant-read : {m : ℕ} → Room s m e → (xs ys : List ℕ) → Read m (λ l. buildWhole (exprsOf s) false (stateOf s l w) e) s (exprWidth s e) (record { task = T.Constant start (x .width) 0; narrow = 0 }) xs ys
     unfolding kindMeans taskMade narrowOf cutTo
-    constant-read xs ys =
+    constant-read o xs ys =
         let n = constantOf s (x .width) start in
         let g : Listed (exprWidth s e) (K.Constant start) = rw q at (listed-read s (t .readable) e (t .inside) x d) in
         let all : take (x .width) (bits (x .width) n) ≡ bits (x .width) n =
         ap (λ (k : ℕ). take k (bits (x .width) n)) (sym (length-bits (x .width) n)) ∙ take-length (bits (x .width) n) in
         by-width (R.Constant n) (kindIs (K.Constant start) q) _ xs ys _ (λ l. rw (all, width-is)) (record {
           says = λ l. refl;
-          fits = record { least = least; most = most; narrow = omega arith; task = (omega arith, most, rw width-is g) };
+          fits = record { least = least; most = fit o; narrow = omega arith; task = (omega arith, most, rw width-is g) };
         })
 
   module _ (op : UnaryOp) (a : ℕ) (q : x .kind ≡ K.Unary op a) where
@@ -292,14 +299,18 @@ module _ (s w : List ℕ) (e : ℕ) (h : Asked s w e) (x : Expression) (d : Deco
         let l : BelowE e (R.Un (unaryMeans op) a) = low (R.Un (unaryMeans op) a) (kindIs (K.Unary op a) q) in
         record { there = omega (arith, t .inside); whole = steps (R.Un (unaryMeans op) a) (kindIs (K.Unary op a) q) .0 }
 
+    pub unary-fit : {m : ℕ} → Room s m e → exprWidth s a ≤ m
+    unfolding kindMeans
+    unary-fit {m} o = sides-fit m o (R.Un (unaryMeans op) a) (kindIs (K.Unary op a) q)
+
     pub unary-width : UnWidth (unaryMeans op) (x .width) (exprWidth s a)
     unfolding kindMeans
     unary-width =
         let o : WidthOk (widthAt (exprsOf s)) (exprWidth s e) (R.Un (unaryMeans op) a) = wide (R.Un (unaryMeans op) a) (kindIs (K.Unary op a) q) in
         rw width-is (rw (width-at s (t .readable) a (unary-in .there)) at o)
 
-    pub unary-made : (j : Job) (xs ys : List ℕ) → Read (λ l. lowerUnary (unaryMeans op) (wholeNets (stateOf s l w) a) l) s (x .width) j xs ys
-        → Read (λ l. buildWhole (exprsOf s) false (stateOf s l w) e) s (exprWidth s e) j xs ys
+    pub unary-made : {m : ℕ} (j : Job) (xs ys : List ℕ) → Read m (λ l. lowerUnary (unaryMeans op) (wholeNets (stateOf s l w) a) l) s (x .width) j xs ys
+        → Read m (λ l. buildWhole (exprsOf s) false (stateOf s l w) e) s (exprWidth s e) j xs ys
     unfolding kindMeans
     unary-made j xs ys r = by-width (R.Un (unaryMeans op) a) (kindIs (K.Unary op a) q) j xs ys _ (λ l. refl) r
 
@@ -308,8 +319,12 @@ module _ (s w : List ℕ) (e : ℕ) (h : Asked s w e) (x : Expression) (d : Deco
     unfolding kindMeans
     binary-in = record { tabled = t; is = kindIs (K.Binary op a b) q; whole = steps (R.Bin (binaryMeans op) a b) (kindIs (K.Binary op a b) q) }
 
-    pub binary-made : (j : Job) (xs ys : List ℕ) → Read (λ l. buildBinary (exprsOf s) (stateOf s l w) e (exprWidth s e) (binaryMeans op) a b) s (exprWidth s e) j xs ys
-        → Read (λ l. buildWhole (exprsOf s) false (stateOf s l w) e) s (exprWidth s e) j xs ys
+    pub binary-fit : {m : ℕ} → Room s m e → (exprWidth s a ≤ m) × (exprWidth s b ≤ m)
+    unfolding kindMeans
+    binary-fit {m} o = sides-fit m o (R.Bin (binaryMeans op) a b) (kindIs (K.Binary op a b) q)
+
+    pub binary-made : {m : ℕ} (j : Job) (xs ys : List ℕ) → Read m (λ l. buildBinary (exprsOf s) (stateOf s l w) e (exprWidth s e) (binaryMeans op) a b) s (exprWidth s e) j xs ys
+        → Read m (λ l. buildWhole (exprsOf s) false (stateOf s l w) e) s (exprWidth s e) j xs ys
     unfolding kindMeans
     binary-made j xs ys r = record { says = λ l. made (R.Bin (binaryMeans op) a b) (kindIs (K.Binary op a b) q) (stateOf s l w) ∙ r .says l; fits = r .fits }
 
@@ -330,9 +345,9 @@ module _ (s w : List ℕ) (e : ℕ) (h : Asked s w e) (x : Expression) (d : Deco
           right-wide = sym (width-at s (t .readable) b ub) ∙ o .2 ∙ sym width-is;
         }
 
-    pub mux-made : (j : Job) (xs ys : List ℕ)
-        → Read (λ l. buildMux none (wholeNet (stateOf s l w) c 0) (wholeNets (stateOf s l w) a) (wholeNets (stateOf s l w) b) l) s (x .width) j xs ys
-        → Read (λ l. buildWhole (exprsOf s) false (stateOf s l w) e) s (exprWidth s e) j xs ys
+    pub mux-made : {m : ℕ} (j : Job) (xs ys : List ℕ)
+        → Read m (λ l. buildMux none (wholeNet (stateOf s l w) c 0) (wholeNets (stateOf s l w) a) (wholeNets (stateOf s l w) b) l) s (x .width) j xs ys
+        → Read m (λ l. buildWhole (exprsOf s) false (stateOf s l w) e) s (exprWidth s e) j xs ys
     unfolding kindMeans
     mux-made j xs ys r = by-width (R.Mux c a b) (kindIs (K.Mux c a b) q) j xs ys _ (λ l. refl) r
 
@@ -364,9 +379,50 @@ module _ (s w : List ℕ) (e : ℕ) (h : Asked s w e) (x : Expression) (d : Deco
         rw z (width-at s (t .readable) (listWord s (start + i)) (parts-in .whole i u .there))) in
         omega (arith, ap (partsWidth s start) m, r, o, width-is)
 
-    pub parts-read : (j : Job) (xs ys : List ℕ) → ((l : Netlist) → take (partsWidth s start n) xs ≡ partNets (stateOf s l w) (partsOf s start n))
-        → j ≡ record { task = T.Copied; narrow = 0 } → Read (λ l. buildWhole (exprsOf s) false (stateOf s l w) e) s (exprWidth s e) j xs ys
+    pub parts-read : {m : ℕ} → Room s m e → (j : Job) (xs ys : List ℕ) → ((l : Netlist) → take (partsWidth s start n) xs ≡ partNets (stateOf s l w) (partsOf s start n))
+        → j ≡ record { task = T.Copied; narrow = 0 } → Read m (λ l. buildWhole (exprsOf s) false (stateOf s l w) e) s (exprWidth s e) j xs ys
     unfolding kindMeans
-    parts-read j xs ys c z =
+    parts-read o j xs ys c z =
         by-width (R.Concat (partsOf s start n)) (kindIs (K.Concat start n) q) j xs ys (λ l. done (partNets (stateOf s l w) (partsOf s start n), l)) (λ l. refl)
-        (copied-read _ (λ l. partNets (stateOf s l w) (partsOf s start n)) s (x .width) j xs ys least most z (λ l. refl) (λ l. ap (λ (k : ℕ). take k xs) (sym parts-wide) ∙ c l))
+        (copied-read _ (λ l. partNets (stateOf s l w) (partsOf s start n)) s (x .width) j xs ys least (fit o) z (λ l. refl) (λ l. ap (λ (k : ℕ). take k xs) (sym parts-wide) ∙ c l))
+
+-- ---- room ----
+
+module _ (s : List ℕ) (g : Readable s) (e : ℕ) (h : e < countAt s 1) where
+  -- what is at most 1,024 wide has room in the largest lists
+  pub room-all : Room s 1024 e
+  room-all = record { most = g .most e h; sides = by ((ranges.exprAt (exprsOf s) e) .kind) (g .formed .low e (in-exprs s g e h)) }
+    where
+      by : (k : R.Kind) → BelowE e k → SidesFit s 1024 k
+      by (R.Signal p lsb) l = tt
+      by (R.Constant n) l = tt
+      by (R.Un op a) l = g .most a (omega arith)
+      by (R.Bin op a b) l = (g .most a (omega (arith, l .0)), g .most b (omega (arith, l .1)))
+      by (R.Mux c t f) l = tt
+      by (R.Concat ps) l = tt
+      by (R.Slice a lsb) l = tt
+
+  module _ (x : Expression) (d : Decoded s e x) (m : ℕ) (most : x .width ≤ m) where
+    room-by : SidesFit s m (kindMeans s (x .width) (x .kind)) → Room s m e
+    room-by o = record { most = omega (arith, width-read s g e h x d); sides = rw (kind-read s g e h x d) o }
+
+    pub room-unary : (op : UnaryOp) (a : ℕ) → x .kind ≡ K.Unary op a → exprWidth s a ≤ m → Room s m e
+    unfolding kindMeans
+    room-unary op a q o = room-by (rw q o)
+
+    pub room-binary : (op : BinaryOp) (a b : ℕ) → x .kind ≡ K.Binary op a b → exprWidth s a ≤ m → exprWidth s b ≤ m → Room s m e
+    unfolding kindMeans
+    room-binary op a b q o p = room-by (rw q (o, p))
+
+    pub room-other : OneOf (0 ∷ 1 ∷ 4 ∷ 5 ∷ 6 ∷ []) (tagOf kind-type (x .kind)) → Room s m e
+    unfolding kindMeans
+    room-other t = room-by (by (x .kind) t)
+      where
+        by : (k : ExprKind) → OneOf (0 ∷ 1 ∷ 4 ∷ 5 ∷ 6 ∷ []) (tagOf kind-type k) → SidesFit s m (kindMeans s (x .width) k)
+        by (K.Signal p lsb) t = tt
+        by (K.Constant start) t = tt
+        by (K.Unary op a) t = absurd (⊎-elim (eqb-false 2 0 refl) (⊎-elim (eqb-false 2 1 refl) (⊎-elim (eqb-false 2 4 refl) (⊎-elim (eqb-false 2 5 refl) (eqb-false 2 6 refl)))) t)
+        by (K.Binary op a b) t = absurd (⊎-elim (eqb-false 3 0 refl) (⊎-elim (eqb-false 3 1 refl) (⊎-elim (eqb-false 3 4 refl) (⊎-elim (eqb-false 3 5 refl) (eqb-false 3 6 refl)))) t)
+        by (K.Mux c a b) t = tt
+        by (K.Concat start n) t = tt
+        by (K.Slice a lsb) t = tt

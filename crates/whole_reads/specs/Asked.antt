@@ -50,6 +50,21 @@ pub record Asked (s w : List ℕ) (e : ℕ) : Type 0 where
   pub tabled : Tabled s w e
   pub whole : AllWhole s w (wholeSteps (exprsOf s) e)
 
+-- the operands of an operator are at most m wide
+abbrev pub SidesFit : List ℕ → ℕ → R.Kind → Type 0
+SidesFit s m (R.Signal p lsb) = Unit {0}
+SidesFit s m (R.Constant n) = Unit {0}
+SidesFit s m (R.Un op a) = exprWidth s a ≤ m
+SidesFit s m (R.Bin op a b) = (exprWidth s a ≤ m) × (exprWidth s b ≤ m)
+SidesFit s m (R.Mux c t f) = Unit {0}
+SidesFit s m (R.Concat ps) = Unit {0}
+SidesFit s m (R.Slice a lsb) = Unit {0}
+
+-- lists of m nets have room for expression e, and for the operands of its operator
+pub record Room (s : List ℕ) (m e : ℕ) : Type 0 where
+  pub most : exprWidth s e ≤ m
+  pub sides : SidesFit s m ((ranges.exprAt (exprsOf s) e) .kind)
+
 pub record BinaryIn (s w : List ℕ) (e : ℕ) (op : BinaryOp) (a b : ℕ) : Type 0 where
   pub tabled : Tabled s w e
   pub is : (ranges.exprAt (exprsOf s) e) .kind ≡ R.Bin (binaryMeans op) a b

@@ -1,15 +1,16 @@
 // What a whole expression is made of: its operands, read from the tables by its kind.
 ghost use mathlib.Core.Path.{_≡_};
-ghost use mathlib.Core.Bool.{false};
+ghost use mathlib.Core.Bool.{true, false};
+ghost use Prim.Native.Nat.{_≤_, _<_};
 ghost use lib.ListN.{length};
-ghost use Rattle.meaning.specs.Image.{exprWidth};
+ghost use Rattle.meaning.specs.Image.{countAt, exprWidth};
 ghost use Rattle.model.specs.Lowering.{buildWhole, buildBinary};
-ghost use Rattle.expr_laws.specs.Exprs.{exprsOf};
+ghost use Rattle.expr_laws.specs.Exprs.{exprsOf, Readable};
 ghost use Rattle.records.specs.Expr.{binaryMeans};
 ghost use Rattle.table_view.specs.View.{stateOf};
 ghost use Rattle.tasks.specs.Tasks.{Read};
 ghost use Rattle.tasks.specs.declared.Task.the-variants.{Copied};
-ghost use Rattle.whole_reads.specs.Asked.{Asked, BinaryIn};
+ghost use Rattle.whole_reads.specs.Asked.{Room, Asked, BinaryIn};
 use op_class::OpClass;
 use records::BinaryOp;
 use records::ExprKind;
@@ -27,8 +28,8 @@ fn two_operands(
     xs: &mut [u32],
     ys: &mut [u32],
 ) -> Job
-    requires { ⌜ (BinaryIn (now image) (now scr) e op a b) × (length (now xs) ≡ 1024) × (length (now ys) ≡ 1024) ⌝ }
-    ensures { λ r. ⌜ Read (λ l. buildBinary (exprsOf (now (image .entry))) (stateOf (now (image .entry)) l (now (scr .entry))) e (exprWidth (now (image .entry)) e) (binaryMeans op) a b) (now (image .entry)) (exprWidth (now (image .entry)) e) r (now (xs .exit)) (now (ys .exit)) ⌝ }
+    requires { ⌜ (BinaryIn (now image) (now scr) e op a b) × (exprWidth (now image) e ≤ length (now xs)) × (exprWidth (now image) a ≤ length (now xs)) × (exprWidth (now image) b ≤ length (now xs)) × (length (now ys) ≡ length (now xs)) ⌝ }
+    ensures { λ r. ⌜ Read (length (now (xs .entry))) (λ l. buildBinary (exprsOf (now (image .entry))) (stateOf (now (image .entry)) l (now (scr .entry))) e (exprWidth (now (image .entry)) e) (binaryMeans op) a b) (now (image .entry)) (exprWidth (now (image .entry)) e) r (now (xs .exit)) (now (ys .exit)) ⌝ }
 {
     match op_class::op_class(op) {
         OpClass::Adds => operands::add_operands(image, scr, e, a, b, xs, ys),
@@ -36,6 +37,29 @@ fn two_operands(
             let v = fields::expr_width(image, e);
             operands::binary_operands(image, scr, v, op, a, b, xs, ys)
         }
+    }
+}
+
+// Whether an expression, and each operand of its operator, is at most 64 wide.
+pub fn is_narrow(image: &[u8], e: u32) -> bool
+    requires { ⌜ (Readable (now image)) × (e < countAt (now image) 1) ⌝ }
+    ensures { λ r. ⌜ (r ≡ true → Room (now (image .entry)) 64 e) ⌝ }
+{
+    let x = records::expression_at(image, e);
+    let width = x.width;
+    let kind = x.kind;
+    if 64 < width {
+        return false;
+    }
+    match kind {
+        ExprKind::Unary(_, a) => fields::expr_width(image, a) <= 64,
+        ExprKind::Binary(_, a, b) => {
+            if 64 < fields::expr_width(image, a) {
+                return false;
+            }
+            fields::expr_width(image, b) <= 64
+        }
+        _ => true,
     }
 }
 
@@ -50,8 +74,8 @@ pub fn copied() -> Job
 }
 
 pub fn read_whole(image: &[u8], scr: &[u32], e: u32, xs: &mut [u32], ys: &mut [u32]) -> Job
-    requires { ⌜ (Asked (now image) (now scr) e) × (length (now xs) ≡ 1024) × (length (now ys) ≡ 1024) ⌝ }
-    ensures { λ r. ⌜ Read (λ l. buildWhole (exprsOf (now (image .entry))) false (stateOf (now (image .entry)) l (now (scr .entry))) e) (now (image .entry)) (exprWidth (now (image .entry)) e) r (now (xs .exit)) (now (ys .exit)) ⌝ }
+    requires { ⌜ (Asked (now image) (now scr) e) × (Room (now image) (length (now xs)) e) × (length (now ys) ≡ length (now xs)) ⌝ }
+    ensures { λ r. ⌜ Read (length (now (xs .entry))) (λ l. buildWhole (exprsOf (now (image .entry))) false (stateOf (now (image .entry)) l (now (scr .entry))) e) (now (image .entry)) (exprWidth (now (image .entry)) e) r (now (xs .exit)) (now (ys .exit)) ⌝ }
 {
     let x = records::expression_at(image, e);
     let width = x.width;

@@ -5,8 +5,8 @@ use mathlib.Core.List.{List, [], _∷_, _++_}
 use mathlib.Core.Option.{Option, none, some}
 use Prim.Native.Nat.{ℕ, _+_, _*_, _-_, _≤_, _<_}
 use native.Mathlib.Omega.{arith}
-use lib.ListN.{length, getD, set, take, drop, length-append, length-set, length-drop}
-use lib.Seq.{sets, length-sets, length-take-le}
+use lib.ListN.{length, getD, set, take, drop, replicate, length-append, length-set, length-drop, length-replicate}
+use lib.Seq.{sets, sets-eq, length-sets, length-take-le, take-at}
 use lib.Dec.{eqb}
 use borrow.Author.Tests.{eqb-true}
 use Rattle.model.specs.Words.{absent, Netlist, source, optionWord, arithmeticKey, count}
@@ -128,3 +128,9 @@ copied net out p h =
     let j : p + length out - p ≡ length out = omega arith in
     let len : length (take (length out) (drop p net)) ≡ length out = length-take-le (length out) (drop p net) (rw length-drop (omega arith)) in
     ap (λ (i : ℕ). sets out 0 (take i (drop p net))) j ∙ sets-all out (take (length out) (drop p net)) (sym len)
+
+-- a copy at the front of an array
+pub front : (m : ℕ) (xs : List ℕ) → length xs ≤ m → take (length xs) (sets (replicate m 0) 0 xs) ≡ xs
+front m xs h =
+    let old : List ℕ = replicate m 0 in
+    ap (take (length xs)) (sets-eq xs old 0 (omega (arith, length-replicate {A = ℕ} m 0))) ∙ take-at xs (drop (0 + length xs) old) (length xs) refl

@@ -104,8 +104,8 @@ fn compute(
     }
 }
 
-// Constant operands folded, an equal cell shared, else a new one; the outputs stand in out.
-pub fn arithmetic(
+// The cell of two operands, its outputs in out; x, y and the buffer are room, the buffer for its record.
+fn arithmetic_in(
     net: &mut [u32],
     idx: &mut [u32],
     n: u32,
@@ -114,29 +114,100 @@ pub fn arithmetic(
     rhs: &[u32],
     carry: u32,
     out: &mut [u32],
+    x: &mut [u32],
+    y: &mut [u32],
+    buffer: &mut [u32],
 ) -> Filled
-    requires { ⌜ (Held n (now net) (now idx)) × (length (now rhs) ≡ length (now lhs)) × (length (now out) ≡ length (now lhs)) × (0 < length (now lhs)) × (length (now lhs) ≤ 1024) ⌝ }
+    requires { ⌜ (Held n (now net) (now idx)) × (Operands (now lhs) (now rhs) (now out) (now x) (now y)) × (4 + 3 * length (now lhs) ≤ length (now buffer)) ⌝ }
     ensures { λ r. ⌜ Fills (W.arithmetic (opOf op) (now (lhs .entry)) (now (rhs .entry)) (carryOf carry) (netlistOf n (now (net .entry)))) n r (now (out .exit)) (now (net .exit)) (now (idx .exit)) ⌝ }
 {
-    let mut buffer = [0u32; 3076];
-    let mut x = [0u32; 1024];
-    let mut y = [0u32; 1024];
-    let w = lhs.len();
     let word = arithmetic_word(op);
-    put_arithmetic(&mut buffer, word, carry, lhs, rhs);
-    let k = 4 + 2 * w;
-    compute(
+    put_arithmetic(buffer, word, carry, lhs, rhs);
+    let k = 4 + 2 * lhs.len();
+    compute(net, idx, n, op, lhs, rhs, carry, out, x, y, buffer, k)
+}
+
+fn arithmetic_small(
+    net: &mut [u32],
+    idx: &mut [u32],
+    n: u32,
+    op: ArithmeticOp,
+    carry: u32,
+    xs: &mut [u32],
+    ys: &[u32],
+) -> Filled
+    requires { ⌜ (Held n (now net) (now idx)) × (0 < length (now xs)) × (length (now xs) ≡ length (now ys)) × (length (now xs) ≤ 64) ⌝ }
+    ensures { λ r. ⌜ Fills (W.arithmetic (opOf op) (now (xs .entry)) (now (ys .entry)) (carryOf carry) (netlistOf n (now (net .entry)))) n r (now (xs .exit)) (now (net .exit)) (now (idx .exit)) ⌝ }
+{
+    let mut lhs = [0u32; 64];
+    let mut x = [0u32; 64];
+    let mut y = [0u32; 64];
+    let mut buffer = [0u32; 196];
+    let w = xs.len();
+    lists::put_words(&mut lhs, 0, xs);
+    arithmetic_in(
         net,
         idx,
         n,
         op,
-        lhs,
-        rhs,
+        &lhs[..w],
+        ys,
         carry,
-        out,
+        xs,
         &mut x[..w],
         &mut y[..w],
         &mut buffer,
-        k,
     )
+}
+
+fn arithmetic_large(
+    net: &mut [u32],
+    idx: &mut [u32],
+    n: u32,
+    op: ArithmeticOp,
+    carry: u32,
+    xs: &mut [u32],
+    ys: &[u32],
+) -> Filled
+    requires { ⌜ (Held n (now net) (now idx)) × (0 < length (now xs)) × (length (now xs) ≡ length (now ys)) × (length (now xs) ≤ 1024) ⌝ }
+    ensures { λ r. ⌜ Fills (W.arithmetic (opOf op) (now (xs .entry)) (now (ys .entry)) (carryOf carry) (netlistOf n (now (net .entry)))) n r (now (xs .exit)) (now (net .exit)) (now (idx .exit)) ⌝ }
+{
+    let mut lhs = [0u32; 1024];
+    let mut x = [0u32; 1024];
+    let mut y = [0u32; 1024];
+    let mut buffer = [0u32; 3076];
+    let w = xs.len();
+    lists::put_words(&mut lhs, 0, xs);
+    arithmetic_in(
+        net,
+        idx,
+        n,
+        op,
+        &lhs[..w],
+        ys,
+        carry,
+        xs,
+        &mut x[..w],
+        &mut y[..w],
+        &mut buffer,
+    )
+}
+
+// Constant operands folded, an equal cell shared, else a new one; the outputs take the place of the first operand.
+pub fn arithmetic(
+    net: &mut [u32],
+    idx: &mut [u32],
+    n: u32,
+    op: ArithmeticOp,
+    carry: u32,
+    xs: &mut [u32],
+    ys: &[u32],
+) -> Filled
+    requires { ⌜ (Held n (now net) (now idx)) × (0 < length (now xs)) × (length (now xs) ≡ length (now ys)) × (length (now xs) ≤ 1024) ⌝ }
+    ensures { λ r. ⌜ Fills (W.arithmetic (opOf op) (now (xs .entry)) (now (ys .entry)) (carryOf carry) (netlistOf n (now (net .entry)))) n r (now (xs .exit)) (now (net .exit)) (now (idx .exit)) ⌝ }
+{
+    if xs.len() <= 64 {
+        return arithmetic_small(net, idx, n, op, carry, xs, ys);
+    }
+    arithmetic_large(net, idx, n, op, carry, xs, ys)
 }

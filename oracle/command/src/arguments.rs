@@ -46,6 +46,21 @@ pub struct Wish {
     pub scratch: Option<u32>,
 }
 
+impl Wish {
+    /// A file, with the largest limits and buffers as long as needed.
+    pub fn of(file: &str) -> Wish {
+        Wish {
+            file: file.to_string(),
+            nets: MOST,
+            words: MOST,
+            image_out: None,
+            words_out: None,
+            netlist: None,
+            scratch: None,
+        }
+    }
+}
+
 /// Reads the words behind the command's name.
 ///
 /// # Errors
@@ -55,15 +70,7 @@ pub fn request(words: &[String]) -> Result<Request, String> {
     if words.iter().any(|word| word == "--help" || word == "-h") {
         return Ok(Request::Help);
     }
-    let mut wish = Wish {
-        file: String::new(),
-        nets: MOST,
-        words: MOST,
-        image_out: None,
-        words_out: None,
-        netlist: None,
-        scratch: None,
-    };
+    let mut wish = Wish::of("");
     let mut files = Vec::new();
     let mut words = words.iter();
     while let Some(word) = words.next() {

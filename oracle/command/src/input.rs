@@ -1,26 +1,15 @@
 //! The module image in a file: its bytes, or those of an assembled text.
 
-use std::io::Read;
-
 /// The image in a file; `-` is standard input.
 ///
 /// # Errors
 ///
 /// Says in one line what is wrong with the file.
 pub fn image_in(file: &str) -> Result<Vec<u8>, String> {
-    let bytes = read(file).map_err(|error| format!("{file}: {error}"))?;
+    let bytes = image::read(file).map_err(|error| format!("{file}: {error}"))?;
     if file.ends_with(".img") || bytes.contains(&0) {
         return Ok(bytes);
     }
     let text = String::from_utf8(bytes).map_err(|_| format!("{file}: neither an image nor a text"))?;
     image::assemble(&text).map_err(|error| format!("{file}: {error}"))
-}
-
-fn read(file: &str) -> std::io::Result<Vec<u8>> {
-    if file != "-" {
-        return std::fs::read(file);
-    }
-    let mut bytes = Vec::new();
-    std::io::stdin().read_to_end(&mut bytes)?;
-    Ok(bytes)
 }

@@ -3,7 +3,6 @@
 
 pub mod arguments;
 pub mod input;
-pub mod listing;
 pub mod lowering;
 pub mod refusal;
 

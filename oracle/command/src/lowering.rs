@@ -52,16 +52,7 @@ pub fn lower(image: &[u8], wish: &Wish) -> Outcome {
 /// Nets and list words that an image takes, if it is accepted with the largest
 /// limits.
 pub fn taken(image: &[u8]) -> Option<(u32, u32)> {
-    let wish = Wish {
-        file: String::new(),
-        nets: MOST,
-        words: MOST,
-        image_out: None,
-        words_out: None,
-        netlist: None,
-        scratch: None,
-    };
-    let outcome = lower(image, &wish);
+    let outcome = lower(image, &Wish::of(""));
     (outcome.answer == ACCEPTED).then(|| (outcome.words[1], outcome.words[3]))
 }
 

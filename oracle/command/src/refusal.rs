@@ -2,7 +2,6 @@
 //! and which rule of document 01.
 
 use crate::arguments::Wish;
-use crate::listing::name;
 use crate::lowering::{Room, taken};
 use crate::{Answer, MOST};
 use image::{HEADER_BYTES, Image, MOST as MOST_RECORDS, RECORD_BYTES, disassemble, read_header};
@@ -129,6 +128,13 @@ fn record_name(image: &[u8], section: u32, number: u32) -> Option<String> {
         _ => None,
     };
     name.filter(|name| (1..=64).contains(&name.len()) && name.bytes().all(|byte| (33..=126).contains(&byte)))
+}
+
+/// The name of a record whose first fields place it.
+fn name(image: &Image, record: &[u32]) -> Option<String> {
+    let rest = image.names.get(record[0] as usize..)?;
+    let bytes = rest.get(..record[1] as usize)?;
+    String::from_utf8(bytes.to_vec()).ok()
 }
 
 /// The record as the disassembler writes it: one line for each record, those of

@@ -1,13 +1,11 @@
-//! The listing from the netlist's words is that of the oracle, made of struo's
-//! own netlist, on the corpus and on random images; and every refusal of these
-//! is said in words.
+//! The listing from the netlist's words is that of struo's own netlist, on the
+//! corpus and on random images; and every refusal of these is said in words.
 
 use command::arguments::{Request, Wish, request};
-use command::listing::listing;
 use command::lowering::lower;
 use command::refusal::in_words;
 use command::{ACCEPTED, Answer};
-use image::{Image, Size, assemble, generate, mutate};
+use image::{Size, assemble, generate, mutate};
 
 /// The listing program's limits and scratch.
 fn wish() -> Wish {
@@ -23,8 +21,7 @@ fn printed(image: &[u8]) -> (Answer, String) {
     let wish = wish();
     let outcome = lower(image, &wish);
     if outcome.answer == ACCEPTED {
-        let module = Image::decode(image).expect("an accepted image");
-        return (ACCEPTED, listing(&module, &outcome.words).expect("a netlist"));
+        return (ACCEPTED, driver::words_listing(image, &outcome.words).expect("a netlist"));
     }
     let words = in_words(outcome.answer, image, &wish, &outcome.room);
     let (numbers, meaning) = words.split_once(": ").expect("numbers and words");
@@ -80,8 +77,13 @@ fn random_images() {
 /// Words that are no netlist are told, not read past.
 #[test]
 fn words_that_are_no_netlist() {
-    let module = generate(1, Size::Tiny);
-    for words in [vec![], vec![0; 5], vec![u32::MAX; 40], vec![1, 9, 16, 0, 16, 0, 0]] {
-        assert_eq!(listing(&module, &words), None, "{words:?}");
+    let image = generate(1, Size::Tiny).encode();
+    let no_kind = [1, 1, 7, 0, 7, 0, 0, 12, 0, 0, 0, 0, 0];
+    let no_signal = [1, 1, 7, 0, 7, 0, 0, 0, 512, 0, 0, 0, 0];
+    let no_sort = [1, 0, 5, 1, 5, 5];
+    let cut_record = [1, 0, 5, 3, 5, 0, 0, 1];
+    let shapes = [&[][..], &[0; 5], &[u32::MAX; 40], &[1, 9, 16, 0, 16, 0, 0]];
+    for words in shapes.into_iter().chain([&no_kind[..], &no_signal, &no_sort, &cut_record]) {
+        assert_eq!(driver::words_listing(&image, words), None, "{words:?}");
     }
 }

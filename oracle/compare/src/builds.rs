@@ -3,6 +3,7 @@
 
 use crate::call::{LentWords, WordDifference};
 use crate::parts::{BuildPlan, Parts};
+use crate::plan::Plan;
 use driver::{build, words, Answer, Built, Operation};
 use image::{Random, MOST_LIMIT};
 use std::fmt;
@@ -10,15 +11,6 @@ use std::fmt;
 const NAMES: [&str; 16] = [
     "constant", "not", "and", "or", "xor", "mux", "add", "sub", "mul", "add with carry", "ltu", "leu", "lts", "les", "input", "output",
 ];
-
-/// Which sequences are compared.
-#[derive(Clone, Copy, Debug)]
-pub struct Plan {
-    pub seed: u64,
-    pub first: u64,
-    /// Sequences are compared until so many operations were done.
-    pub operations: u64,
-}
 
 /// What was compared: sequences, runs, operations done by their code, refusals.
 #[derive(Clone, Copy, Debug, Default)]
@@ -156,8 +148,8 @@ impl fmt::Display for Failure {
 pub fn run(parts: &dyn Parts, plan: &Plan) -> Result<Tally, Box<Failure>> {
     let mut tally = Tally::default();
     let mut number = plan.first;
-    while tally.operations() < plan.operations {
-        let mut random = Random::new(plan.seed ^ number.wrapping_mul(0xd134_2543_de82_ef95));
+    while tally.operations() < plan.count {
+        let mut random = Random::of_case(plan.seed, number);
         let sequence = sequence(&mut random);
         tally.sequences += 1;
         for recipe in Recipe::all(&mut random) {

@@ -59,7 +59,7 @@ pub fn make(seed: u64, count: usize) -> Result<Vec<Entry>, String> {
         if entries.len() == count {
             break;
         }
-        let mut random = Random::new(seed ^ number.wrapping_mul(0xd134_2543_de82_ef95));
+        let mut random = Random::of_case(seed, number);
         let case = replay_case(&mut random, number);
         let entry = case.and_then(|case| wanted_entry(&case, &mut random, &wanted));
         if let Some(entry) = entry.filter(|entry| !entries.contains(entry)) {

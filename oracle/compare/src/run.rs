@@ -2,12 +2,11 @@
 
 use crate::call::{compare, Difference, What};
 use crate::cases::{case, Case, Origin, SizeChoice};
-use crate::expect::hex;
 use crate::limits::{for_check, for_lower, Recipe, Taken};
-use crate::shrink::shrink;
+use crate::shrunk::Shrunk;
 use crate::subject::Subject;
 use crate::Answer;
-use image::{disassemble, Image, Random};
+use image::Random;
 use std::fmt;
 
 /// Which images are compared.
@@ -27,7 +26,7 @@ pub struct Tally {
 }
 
 impl Tally {
-    fn count(&mut self, answer: Answer) {
+    pub(crate) fn count(&mut self, answer: Answer) {
         self.outcomes[answer[0] as usize] += 1;
     }
 
@@ -46,28 +45,19 @@ impl fmt::Display for Tally {
     }
 }
 
-/// A difference, with its image before and after shrinking.
+/// A difference, and where it was met.
 pub struct Failure {
     pub what: What,
     pub number: u64,
     pub origin: Origin,
-    pub image: Vec<u8>,
-    pub difference: Difference,
-    pub small: Vec<u8>,
-    pub small_difference: Difference,
+    pub shrunk: Shrunk<Difference>,
 }
 
 impl fmt::Display for Failure {
     fn fmt(&self, f: &mut fmt::Formatter) -> fmt::Result {
-        writeln!(f, "DIFFERENCE in {:?} at image {} ({}), {} bytes", self.what, self.number, self.origin, self.image.len())?;
-        writeln!(f, "{}", self.difference)?;
-        writeln!(f, "smallest image found, {} bytes:", self.small.len())?;
-        match Image::decode(&self.small) {
-            Some(image) => write!(f, "{}", disassemble(&image))?,
-            None => writeln!(f, "(its header is wrong: no text)")?,
-        }
-        writeln!(f, "hex {}", hex(&self.small))?;
-        write!(f, "{}", self.small_difference)
+        let Failure { what, number, origin, shrunk } = self;
+        writeln!(f, "DIFFERENCE in {what:?} at image {number} ({origin}), {} bytes", shrunk.image.len())?;
+        write!(f, "{shrunk}")
     }
 }
 
@@ -75,7 +65,7 @@ impl fmt::Display for Failure {
 pub fn run(subject: &dyn Subject, what: What, plan: &Plan) -> Result<Tally, Box<Failure>> {
     let mut tally = Tally::default();
     for number in plan.first..plan.first + plan.images {
-        let mut random = Random::new(plan.seed ^ number.wrapping_mul(0xd134_2543_de82_ef95));
+        let mut random = Random::of_case(plan.seed, number);
         let case = case(&mut random, number, what, plan.size);
         let taken = taken(what, &case.image);
         tally.images += 1;
@@ -124,9 +114,8 @@ impl Trial<'_> {
 
     fn failure(&self, number: u64, case: Case, difference: Difference) -> Failure {
         let Case { image, origin, .. } = case;
-        let small = shrink(&image, &mut |candidate| self.difference(candidate).is_some());
-        let small_difference = self.difference(&small).expect("the difference persists");
-        Failure { what: self.what, number, origin, image, difference, small, small_difference }
+        let shrunk = Shrunk::new(image, difference, |candidate| self.difference(candidate));
+        Failure { what: self.what, number, origin, shrunk }
     }
 }
 

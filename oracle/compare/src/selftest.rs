@@ -29,9 +29,9 @@ fn fault_is_found(what: What, fault: Fault, plan: &Plan) -> bool {
             false
         }
         Err(failure) => {
-            let good = failure.small.len() <= MOST_SMALL_BYTES;
+            let good = failure.shrunk.small.len() <= MOST_SMALL_BYTES;
             let verdict = if good { "found" } else { "found but NOT SHRUNK WELL" };
-            let (from, to) = (failure.image.len(), failure.small.len());
+            let (from, to) = (failure.shrunk.image.len(), failure.shrunk.small.len());
             println!("self-test: {fault:?} {verdict} at image {}, {from} bytes shrunk to {to}", failure.number);
             println!("{failure}");
             good

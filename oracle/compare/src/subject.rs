@@ -17,55 +17,16 @@ pub const HAS_LOWER: bool = cfg!(has_lower);
 /// The library's functions; a function that it lacks is the reference's.
 pub struct Library;
 
-#[cfg(has_check)]
-extern "C" {
-    fn struo_check(
-        image: *const u8,
-        image_len: usize,
-        n: u32,
-        p: u32,
-        netlist_words: usize,
-        scratch_words: usize,
-        answer: *mut [u32; 3],
-    );
-}
-
-#[cfg(has_lower)]
-extern "C" {
-    fn struo_lower(
-        image: *const u8,
-        image_len: usize,
-        n: u32,
-        p: u32,
-        netlist: *mut u32,
-        netlist_len: usize,
-        scratch: *mut u32,
-        scratch_len: usize,
-        answer: *mut [u32; 3],
-    );
-}
-
-/// What an answer holds before a call, so that one left unwritten shows.
+/// The library's calls as the example in Rust has them.
 #[cfg(any(has_check, has_lower))]
-const UNWRITTEN: Answer = [0xdead_0001, 0xdead_0002, 0xdead_0003];
+#[allow(dead_code)]
+#[path = "../../../examples/rust/struo.rs"]
+mod struo;
 
 impl Subject for Library {
     #[cfg(has_check)]
     fn check(&self, image: &[u8], limits: &Limits) -> Answer {
-        let mut answer = UNWRITTEN;
-        // The function reads `image` and writes `answer`; it asks nothing else.
-        unsafe {
-            struo_check(
-                image.as_ptr(),
-                image.len(),
-                limits.n,
-                limits.p,
-                limits.netlist_words,
-                limits.scratch_words,
-                &mut answer,
-            );
-        }
-        answer
+        struo::check(image, limits.n, limits.p, limits.netlist_words, limits.scratch_words)
     }
 
     #[cfg(not(has_check))]
@@ -75,22 +36,7 @@ impl Subject for Library {
 
     #[cfg(has_lower)]
     fn lower(&self, image: &[u8], n: u32, p: u32, netlist: &mut [u32], scratch: &mut [u32]) -> Answer {
-        let mut answer = UNWRITTEN;
-        // The function reads `image` and writes the two slices and `answer`.
-        unsafe {
-            struo_lower(
-                image.as_ptr(),
-                image.len(),
-                n,
-                p,
-                netlist.as_mut_ptr(),
-                netlist.len(),
-                scratch.as_mut_ptr(),
-                scratch.len(),
-                &mut answer,
-            );
-        }
-        answer
+        struo::lower(image, n, p, netlist, scratch)
     }
 
     #[cfg(not(has_lower))]

@@ -2,23 +2,15 @@
 //! against struo's own functions, word by word.
 
 use crate::call::{LentImage, LentWords, WordDifference};
-use crate::expect::hex;
 use crate::parts::Parts;
-use crate::shrink::shrink;
+use crate::plan::Plan;
+use crate::shrunk::Shrunk;
 use driver::{expressions, Fused, Ranged};
-use image::{disassemble, generate, kind, table, Image, Random, Size, ABSENT};
+use image::{generate, kind, table, Image, Random, Size, ABSENT};
 use std::fmt;
 
 /// Words of a row, for an expression and for a pair.
 pub const ROW: usize = 8;
-
-/// Which tables are compared.
-#[derive(Clone, Copy, Debug)]
-pub struct Plan {
-    pub seed: u64,
-    pub first: u64,
-    pub tables: u64,
-}
 
 /// What was compared.
 #[derive(Clone, Copy, Debug, Default)]
@@ -74,34 +66,29 @@ impl fmt::Display for Difference {
     }
 }
 
-/// A difference, with the smallest image found that shows it.
+/// A difference, and the table that it was met at.
 pub struct Failure {
     pub number: u64,
-    pub image: Vec<u8>,
-    pub difference: Difference,
-    pub small: Vec<u8>,
-    pub small_difference: Difference,
+    pub shrunk: Shrunk<Difference>,
 }
 
 impl fmt::Display for Failure {
     fn fmt(&self, f: &mut fmt::Formatter) -> fmt::Result {
-        writeln!(f, "DIFFERENCE at table {}, {} bytes", self.number, self.image.len())?;
-        writeln!(f, "{}", self.difference)?;
-        writeln!(f, "smallest image found, {} bytes:", self.small.len())?;
-        if let Some(image) = Image::decode(&self.small) {
-            write!(f, "{}", disassemble(&image))?;
-            writeln!(f, "pairs {:?}", pairs(&image, self.number))?;
+        let Failure { number, shrunk } = self;
+        writeln!(f, "DIFFERENCE at table {number}, {} bytes", shrunk.image.len())?;
+        write!(f, "{shrunk}")?;
+        match Image::decode(&shrunk.small) {
+            Some(image) => write!(f, "\npairs {:?}", pairs(&image, *number)),
+            None => Ok(()),
         }
-        writeln!(f, "hex {}", hex(&self.small))?;
-        write!(f, "{}", self.small_difference)
     }
 }
 
 /// Compares every table of the plan, or stops at the first difference.
 pub fn run(parts: &dyn Parts, plan: &Plan) -> Result<Tally, Box<Failure>> {
     let mut tally = Tally::default();
-    for number in plan.first..plan.first + plan.tables {
-        let mut random = Random::new(plan.seed ^ number.wrapping_mul(0xd134_2543_de82_ef95));
+    for number in plan.first..plan.first + plan.count {
+        let mut random = Random::of_case(plan.seed, number);
         let image = case(&mut random);
         assert!(is_fine(&image), "table {number} breaks a rule");
         if let Some(difference) = compare(parts, &image, number, &mut tally) {
@@ -124,9 +111,7 @@ fn failure(parts: &dyn Parts, number: u64, image: Vec<u8>, difference: Differenc
     let again = |candidate: &[u8]| {
         is_fine(candidate).then(|| compare(parts, candidate, number, &mut Tally::default())).flatten()
     };
-    let small = shrink(&image, &mut |candidate| again(candidate).is_some());
-    let small_difference = again(&small).expect("the difference persists");
-    Failure { number, image, difference, small, small_difference }
+    Failure { number, shrunk: Shrunk::new(image, difference, again) }
 }
 
 fn is_fine(image: &[u8]) -> bool {

@@ -2,6 +2,7 @@
 //! and each fault is found and shrunk.
 
 use compare::parts::{BuildPlan, Parts};
+use compare::plan::Plan;
 use compare::{builds, tables};
 use image::{Image, ABSENT};
 
@@ -81,8 +82,8 @@ impl Parts for Struo {
     }
 }
 
-const TABLES: tables::Plan = tables::Plan { seed: 1, first: 0, tables: 3_000 };
-const BUILDS: builds::Plan = builds::Plan { seed: 1, first: 0, operations: 60_000 };
+const TABLES: Plan = Plan { seed: 1, first: 0, count: 3_000 };
+const BUILDS: Plan = Plan { seed: 1, first: 0, count: 60_000 };
 
 #[test]
 fn struo_agrees_with_itself() {
@@ -97,7 +98,7 @@ fn struo_agrees_with_itself() {
 fn faults_in_tables_are_found_and_shrunk() {
     for fault in [Fault::RangeOneShort, Fault::LowHalfOnly, Fault::LeftOnly, Fault::ZeroCarries, Fault::Beyond] {
         let failure = tables::run(&Struo(fault), &TABLES).err().unwrap_or_else(|| panic!("{fault:?} is not found"));
-        let small = Image::decode(&failure.small).expect("the smallest image is right");
+        let small = Image::decode(&failure.shrunk.small).expect("the smallest image is right");
         assert!(small.expressions.len() <= 12, "{fault:?}: {failure}");
     }
 }

@@ -25,12 +25,12 @@ use std::panic::{AssertUnwindSafe, catch_unwind};
 pub use big_stack::with_big_stack;
 pub use building::{Built, Operation, build, digest};
 pub use expressions::{Fused, Ranged, expressions};
-pub use listing::{Check, LISTING_LIMITS, listing};
+pub use listing::{Check, LISTING_LIMITS, listing, words_listing};
 pub use module_sim::ModuleSim;
 pub use netlist_sim::NetlistSim;
 pub use prepared::{Lowered, Prepared};
 pub use simulation::{Contents, NoRun, Observation, Setting};
-pub use words::words;
+pub use words::{answer_in, words};
 
 use module_image::ModuleImage;
 

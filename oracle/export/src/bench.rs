@@ -13,7 +13,7 @@ use std::fmt::Write;
 use driver::{Contents, Observation, Setting};
 use image::Image;
 
-use crate::verilog::{Event, Verilog, digits, literal, range};
+use crate::verilog::{Event, EventPort, Verilog, digits, literal, range};
 
 /// A run and what can be seen after each of its settings.
 pub struct Run {
@@ -90,8 +90,9 @@ impl Writer<'_> {
         for (signal, width) in self.signals(2) {
             let _ = writeln!(text, "  wire {}a{signal}, b{signal};", range(width));
         }
-        if self.sides[0].event_port.is_some() {
-            let _ = writeln!(text, "  reg [{}:0] events;", self.sides[0].events.len() - 1);
+        let EventPort { name, events } = &self.sides[0].event_port;
+        if name.is_some() {
+            let _ = writeln!(text, "  reg [{}:0] events;", events.len() - 1);
         }
         for (number, words) in self.run.first.memories.iter().enumerate() {
             let (width, last) = (range(words[0].len() as u32), words.len() - 1);
@@ -115,7 +116,7 @@ impl Writer<'_> {
             format!("{letter}{signal}")
         };
         let mut connections: Vec<String> = verilog.ports.iter().map(connection).collect();
-        connections.extend(verilog.event_port.iter().map(|_| "events".to_string()));
+        connections.extend(verilog.event_port.name.iter().map(|_| "events".to_string()));
         format!("  {module} {instance} ({});\n", connections.join(", "))
     }
 
@@ -219,7 +220,7 @@ impl Writer<'_> {
             Event::Reset { low, .. } if !resets => low,
             Event::Clock { signal } | Event::Reset { signal, .. } => setting[&signal][0],
         };
-        let bits: Vec<bool> = self.sides[0].events.iter().map(bit).collect();
+        let bits: Vec<bool> = self.sides[0].event_port.events.iter().map(bit).collect();
         if bits.is_empty() {
             return String::new();
         }

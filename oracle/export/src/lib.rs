@@ -19,4 +19,4 @@ pub mod witness;
 pub use module_verilog::module_verilog;
 pub use netlist::Netlist;
 pub use netlist_verilog::netlist_verilog;
-pub use verilog::{Event, Style, Verilog};
+pub use verilog::{Event, EventPort, Style, Verilog};

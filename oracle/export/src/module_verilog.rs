@@ -9,7 +9,7 @@ use image::{ABSENT, Image, constant_words, kind};
 use crate::clocked;
 use crate::names::Names;
 use crate::needed::{needed_assignments, ports};
-use crate::verilog::{Event, Style, Verilog, literal, module_head, range, select};
+use crate::verilog::{Event, EventPort, Style, Verilog, literal, module_head, range, select};
 
 const INPUT: u32 = 1;
 const OUTPUT: u32 = 2;
@@ -30,8 +30,7 @@ struct Writer<'a> {
     expressions: Vec<String>,
     /// Whether a signal holds contents: a register target or read data.
     variables: Vec<bool>,
-    events: Vec<Event>,
-    event_port: Option<String>,
+    event_port: EventPort,
 }
 
 impl<'a> Writer<'a> {
@@ -44,27 +43,15 @@ impl<'a> Writer<'a> {
         let expressions = numbers
             .map(|number| names.plain(&format!("e{number}")))
             .collect();
-        let mut writer = Writer {
+        let event_port = EventPort::new(style, &mut names, || events(image))?;
+        Ok(Writer {
             image,
             names,
             signals,
             expressions,
             variables: variables(image),
-            events: Vec::new(),
-            event_port: None,
-        };
-        if style == Style::Step {
-            writer.make_event_port()?;
-        }
-        Ok(writer)
-    }
-
-    fn make_event_port(&mut self) -> Result<(), String> {
-        self.events = events(self.image)?;
-        if !self.events.is_empty() {
-            self.event_port = Some(self.names.plain("events"));
-        }
-        Ok(())
+            event_port,
+        })
     }
 
     fn write(mut self, module: &str) -> Result<Verilog, String> {
@@ -99,18 +86,18 @@ impl<'a> Writer<'a> {
             read_data: self.image.memories.iter().map(read_data).collect(),
             memories,
             event_port: self.event_port,
-            events: self.events,
         }
     }
 
+    /// Each signal's record, its name, and whether it holds contents.
+    fn declared(&self) -> impl Iterator<Item = (&[u32; 4], &String, bool)> {
+        let named = self.image.signals.iter().zip(&self.signals);
+        let declared = named.zip(&self.variables);
+        declared.map(|((signal, name), &variable)| (signal, name, variable))
+    }
+
     fn port_declarations(&self) -> Vec<String> {
-        let signals = self
-            .image
-            .signals
-            .iter()
-            .zip(&self.signals)
-            .zip(&self.variables);
-        let ports = signals.filter_map(|((signal, name), variable)| {
+        let ports = self.declared().filter_map(|(signal, name, variable)| {
             let sort = match (signal[3], variable) {
                 (INPUT, _) => "input wire",
                 (OUTPUT, false) => "output wire",
@@ -119,24 +106,14 @@ impl<'a> Writer<'a> {
             };
             Some(format!("{sort} {}{name}", range(signal[2])))
         });
-        let mut ports: Vec<String> = ports.collect();
-        if let Some(port) = &self.event_port {
-            ports.push(format!("input wire [{}:0] {port}", self.events.len() - 1));
-        }
-        ports
+        ports.chain(self.event_port.declaration()).collect()
     }
 
     fn inner_declarations(&self) -> String {
-        let signals = self
-            .image
-            .signals
-            .iter()
-            .zip(&self.signals)
-            .zip(&self.variables);
-        let inner = signals.filter(|((signal, _), _)| signal[3] == 0);
+        let inner = self.declared().filter(|(signal, ..)| signal[3] == 0);
         inner
-            .map(|((signal, name), variable)| {
-                let sort = if *variable { "reg" } else { "wire" };
+            .map(|(signal, name, variable)| {
+                let sort = if variable { "reg" } else { "wire" };
                 format!("  {sort} {}{name};\n", range(signal[2]))
             })
             .collect()
@@ -254,11 +231,7 @@ impl<'a> Writer<'a> {
 
     /// The event's bit of the event port, or the signal where there is none.
     fn event(&self, event: Event, signal: u32) -> String {
-        let place = self.events.iter().position(|known| *known == event);
-        match (&self.event_port, place) {
-            (Some(port), Some(place)) => format!("{port}[{place}]"),
-            _ => self.signals[signal as usize].clone(),
-        }
+        self.event_port.bit(event, &self.signals[signal as usize])
     }
 
     fn memory(&mut self, record: &[u32; 26], name: &str) -> String {

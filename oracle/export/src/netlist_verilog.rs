@@ -11,7 +11,7 @@ use crate::names::Names;
 use crate::netlist::{
     Arithmetic, Comparison, Control, Memory, MemoryPort, Net, Netlist, Node, RegisterBit,
 };
-use crate::verilog::{Event, Style, Verilog, module_head, range, select};
+use crate::verilog::{Event, EventPort, Style, Verilog, module_head, range, select};
 
 /// The Verilog of a netlist; names come from the module image if it is given.
 ///
@@ -40,8 +40,7 @@ struct Writer<'a> {
     memories: Vec<String>,
     read_data: Vec<Vec<String>>,
     arithmetic: Vec<String>,
-    events: Vec<Event>,
-    event_port: Option<String>,
+    event_port: EventPort,
 }
 
 impl<'a> Writer<'a> {
@@ -57,30 +56,17 @@ impl<'a> Writer<'a> {
             .iter()
             .map(|port| (port.signal, named(&mut names, port.signal)));
         let ports = ports.collect();
-        let mut writer = Writer {
+        Ok(Writer {
             netlist,
             nets: numbered(&mut names, "n", netlist.nodes.len()),
             registers: register_names(&mut names, netlist, image),
             memories: memory_names(&mut names, netlist, image),
             read_data: read_data_names(&mut names, netlist),
             arithmetic: numbered(&mut names, "cell", netlist.arithmetic.len()),
+            event_port: EventPort::new(style, &mut names, || events(netlist))?,
             names,
             ports,
-            events: Vec::new(),
-            event_port: None,
-        };
-        if style == Style::Step {
-            writer.make_event_port()?;
-        }
-        Ok(writer)
-    }
-
-    fn make_event_port(&mut self) -> Result<(), String> {
-        self.events = events(self.netlist)?;
-        if !self.events.is_empty() {
-            self.event_port = Some(self.names.plain("events"));
-        }
-        Ok(())
+        })
     }
 
     fn write(mut self, module: &str) -> Result<Verilog, String> {
@@ -104,7 +90,6 @@ impl<'a> Writer<'a> {
             text,
             ports: self.netlist.ports.iter().map(|port| port.signal).collect(),
             event_port: self.event_port,
-            events: self.events,
             registers: self.registers,
             read_data: self.read_data,
             memories: self.memories,
@@ -117,11 +102,7 @@ impl<'a> Writer<'a> {
             let width = range(port.nets.len() as u32);
             format!("{direction} wire {width}{}", self.ports[&port.signal])
         });
-        let mut ports: Vec<String> = ports.collect();
-        if let Some(port) = &self.event_port {
-            ports.push(format!("input wire [{}:0] {port}", self.events.len() - 1));
-        }
-        ports
+        ports.chain(self.event_port.declaration()).collect()
     }
 
     fn declarations(&self) -> String {
@@ -300,11 +281,7 @@ impl<'a> Writer<'a> {
 
     /// The event's bit of the event port, or the net where there is none.
     fn event(&self, event: Event, net: Net) -> String {
-        let place = self.events.iter().position(|known| *known == event);
-        match (&self.event_port, place) {
-            (Some(port), Some(place)) => format!("{port}[{place}]"),
-            _ => self.net(net).to_string(),
-        }
+        self.event_port.bit(event, self.net(net))
     }
 
     fn memory(&mut self, number: usize) -> String {

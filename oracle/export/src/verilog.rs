@@ -1,6 +1,8 @@
 //! What both Verilog writers share: how clocks reach a module, the identifiers
 //! a bench needs, and small pieces of text.
 
+use crate::names::Names;
+
 /// How clocks and asynchronous resets reach the always blocks.
 #[derive(Clone, Copy, PartialEq, Eq, Debug)]
 pub enum Style {
@@ -20,16 +22,53 @@ pub enum Event {
     Reset { signal: u32, low: bool },
 }
 
+/// The event port, if there is one, declared last; and its bits, bit 0 first.
+#[derive(Default)]
+pub struct EventPort {
+    pub name: Option<String>,
+    pub events: Vec<Event>,
+}
+
+impl EventPort {
+    /// The port for these events, where the style has one and there are any.
+    pub(crate) fn new(
+        style: Style,
+        names: &mut Names,
+        events: impl FnOnce() -> Result<Vec<Event>, String>,
+    ) -> Result<Self, String> {
+        if style == Style::Plain {
+            return Ok(Self::default());
+        }
+        let events = events()?;
+        let name = (!events.is_empty()).then(|| names.plain("events"));
+        Ok(Self { name, events })
+    }
+
+    /// The port's declaration, if it is there.
+    pub(crate) fn declaration(&self) -> Option<String> {
+        let name = self.name.as_ref()?;
+        Some(format!("input wire [{}:0] {name}", self.events.len() - 1))
+    }
+
+    /// The event's bit of the port, or the wire that makes it where there is
+    /// none.
+    pub(crate) fn bit(&self, event: Event, wire: &str) -> String {
+        let place = self.events.iter().position(|known| *known == event);
+        match (&self.name, place) {
+            (Some(name), Some(place)) => format!("{name}[{place}]"),
+            _ => wire.to_string(),
+        }
+    }
+}
+
 /// A Verilog module, and what its parts are called in it.
 pub struct Verilog {
     /// The whole text.
     pub text: String,
     /// The signals that are ports, in the order declared.
     pub ports: Vec<u32>,
-    /// The event port, if there is one, declared last.
-    pub event_port: Option<String>,
-    /// Its bits, bit 0 first.
-    pub events: Vec<Event>,
+    /// The port that brings clocks and asynchronous resets.
+    pub event_port: EventPort,
     /// Variables with the register contents, by register.
     pub registers: Vec<String>,
     /// Variables with the read data, by memory and port.

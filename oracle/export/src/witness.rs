@@ -93,10 +93,10 @@ fn witness_run(
         return Ok(());
     };
     let [rtl, netlist] = both(image, words, Style::Step)?;
-    if rtl.events != netlist.events {
+    let [in_module, in_netlist] = [&rtl, &netlist].map(|verilog| &verilog.event_port.events);
+    if in_module != in_netlist {
         return Err(format!(
-            "the module has events {:?}, the netlist {:?}",
-            rtl.events, netlist.events
+            "the module has events {in_module:?}, the netlist {in_netlist:?}"
         ));
     }
     let bench = bench(image, [&rtl, &netlist], &run);

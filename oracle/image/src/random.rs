@@ -11,6 +11,11 @@ impl Random {
         Random { state: seed }
     }
 
+    /// The source of a case, by the seed of a run and the case's number in it.
+    pub fn of_case(seed: u64, number: u64) -> Self {
+        Random::new(seed ^ number.wrapping_mul(0xd134_2543_de82_ef95))
+    }
+
     #[allow(clippy::should_implement_trait)]
     pub fn next(&mut self) -> u64 {
         self.state = self.state.wrapping_add(0x9e37_79b9_7f4a_7c15);

@@ -2,10 +2,9 @@
 use borrow.Author.Needs.{needs}
 use Rattle.cached.proofs.hash.Statement.{statement}
 use Rattle.cached.proofs.hash.Tie as tie
-use native.Mathlib.Nat.{mod-lt}
-use mathlib.Core.Path.{ap}
-use Rattle.netlist_index.specs.Index.{hashNode, hashWords}
-use Prim.Native.Nat.{ℕ, _%_}
+use mathlib.Core.Path.{ap, _∙_}
+use Rattle.netlist_index.specs.Index.{bucketOf, hashNode, hashWords}
+use Prim.Native.Nat.{ℕ}
 use Rattle.cached.proofs.Ways.{mixed-five}
 
 mix-requires : tie.Need-mix-requires
@@ -23,16 +22,17 @@ mix-requires-4 c κs = search needs
 mix-requires-5 : tie.Need-mix-requires-5
 mix-requires-5 c κs = search needs
 
-rem-result : tie.Need-rem-result
-rem-result c = search needs
+bucket-requires : tie.Need-bucket-requires
+bucket-requires c κs = c .before .before .before .before .before .pre
 
 returns : tie.Need-returns
 unfolding hashNode hashWords
 returns c =
-    let s = c .before .before .before .before .before .args in (
-      ap (λ (h : ℕ). h % s .n)
-          (mixed-five (s .kind) (s .owner) (s .a) (s .b) (s .c) _ _ _ _ _ (c .before .before .before .before .mix .ensures) (c .before .before .before .mix2 .ensures) (c .before .before .mix3 .ensures) (c .before .mix4 .ensures) (c .mix5 .ensures)),
-      mod-lt (c .mix5 .result) (c .before .before .before .before .before .pre),
+    let s = c .before .before .before .before .before .before .args in (
+      c .bucket .ensures .0
+          ∙ ap (λ (h : ℕ). bucketOf (s .n) h)
+          (mixed-five (s .kind) (s .owner) (s .a) (s .b) (s .c) _ _ _ _ _ (c .before .before .before .before .before .mix .ensures) (c .before .before .before .before .mix2 .ensures) (c .before .before .before .mix3 .ensures) (c .before .before .mix4 .ensures) (c .before .mix5 .ensures)),
+      c .bucket .ensures .1,
     )
 
 pub hash-spec : {M : Type 1} → statement M
@@ -44,5 +44,5 @@ hash-spec =
     mix-requires-3
     mix-requires-4
     mix-requires-5
-    rem-result
+    bucket-requires
     returns)

@@ -1,13 +1,12 @@
 -- `cell_index::hash_key` meets its contract. Assumes nothing.
 use Rattle.cell_index.proofs.hash_key.Statement.{statement}
 use Rattle.cell_index.proofs.hash_key.Tie as tie
-use mathlib.Core.Path.{_≡_, refl, ap}
-use Prim.Native.Nat.{ℕ, _-_, _≤_, _%_}
+use mathlib.Core.Path.{_≡_, refl, ap, _∙_}
+use Prim.Native.Nat.{ℕ, _-_, _≤_}
 use native.Mathlib.Omega.{arith}
-use native.Mathlib.Nat.{mod-lt}
 use borrow.Author.Needs.{needs}
 use lib.ListN.{length, drop}
-use Rattle.netlist_index.specs.Index.{hashWords, hashKey}
+use Rattle.netlist_index.specs.Index.{hashWords, bucketOf, hashKey}
 use Rattle.cell_index.proofs.Laws.{hash-turn, hash-end}
 
 abbrev Inv-loop : tie.InvT-loop
@@ -37,15 +36,18 @@ loop-less c = omega arith
 loop-again : tie.Need-loop-again Inv-loop μ-loop
 loop-again c = (omega arith, hash-turn (c .before .before .before .before .before .args .key .now) (c .before .before .before .loop .h) (c .mix .result) (c .before .before .before .loop .i) (omega arith) (c .before .before .before .loop .inv .1) (c .mix .ensures))
 
-rem-result : tie.Need-rem-result Inv-loop μ-loop
-rem-result c = search needs
+bucket-requires : tie.Need-bucket-requires Inv-loop μ-loop
+bucket-requires c κs = c .before .before .before .pre
 
 returns : tie.Need-returns Inv-loop μ-loop
 unfolding hashKey
-returns c = (
-  ap (λ (h : ℕ). h % c .before .before .before .args .n) (hash-end (c .before .before .before .args .key .now) (c .before .loop .h) (c .before .loop .i) (c .loop-test .left) (c .before .loop .inv .1)),
-  mod-lt (c .before .loop .h) (c .before .before .before .pre),
-)
+returns c =
+    let out = c .before in
+    let a = out .before .before .before .args in (
+      c .bucket .ensures .0
+          ∙ ap (λ (h : ℕ). bucketOf (a .n) h) (hash-end (a .key .now) (out .before .loop .h) (out .before .loop .i) (out .loop-test .left) (out .before .loop .inv .1)),
+      c .bucket .ensures .1,
+    )
 
 pub hash-key-spec : {M : Type 1} → statement M
 hash-key-spec =
@@ -60,5 +62,5 @@ hash-key-spec =
     add-i
     loop-less
     loop-again
-    rem-result
+    bucket-requires
     returns)

@@ -2,65 +2,41 @@
 use borrow.Author.Needs.{needs}
 use Rattle.fields.proofs.word.Statement.{statement}
 use Rattle.fields.proofs.word.Tie as tie
+use Prim.Native.Nat.{ℕ}
+use mathlib.Core.Path.{ap, _∙_}
+use native.Mathlib.Nat.{add-sub-cancel-left}
+use native.Mathlib.Omega.{arith}
+use lib.Dec.{lit≤}
+use lib.ListN.{take, drop}
+use denote.Ref.{now}
 use Rattle.meaning.specs.Image.{wordAt}
+use Rattle.fields.specs.Fields.{word-in}
 
 add-if1 : tie.Need-add-if1
 add-if1 c = search needs
 
-shared-slice-read-wide : tie.Need-shared-slice-read-wide
-shared-slice-read-wide c = search needs
+add-first-word : tie.Need-add-first-word
+add-first-word c = search needs
 
-wide-requires : tie.Need-wide-requires
-wide-requires c κs = search needs
+sub-first-word : tie.Need-sub-first-word
+sub-first-word c = search needs
 
-add-wide : tie.Need-add-wide
-add-wide c = search needs
+part-first-word-start : tie.Need-part-first-word-start
+part-first-word-start c = search needs
 
-shared-slice-read-wide-2 : tie.Need-shared-slice-read-wide-2
-shared-slice-read-wide-2 c = search needs
+part-first-word-end : tie.Need-part-first-word-end
+part-first-word-end c = search needs
 
-wide-requires-2 : tie.Need-wide-requires-2
-wide-requires-2 c κs = search needs
-
-mul-result : tie.Need-mul-result
-mul-result c = search needs
-
-add-result : tie.Need-add-result
-add-result c = search needs
-
-add-wide-2 : tie.Need-add-wide-2
-add-wide-2 c = search needs
-
-shared-slice-read-wide-3 : tie.Need-shared-slice-read-wide-3
-shared-slice-read-wide-3 c = search needs
-
-wide-requires-3 : tie.Need-wide-requires-3
-wide-requires-3 c κs = search needs
-
-mul-result-2 : tie.Need-mul-result-2
-mul-result-2 c = search needs
-
-add-result-2 : tie.Need-add-result-2
-add-result-2 c = search needs
-
-add-wide-3 : tie.Need-add-wide-3
-add-wide-3 c = search needs
-
-shared-slice-read-wide-4 : tie.Need-shared-slice-read-wide-4
-shared-slice-read-wide-4 c = search needs
-
-wide-requires-4 : tie.Need-wide-requires-4
-wide-requires-4 c κs = search needs
-
-mul-result-3 : tie.Need-mul-result-3
-mul-result-3 c = search needs
-
-add-result-3 : tie.Need-add-result-3
-add-result-3 c = search needs
+first-word-requires : tie.Need-first-word-requires
+first-word-requires c κs = search needs
 
 returns : tie.Need-returns
-unfolding wordAt
-returns c = cc (c .before .before .before .before .before .before .wide .ensures .0, c .before .before .before .before .wide2 .ensures .0, c .before .before .wide3 .ensures .0, c .wide4 .ensures .0)
+returns c =
+    let a = c .before .before .before .before .args in
+    c .first-word .ensures
+    ∙ ap (λ (k : ℕ). wordAt (take k (drop (a .at) (now (a .s)))) 0) (add-sub-cancel-left (a .at) 4)
+    ∙ word-in (now (a .s)) (a .at) 4 0 (lit≤ tt)
+    ∙ ap (λ (k : ℕ). wordAt (now (a .s)) k) (omega arith)
 
 last-word-requires : tie.Need-last-word-requires
 last-word-requires c κs = search needs
@@ -73,23 +49,11 @@ word-spec =
     tie.close
     (tie.spec
     add-if1
-    shared-slice-read-wide
-    wide-requires
-    add-wide
-    shared-slice-read-wide-2
-    wide-requires-2
-    mul-result
-    add-result
-    add-wide-2
-    shared-slice-read-wide-3
-    wide-requires-3
-    mul-result-2
-    add-result-2
-    add-wide-3
-    shared-slice-read-wide-4
-    wide-requires-4
-    mul-result-3
-    add-result-3
+    add-first-word
+    sub-first-word
+    part-first-word-start
+    part-first-word-end
+    first-word-requires
     returns
     last-word-requires
     returns-2)

@@ -5,7 +5,7 @@ use Rattle.operands.proofs.add_operands.Tie as tie
 use native.Mathlib.Omega.{arith}
 use mathlib.Core.Path.{refl, sym, ap, _∙_}
 use Rattle.fusion.specs.Fusion.{fusionOf, operands-are}
-use Rattle.operands.proofs.Ways.{lhs-in, rhs-in, sides-in, carry-in, plain-read, carried-read, narrow-word}
+use Rattle.operands.proofs.Ways.{lhs-in, rhs-in, lhs-wide, rhs-wide, sides-in, carry-in, carry-net, plain-read, carried-read, narrow-word}
 
 -- src/lib.rt:122:22
 shared-slice-read-narrow : tie.Need-shared-slice-read-narrow
@@ -55,7 +55,7 @@ copy-whole-requires c κs =
     let i = c .before .before .before .before .before .before .before .before .before .before .pre .0 in
     let q = rw (sym (c .before .before .before .fusion-test .ensures) ∙ ap fusionOf (c .before .enum-told .given .1)) at (operands-are (c .before .before .before .before .before .before .before .before .before .before .args .image .now) (c .before .before .before .before .before .before .before .before .before .before .args .a) (c .before .before .before .before .before .before .before .before .before .before .args .b)) in
     let h = lhs-in _ _ _ _ _ i _ _ _ q in
-    (i .laid, h, omega (arith, i .laid .image .exprMost _ (h .there), c .before .before .before .before .before .before .before .before .before .before .pre .1))
+    (i .laid, h, omega (arith, lhs-wide _ _ _ _ _ i _ _ _ q, c .before .before .before .before .before .before .before .before .before .before .pre .1))
 
 -- src/lib.rt:126:9
 copy-whole-requires-2 : tie.Need-copy-whole-requires-2
@@ -63,7 +63,7 @@ copy-whole-requires-2 c κs =
     let i = c .before .before .before .before .before .before .before .before .before .before .before .before .before .before .pre .0 in
     let q = rw (sym (c .before .before .before .before .before .before .before .fusion-test .ensures) ∙ ap fusionOf (c .before .before .before .before .before .enum-told .given .1)) at (operands-are (c .before .before .before .before .before .before .before .before .before .before .before .before .before .before .args .image .now) (c .before .before .before .before .before .before .before .before .before .before .before .before .before .before .args .a) (c .before .before .before .before .before .before .before .before .before .before .before .before .before .before .args .b)) in
     let h = rhs-in _ _ _ _ _ i _ _ _ q in
-    (i .laid, h, omega (arith, i .laid .image .exprMost _ (h .there), c .before .before .before .before .before .before .before .before .before .before .before .before .before .before .pre .2))
+    (i .laid, h, omega (arith, rhs-wide _ _ _ _ _ i _ _ _ q, c .before .before .before .before .before .before .before .before .before .before .before .before .before .before .pre .1, c .before .before .before .before .before .before .before .before .before .before .before .before .before .before .pre .2))
 
 -- src/lib.rt:127:13
 cut-requires : tie.Need-cut-requires
@@ -82,7 +82,7 @@ returns : tie.Need-returns
 returns c =
     let i = c .before .before .before .before .before .before .before .before .before .before .before .before .before .before .before .before .before .before .pre .0 in
     let q = rw (sym (c .before .before .before .before .before .before .before .before .before .before .before .fusion-test .ensures) ∙ ap fusionOf (c .before .before .before .before .before .before .before .before .before .enum-told .given .1)) at (operands-are (c .before .before .before .before .before .before .before .before .before .before .before .before .before .before .before .before .before .before .args .image .now) (c .before .before .before .before .before .before .before .before .before .before .before .before .before .before .before .before .before .before .args .a) (c .before .before .before .before .before .before .before .before .before .before .before .before .before .before .before .before .before .before .args .b)) in
-    plain-read _ _ _ _ _ i _ _ _ q _ _ _ _ _ _ _ _ (narrow-word _ _ _ _ _ i) (c .before .before .before .before .before .before .before .copy-whole .ensures) (c .before .before .before .copy-whole2 .ensures) (c .cut .ensures) refl
+    plain-read _ _ _ _ _ i _ _ _ q _ _ _ _ _ _ _ _ (narrow-word _ _ _ _ _ i) (c .before .before .before .before .before .before .before .copy-whole .ensures) (c .before .before .before .copy-whole2 .ensures) (c .cut .ensures) _ (c .before .before .before .before .before .before .before .before .before .before .before .before .before .before .before .before .before .before .pre .1) refl
 
 -- src/lib.rt:133:9
 copy-whole-requires-3 : tie.Need-copy-whole-requires-3
@@ -90,7 +90,7 @@ copy-whole-requires-3 c κs =
     let i = c .before .before .before .before .before .before .before .before .before .before .before .pre .0 in
     let q = rw (sym (c .before .before .before .before .fusion-test .ensures) ∙ ap fusionOf (c .before .before .answer .given .1)) at (operands-are (c .before .before .before .before .before .before .before .before .before .before .before .args .image .now) (c .before .before .before .before .before .before .before .before .before .before .before .args .a) (c .before .before .before .before .before .before .before .before .before .before .before .args .b)) in
     let h = lhs-in _ _ _ _ _ i _ _ _ q in
-    (i .laid, h, omega (arith, i .laid .image .exprMost _ (h .there), c .before .before .before .before .before .before .before .before .before .before .before .pre .1))
+    (i .laid, h, omega (arith, lhs-wide _ _ _ _ _ i _ _ _ q, c .before .before .before .before .before .before .before .before .before .before .before .pre .1))
 
 -- src/lib.rt:134:5
 copy-whole-requires-4 : tie.Need-copy-whole-requires-4
@@ -98,7 +98,7 @@ copy-whole-requires-4 c κs =
     let i = c .before .before .before .before .before .before .before .before .before .before .before .before .before .before .before .pre .0 in
     let q = rw (sym (c .before .before .before .before .before .before .before .before .fusion-test .ensures) ∙ ap fusionOf (c .before .before .before .before .before .before .answer .given .1)) at (operands-are (c .before .before .before .before .before .before .before .before .before .before .before .before .before .before .before .args .image .now) (c .before .before .before .before .before .before .before .before .before .before .before .before .before .before .before .args .a) (c .before .before .before .before .before .before .before .before .before .before .before .before .before .before .before .args .b)) in
     let h = rhs-in _ _ _ _ _ i _ _ _ q in
-    (i .laid, h, omega (arith, i .laid .image .exprMost _ (h .there), c .before .before .before .before .before .before .before .before .before .before .before .before .before .before .before .pre .2))
+    (i .laid, h, omega (arith, rhs-wide _ _ _ _ _ i _ _ _ q, c .before .before .before .before .before .before .before .before .before .before .before .before .before .before .before .pre .1, c .before .before .before .before .before .before .before .before .before .before .before .before .before .before .before .pre .2))
 
 -- src/lib.rt:135:9
 cut-requires-2 : tie.Need-cut-requires-2
@@ -126,7 +126,7 @@ returns-2 c =
     let i = c .before .before .before .before .before .before .before .before .before .before .before .before .before .before .before .before .before .before .before .before .pre .0 in
     let q = rw (sym (c .before .before .before .before .before .before .before .before .before .before .before .before .before .fusion-test .ensures) ∙ ap fusionOf (c .before .before .before .before .before .before .before .before .before .before .before .answer .given .1)) at (operands-are (c .before .before .before .before .before .before .before .before .before .before .before .before .before .before .before .before .before .before .before .before .args .image .now) (c .before .before .before .before .before .before .before .before .before .before .before .before .before .before .before .before .before .before .before .before .args .a) (c .before .before .before .before .before .before .before .before .before .before .before .before .before .before .before .before .before .before .before .before .args .b)) in
     let h = carry-in _ _ _ _ _ i _ _ _ q in
-    carried-read _ _ _ _ _ i _ _ _ q _ _ _ _ _ _ _ _ (narrow-word _ _ _ _ _ i) (c .before .before .before .before .before .before .before .before .copy-whole3 .ensures) (c .before .before .before .before .copy-whole4 .ensures) (c .before .cut2 .ensures) _ _ refl (λ l. c .expr-net .ensures .whole l (h .whole))
+    carried-read _ _ _ _ _ i _ _ _ q _ _ _ _ _ _ _ _ (narrow-word _ _ _ _ _ i) (c .before .before .before .before .before .before .before .before .copy-whole3 .ensures) (c .before .before .before .before .copy-whole4 .ensures) (c .before .cut2 .ensures) _ (c .before .before .before .before .before .before .before .before .before .before .before .before .before .before .before .before .before .before .before .before .pre .1) _ _ refl (λ l. c .expr-net .ensures .whole l (h .whole)) (carry-net _ _ _ _ _ i _ _ h (λ l. c .expr-net .ensures .whole l (h .whole)))
 
 pub add-operands-spec : {M : Type 1} → statement M
 add-operands-spec =

@@ -16,7 +16,7 @@ enum-known-task c = search needs
 constant-requires : tie.Need-constant-requires
 constant-requires c κs =
     let f = rw (c .before .before .before .before .task .given .1) at (c .before .before .before .before .before .before .before .before .before .before .before .pre .1) in
-    (c .before .before .before .before .before .before .before .before .before .before .before .pre .0, omega (arith, f .2), omega (arith, f .0), f .1, omega (arith, c .before .before .before .before .before .before .before .before .before .before .before .pre .2, c .before .before .before .before .before .before .before .before .before .before .before .pre .3))
+    (c .before .before .before .before .before .before .before .before .before .before .before .pre .0, omega (arith, f .2), omega (arith, f .0), f .1, c .before .before .before .before .before .before .before .before .before .before .before .pre .2)
 
 enum-known-task-2 : tie.Need-enum-known-task-2
 enum-known-task-2 c = search needs
@@ -24,7 +24,7 @@ enum-known-task-2 c = search needs
 unary-requires : tie.Need-unary-requires
 unary-requires c κs =
     let f = rw (c .before .before .before .before .task2 .given .1) at (c .before .before .before .before .before .before .before .before .before .before .before .pre .1) in
-    (c .before .before .before .before .before .before .before .before .before .before .before .pre .0, f .1, omega (arith, f .2, c .before .before .before .before .before .before .before .before .before .before .before .pre .3))
+    (c .before .before .before .before .before .before .before .before .before .before .before .pre .0, f .1, f .2)
 
 enum-known-task-3 : tie.Need-enum-known-task-3
 enum-known-task-3 c = search needs
@@ -33,7 +33,7 @@ binary-requires : tie.Need-binary-requires
 binary-requires c κs =
     let t = c .before .before .before .before .task3 .given .0 in
     let f = rw (c .before .before .before .before .task3 .given .1) at (c .before .before .before .before .before .before .before .before .before .before .before .pre .1) in
-    (c .before .before .before .before .before .before .before .before .before .before .before .pre .0, f .1, f .2, omega (arith, f .2, c .before .before .before .before .before .before .before .before .before .before .before .pre .3), omega (arith, f .4, c .before .before .before .before .before .before .before .before .before .before .before .pre .4), binary-fit (t .0) (c .before .before .before .before .before .before .before .before .before .before .before .args .v) (t .1 .0) (t .1 .1 .0) (f .0), c .before .before .before .before .before .before .before .before .before .before .before .pre .5)
+    (c .before .before .before .before .before .before .before .before .before .before .before .pre .0, f .1, omega (arith, f .2, c .before .before .before .before .before .before .before .before .before .before .before .pre .3), f .2, omega (arith, f .4, c .before .before .before .before .before .before .before .before .before .before .before .pre .4), binary-fit (t .0) (c .before .before .before .before .before .before .before .before .before .before .before .args .v) (t .1 .0) (t .1 .1 .0) (f .0), c .before .before .before .before .before .before .before .before .before .before .before .pre .5)
 
 enum-known-task-4 : tie.Need-enum-known-task-4
 enum-known-task-4 c = search needs
@@ -41,7 +41,7 @@ enum-known-task-4 c = search needs
 carried-requires : tie.Need-carried-requires
 carried-requires c κs =
     let f = rw (c .before .before .before .before .task4 .given .1) at (c .before .before .before .before .before .before .before .before .before .before .before .pre .1) in
-    (c .before .before .before .before .before .before .before .before .before .before .before .pre .0, f .1, f .2, omega (arith, f .2, c .before .before .before .before .before .before .before .before .before .before .before .pre .3), omega (arith, f .2, c .before .before .before .before .before .before .before .before .before .before .before .pre .4))
+    (c .before .before .before .before .before .before .before .before .before .before .before .pre .0, f .1, omega (arith, f .2, c .before .before .before .before .before .before .before .before .before .before .before .pre .3), f .2, omega (arith, f .2, c .before .before .before .before .before .before .before .before .before .before .before .pre .4), f .3)
 
 enum-known-task-5 : tie.Need-enum-known-task-5
 enum-known-task-5 c = search needs

@@ -3,7 +3,7 @@ use borrow.Author.Needs.{needs}
 use Rattle.range_reads.proofs.read_range.Statement.{statement}
 use Rattle.range_reads.proofs.read_range.Tie as tie
 use native.Mathlib.Omega.{arith}
-use Rattle.range_reads.proofs.ByKind.{most, own-range, signal-in, signal-few, signal-read, slice-in, slice-few, slice-read, constant-read, unary-in, unary-made, binary-in, binary-made, mux-in, mux-made, parts-in, parts-wide, pieces-read}
+use Rattle.range_reads.proofs.ByKind.{own-range, signal-in, signal-few, signal-read, slice-in, slice-few, slice-read, constant-read, unary-in, unary-made, binary-in, binary-made, mux-in, mux-made, parts-in, parts-wide, pieces-read}
 
 -- src/lib.rt:180:9
 expression-at-requires : tie.Need-expression-at-requires
@@ -22,7 +22,7 @@ copy-signal-requires : tie.Need-copy-signal-requires
 copy-signal-requires c κs =
     let h = c .before .before .before .before .before .before .before .before .before .pre .0 in
     let i = signal-in _ _ _ _ _ h _ (c .before .before .before .before .expression-at .ensures) _ _ (c .before .before .kind .given .1) in
-    (h .tabled .laid, i .0, i .1, omega (arith, most _ _ _ _ _ h, c .before .before .before .before .before .before .before .before .before .pre .1))
+    (h .tabled .laid, i .0, i .1, omega (arith, c .before .before .before .before .before .before .before .before .before .pre .1))
 
 -- src/lib.rt:186:13
 copied-requires : tie.Need-copied-requires
@@ -92,7 +92,7 @@ copy-range-requires : tie.Need-copy-range-requires
 copy-range-requires c κs =
     let h = c .before .before .before .before .before .before .before .before .before .pre .0 in
     let i = slice-in _ _ _ _ _ h _ (c .before .before .before .before .expression-at .ensures) _ _ (c .before .before .kind7 .given .1) in
-    (h .tabled .laid, i .there, i .inside, omega (arith, most _ _ _ _ _ h, c .before .before .before .before .before .before .before .before .before .pre .1))
+    (h .tabled .laid, i .there, i .inside, omega (arith, c .before .before .before .before .before .before .before .before .before .pre .1))
 
 -- src/lib.rt:201:13
 copied-requires-3 : tie.Need-copied-requires-3
@@ -104,11 +104,11 @@ same-length c = search needs
 
 -- src/lib.rt:168:1
 returns : tie.Need-returns
-returns c = signal-read _ _ _ _ _ (c .before .before .before .before .before .before .before .before .before .before .before .before .before .pre .0) _ (c .before .before .before .before .before .before .before .before .expression-at .ensures) _ _ (c .before .before .before .before .before .before .kind .given .1) _ _ _ _ (c .before .before .before .copy-signal .ensures) (c .copied .ensures)
+returns c = signal-read _ _ _ _ _ (c .before .before .before .before .before .before .before .before .before .before .before .before .before .pre .0) _ (c .before .before .before .before .before .before .before .before .expression-at .ensures) _ _ (c .before .before .before .before .before .before .kind .given .1) (c .before .before .before .before .before .before .before .before .before .before .before .before .before .pre .1) _ _ _ _ (c .before .before .before .copy-signal .ensures) (c .copied .ensures)
 
 -- src/lib.rt:168:1
 returns-2 : tie.Need-returns-2
-returns-2 c = constant-read _ _ _ _ _ (c .before .before .before .before .before .before .before .before .pre .0) _ (c .before .before .before .expression-at .ensures) _ (c .before .kind2 .given .1) _ _
+returns-2 c = constant-read _ _ _ _ _ (c .before .before .before .before .before .before .before .before .pre .0) _ (c .before .before .before .expression-at .ensures) _ (c .before .kind2 .given .1) (c .before .before .before .before .before .before .before .before .pre .1) _ _
 
 -- src/lib.rt:168:1
 same-length-2 : tie.Need-same-length-2
@@ -148,7 +148,7 @@ same-length-7 c = search needs
 
 -- src/lib.rt:168:1
 returns-6 : tie.Need-returns-6
-returns-6 c = pieces-read _ _ _ _ _ (c .before .before .before .before .before .before .before .before .before .before .before .before .before .pre .0) _ (c .before .before .before .before .before .before .before .before .expression-at .ensures) _ _ (c .before .before .before .before .before .before .kind6 .given .1) _ _ _ (c .before .before .before .copy-pieces .ensures) (c .copied2 .ensures)
+returns-6 c = pieces-read _ _ _ _ _ (c .before .before .before .before .before .before .before .before .before .before .before .before .before .pre .0) _ (c .before .before .before .before .before .before .before .before .expression-at .ensures) _ _ (c .before .before .before .before .before .before .kind6 .given .1) (c .before .before .before .before .before .before .before .before .before .before .before .before .before .pre .1) _ _ _ (c .before .before .before .copy-pieces .ensures) (c .copied2 .ensures)
 
 -- src/lib.rt:168:1
 same-length-8 : tie.Need-same-length-8
@@ -156,7 +156,7 @@ same-length-8 c = search needs
 
 -- src/lib.rt:168:1
 returns-7 : tie.Need-returns-7
-returns-7 c = slice-read _ _ _ _ _ (c .before .before .before .before .before .before .before .before .before .before .before .before .before .pre .0) _ (c .before .before .before .before .before .before .before .before .expression-at .ensures) _ _ (c .before .before .before .before .before .before .kind7 .given .1) _ _ _ _ (c .before .before .before .copy-range .ensures) (c .copied3 .ensures)
+returns-7 c = slice-read _ _ _ _ _ (c .before .before .before .before .before .before .before .before .before .before .before .before .before .pre .0) _ (c .before .before .before .before .before .before .before .before .expression-at .ensures) _ _ (c .before .before .before .before .before .before .kind7 .given .1) (c .before .before .before .before .before .before .before .before .before .before .before .before .before .pre .1) _ _ _ _ (c .before .before .before .copy-range .ensures) (c .copied3 .ensures)
 
 pub read-range-spec : {M : Type 1} → statement M
 read-range-spec =

@@ -29,7 +29,7 @@ same-length-3 : tie.Need-same-length-3
 same-length-3 c = search needs
 
 returns : tie.Need-returns
-returns c = arithmetic-steps (c .before .before .before .before .before .before .before .before .before .before .before .before .before .before .before .before .before .before .before .pre .5) _ _ _ _ _ (c .before .before .before .before .before .before .before .before .before .before .arithmetic .ensures) (c .before .before .enum-told .given .1) (c .digest .ensures)
+returns c = arithmetic-steps (c .before .before .before .before .before .before .before .before .before .before .before .before .before .before .before .before .before .before .pre .4) _ _ _ _ _ (c .before .before .before .before .before .before .before .before .before .before .arithmetic .ensures) (c .before .before .enum-told .given .1) (c .digest .ensures)
 
 same-length-4 : tie.Need-same-length-4
 same-length-4 c = search needs

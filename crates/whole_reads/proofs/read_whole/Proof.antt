@@ -3,7 +3,7 @@ use borrow.Author.Needs.{needs}
 use Rattle.whole_reads.proofs.read_whole.Statement.{statement}
 use Rattle.whole_reads.proofs.read_whole.Tie as tie
 use native.Mathlib.Omega.{arith}
-use Rattle.whole_reads.proofs.Ways.{least, most, signal-in, signal-read, slice-in, slice-read, constant-read, unary-in, unary-width, unary-made, binary-in, binary-made, mux-in, mux-made, parts-in, parts-wide, parts-read}
+use Rattle.whole_reads.proofs.Ways.{least, most, fit, signal-in, signal-read, slice-in, slice-read, constant-read, unary-in, unary-fit, unary-width, unary-made, binary-in, binary-fit, binary-made, mux-in, mux-made, parts-in, parts-wide, parts-read}
 
 -- src/lib.rt:57:9
 expression-at-requires : tie.Need-expression-at-requires
@@ -19,7 +19,7 @@ copy-signal-requires c κs =
     let h = c .before .before .before .before .before .before .before .before .before .pre .0 in
     let d = c .before .before .before .before .expression-at .ensures in
     let i = signal-in _ _ _ h _ d _ _ (c .before .before .kind .given .1) in
-    (h .tabled .laid, i .0, i .1, omega (arith, most _ _ _ h _ d, c .before .before .before .before .before .before .before .before .before .pre .1))
+    (h .tabled .laid, i .0, i .1, omega (arith, fit _ _ _ h _ d (c .before .before .before .before .before .before .before .before .before .pre .1)))
 
 -- src/lib.rt:63:13
 copied-requires : tie.Need-copied-requires
@@ -38,7 +38,7 @@ unary-operand-requires : tie.Need-unary-operand-requires
 unary-operand-requires c κs =
     let h = c .before .before .before .before .before .before .before .before .before .pre .0 in
     let d = c .before .before .before .before .expression-at .ensures in
-    (h .tabled .laid, unary-in _ _ _ h _ d _ _ (c .before .before .kind3 .given .1), unary-width _ _ _ h _ d _ _ (c .before .before .kind3 .given .1), least _ _ _ h _ d, most _ _ _ h _ d, c .before .before .before .before .before .before .before .before .before .pre .1)
+    (h .tabled .laid, unary-in _ _ _ h _ d _ _ (c .before .before .kind3 .given .1), unary-width _ _ _ h _ d _ _ (c .before .before .kind3 .given .1), least _ _ _ h _ d, fit _ _ _ h _ d (c .before .before .before .before .before .before .before .before .before .pre .1), unary-fit _ _ _ h _ d _ _ (c .before .before .kind3 .given .1) (c .before .before .before .before .before .before .before .before .before .pre .1))
 
 -- src/lib.rt:70:26
 enum-known-kind-4 : tie.Need-enum-known-kind-4
@@ -46,7 +46,12 @@ enum-known-kind-4 c = search needs
 
 -- src/lib.rt:70:39
 two-operands-requires : tie.Need-two-operands-requires
-two-operands-requires c κs = (binary-in _ _ _ (c .before .before .before .before .before .before .before .before .before .before .pre .0) _ (c .before .before .before .before .before .expression-at .ensures) _ _ _ (c .before .before .before .kind4 .given .1), c .before .before .before .before .before .before .before .before .before .before .pre .1, c .before .before .before .before .before .before .before .before .before .before .pre .2)
+two-operands-requires c κs =
+    let h = c .before .before .before .before .before .before .before .before .before .before .pre .0 in
+    let d = c .before .before .before .before .before .expression-at .ensures in
+    let q = c .before .before .before .kind4 .given .1 in
+    let i = binary-fit _ _ _ h _ d _ _ _ q (c .before .before .before .before .before .before .before .before .before .before .pre .1) in
+    (binary-in _ _ _ h _ d _ _ _ q, c .before .before .before .before .before .before .before .before .before .before .pre .1 .most, i .0, i .1, c .before .before .before .before .before .before .before .before .before .before .pre .2)
 
 -- src/lib.rt:71:23
 enum-known-kind-5 : tie.Need-enum-known-kind-5
@@ -57,7 +62,7 @@ mux-operands-requires : tie.Need-mux-operands-requires
 mux-operands-requires c κs =
     let h = c .before .before .before .before .before .before .before .before .before .before .pre .0 in
     let d = c .before .before .before .before .before .expression-at .ensures in
-    (h .tabled .laid, mux-in _ _ _ h _ d _ _ _ (c .before .before .before .kind5 .given .1), least _ _ _ h _ d, most _ _ _ h _ d, c .before .before .before .before .before .before .before .before .before .before .pre .1, c .before .before .before .before .before .before .before .before .before .before .pre .2)
+    (h .tabled .laid, mux-in _ _ _ h _ d _ _ _ (c .before .before .before .kind5 .given .1), least _ _ _ h _ d, fit _ _ _ h _ d (c .before .before .before .before .before .before .before .before .before .before .pre .1), c .before .before .before .before .before .before .before .before .before .before .pre .2)
 
 -- src/lib.rt:72:26
 enum-known-kind-6 : tie.Need-enum-known-kind-6
@@ -69,7 +74,7 @@ copy-parts-requires c κs =
     let h = c .before .before .before .before .before .before .before .before .before .pre .0 in
     let d = c .before .before .before .before .expression-at .ensures in
     let i = parts-wide _ _ _ h _ d _ _ (c .before .before .kind6 .given .1) in
-    (h .tabled .laid, parts-in _ _ _ h _ d _ _ (c .before .before .kind6 .given .1), omega (arith, i, most _ _ _ h _ d, c .before .before .before .before .before .before .before .before .before .pre .1), omega (arith, i, most _ _ _ h _ d))
+    (h .tabled .laid, parts-in _ _ _ h _ d _ _ (c .before .before .kind6 .given .1), omega (arith, i, fit _ _ _ h _ d (c .before .before .before .before .before .before .before .before .before .pre .1)), omega (arith, i, most _ _ _ h _ d))
 
 -- src/lib.rt:74:13
 copied-requires-2 : tie.Need-copied-requires-2
@@ -85,7 +90,7 @@ copy-range-requires c κs =
     let h = c .before .before .before .before .before .before .before .before .before .pre .0 in
     let d = c .before .before .before .before .expression-at .ensures in
     let i = slice-in _ _ _ h _ d _ _ (c .before .before .kind7 .given .1) in
-    (h .tabled .laid, i .0, i .1, omega (arith, most _ _ _ h _ d, c .before .before .before .before .before .before .before .before .before .pre .1))
+    (h .tabled .laid, i .0, i .1, omega (arith, fit _ _ _ h _ d (c .before .before .before .before .before .before .before .before .before .pre .1)))
 
 -- src/lib.rt:78:13
 copied-requires-3 : tie.Need-copied-requires-3
@@ -97,11 +102,11 @@ same-length c = search needs
 
 -- src/lib.rt:53:1
 returns : tie.Need-returns
-returns c = signal-read _ _ _ (c .before .before .before .before .before .before .before .before .before .before .before .before .before .pre .0) _ (c .before .before .before .before .before .before .before .before .expression-at .ensures) _ _ (c .before .before .before .before .before .before .kind .given .1) _ _ _ _ (c .before .before .before .copy-signal .ensures) (c .copied .ensures)
+returns c = signal-read _ _ _ (c .before .before .before .before .before .before .before .before .before .before .before .before .before .pre .0) _ (c .before .before .before .before .before .before .before .before .expression-at .ensures) _ _ (c .before .before .before .before .before .before .kind .given .1) (c .before .before .before .before .before .before .before .before .before .before .before .before .before .pre .1) _ _ _ _ (c .before .before .before .copy-signal .ensures) (c .copied .ensures)
 
 -- src/lib.rt:53:1
 returns-2 : tie.Need-returns-2
-returns-2 c = constant-read _ _ _ (c .before .before .before .before .before .before .before .before .pre .0) _ (c .before .before .before .expression-at .ensures) _ (c .before .kind2 .given .1) _ _
+returns-2 c = constant-read _ _ _ (c .before .before .before .before .before .before .before .before .pre .0) _ (c .before .before .before .expression-at .ensures) _ (c .before .kind2 .given .1) (c .before .before .before .before .before .before .before .before .pre .1) _ _
 
 -- src/lib.rt:53:1
 same-length-2 : tie.Need-same-length-2
@@ -141,7 +146,7 @@ same-length-7 c = search needs
 
 -- src/lib.rt:53:1
 returns-6 : tie.Need-returns-6
-returns-6 c = parts-read _ _ _ (c .before .before .before .before .before .before .before .before .before .before .before .before .before .pre .0) _ (c .before .before .before .before .before .before .before .before .expression-at .ensures) _ _ (c .before .before .before .before .before .before .kind6 .given .1) _ _ _ (c .before .before .before .copy-parts .ensures) (c .copied2 .ensures)
+returns-6 c = parts-read _ _ _ (c .before .before .before .before .before .before .before .before .before .before .before .before .before .pre .0) _ (c .before .before .before .before .before .before .before .before .expression-at .ensures) _ _ (c .before .before .before .before .before .before .kind6 .given .1) (c .before .before .before .before .before .before .before .before .before .before .before .before .before .pre .1) _ _ _ (c .before .before .before .copy-parts .ensures) (c .copied2 .ensures)
 
 -- src/lib.rt:53:1
 same-length-8 : tie.Need-same-length-8
@@ -149,7 +154,7 @@ same-length-8 c = search needs
 
 -- src/lib.rt:53:1
 returns-7 : tie.Need-returns-7
-returns-7 c = slice-read _ _ _ (c .before .before .before .before .before .before .before .before .before .before .before .before .before .pre .0) _ (c .before .before .before .before .before .before .before .before .expression-at .ensures) _ _ (c .before .before .before .before .before .before .kind7 .given .1) _ _ _ _ (c .before .before .before .copy-range .ensures) (c .copied3 .ensures)
+returns-7 c = slice-read _ _ _ (c .before .before .before .before .before .before .before .before .before .before .before .before .before .pre .0) _ (c .before .before .before .before .before .before .before .before .expression-at .ensures) _ _ (c .before .before .before .before .before .before .kind7 .given .1) (c .before .before .before .before .before .before .before .before .before .before .before .before .before .pre .1) _ _ _ _ (c .before .before .before .copy-range .ensures) (c .copied3 .ensures)
 
 pub read-whole-spec : {M : Type 1} → statement M
 read-whole-spec =

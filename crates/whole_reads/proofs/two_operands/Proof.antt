@@ -15,7 +15,7 @@ enum-told c = search needs
 
 -- src/lib.rt:35:26
 add-operands-requires : tie.Need-add-operands-requires
-add-operands-requires c κs = (add-in _ _ _ _ _ _ (c .before .before .before .before .before .before .before .before .before .pre .0) _ (c .before .before .before .before .op-class .ensures) (c .before .before .enum-told .given .1), c .before .before .before .before .before .before .before .before .before .pre .1, c .before .before .before .before .before .before .before .before .before .pre .2)
+add-operands-requires c κs = (add-in _ _ _ _ _ _ (c .before .before .before .before .before .before .before .before .before .pre .0) _ (c .before .before .before .before .op-class .ensures) (c .before .before .enum-told .given .1), c .before .before .before .before .before .before .before .before .before .pre .1, c .before .before .before .before .before .before .before .before .before .pre .4)
 
 -- src/lib.rt:37:17
 expr-width-requires : tie.Need-expr-width-requires
@@ -28,7 +28,7 @@ binary-operands-requires c κs =
     let t = h .tabled in
     let no = no-add _ (c .before .before .before .before .op-class .result) (c .before .before .before .before .op-class .ensures) (not-adds (c .before .before .before .before .op-class .result) (c .before .before .before .match .keys2)) in
     let v = c .before .before .expr-width .ensures in
-    (t .laid, plain-sides _ _ _ _ _ _ h no .0, plain-sides _ _ _ _ _ _ h no .1, rw v (plain-width _ _ _ _ _ _ h no), rw v (width-least _ (t .readable) _ (t .inside)), rw v (t .readable .most _ (t .inside)), c .before .before .before .before .before .before .before .before .before .pre .1, c .before .before .before .before .before .before .before .before .before .pre .2)
+    (t .laid, plain-sides _ _ _ _ _ _ h no .0, plain-sides _ _ _ _ _ _ h no .1, rw v (plain-width _ _ _ _ _ _ h no), rw v (width-least _ (t .readable) _ (t .inside)), rw v (c .before .before .before .before .before .before .before .before .before .pre .1), c .before .before .before .before .before .before .before .before .before .pre .2, c .before .before .before .before .before .before .before .before .before .pre .3, c .before .before .before .before .before .before .before .before .before .pre .4)
 
 -- src/lib.rt:21:1
 same-length : tie.Need-same-length

@@ -2,11 +2,9 @@
 
 use command::arguments::{HELP, Request, Wish, request};
 use command::input::image_in;
-use command::listing::listing;
 use command::lowering::{Outcome, lower, remark};
 use command::refusal::in_words;
 use command::{ACCEPTED, Answer};
-use image::Image;
 use std::io::{ErrorKind, Write};
 use std::process::ExitCode;
 
@@ -48,8 +46,8 @@ fn run(wish: &Wish) -> Result<Answer, String> {
     if let Some(file) = &wish.words_out {
         write(file, &words.iter().flat_map(|word| word.to_le_bytes()).collect::<Vec<u8>>())?;
     }
-    let module = Image::decode(&image).ok_or("an accepted image cannot be read")?;
-    print(&listing(&module, &words).ok_or("the netlist's words cannot be read")?)?;
+    let listing = driver::words_listing(&image, &words);
+    print(&listing.ok_or("the netlist's words cannot be read")?)?;
     Ok(answer)
 }
 

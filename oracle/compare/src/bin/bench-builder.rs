@@ -2,6 +2,7 @@
 //! run, on the same operations: time per operation and ratio. Before a row is
 //! timed, the answers of both are compared.
 
+use compare::args::{parse_number, Words};
 use compare::parts::{BuildPlan, Parts, Trial, HAS_TRIAL, MISSING};
 use image::Random;
 use std::collections::HashSet;
@@ -10,8 +11,11 @@ use std::num::NonZeroU32;
 use std::time::Instant;
 use struo_ir::{NetId, Netlist};
 
-const USAGE: &str = "bench-builder
-    Times the builder of the port's library beside struo's Netlist.";
+const USAGE: &str = "bench-builder [repeat port|rust NETS LIMIT LOOKUPS]
+    Times the builder of the port's library beside struo's Netlist.
+    repeat   Makes NETS nets and looks for their gates, LOOKUPS times and at most
+             1,000,000: for a counter of instructions. What is done before the
+             first lookup does not hang on LOOKUPS. LIMIT is the port's N.";
 
 const INPUT: u32 = 14;
 const MUX: u32 = 5;
@@ -21,18 +25,29 @@ const MOST_NETS: u32 = 65_535;
 /// be shared.
 const LOOKUPS: usize = 50_000;
 const RUNS: usize = 200;
+/// Lookups that one run may repeat.
+const MOST_LOOKUPS: usize = 1_000_000;
 
 fn main() {
-    if std::env::args().len() > 1 {
-        println!("{USAGE}");
-        return;
-    }
     if !HAS_TRIAL {
         eprintln!("bench-builder: {MISSING}: run oracle/run-compare-builder first");
         std::process::exit(2);
     }
+    let mut words = Words::of_process();
+    let done = match words.next().as_deref() {
+        None => Ok(times()),
+        Some("repeat") => repeat(&mut words),
+        Some(_) => Err(USAGE.to_string()),
+    };
+    if let Err(text) = done {
+        eprintln!("{text}");
+        std::process::exit(2);
+    }
+}
+
+fn times() {
     println!("{:<40} {:>6} {:>11} {:>11} {:>6} {:>6}", "operations", "N", "port ns/op", "Rust ns/op", "ratio", "steps");
-    build_row("60,000 distinct gates", &distinct_gates(60_000));
+    build_row("60,000 distinct gates", &distinct_gates(PORT_WIDTH, 60_000));
     build_row("mux tree on one select, 16,383 muxes", &mux_tree(14));
     for nets in [1_000, 4_000, 16_000, 60_000] {
         lookup_rows(nets);
@@ -48,8 +63,7 @@ fn input_ports(bits: u32) -> Operations {
 }
 
 /// And, Or and Xor of different pairs of inputs.
-fn distinct_gates(count: usize) -> Operations {
-    let inputs = PORT_WIDTH.min(count as u32 / 2);
+fn distinct_gates(inputs: u32, count: usize) -> Operations {
     let mut operations = input_ports(inputs);
     let mut random = Random::new(1);
     let mut seen = HashSet::new();
@@ -87,27 +101,54 @@ fn build_row(name: &str, operations: &Operations) {
     println!();
 }
 
-/// Gates that are there, looked for in random order. The port's call begins with
-/// an empty netlist: the time to make the gates is taken off.
-fn lookup_rows(nets: usize) {
-    let inputs = PORT_WIDTH.min(nets as u32 / 2) as usize;
-    let made = distinct_gates(nets - inputs);
-    let ports = input_ports(inputs as u32).len();
-    let mut operations = made.clone();
+/// Operations that make so many nets, inputs and gates, and how many these are;
+/// then the gates that are there, looked for in random order.
+fn lookups(nets: usize, count: usize) -> (Operations, usize) {
+    let inputs = PORT_WIDTH.min(nets as u32 / 2);
+    let ports = input_ports(inputs).len();
+    let mut operations = distinct_gates(inputs, nets - inputs as usize);
+    let made = operations.len();
     let mut random = Random::new(2);
-    operations.extend((0..LOOKUPS).map(|_| made[ports + random.below(made.len() - ports)]));
+    for _ in 0..count {
+        operations.push(operations[ports + random.below(made - ports)]);
+    }
+    (operations, made)
+}
+
+/// The port's call begins with an empty netlist: the time to make the gates is
+/// taken off.
+fn lookup_rows(nets: usize) {
+    let (operations, made) = lookups(nets, LOOKUPS);
     let all = operations.len();
     let mut netlist = Netlist::new("t");
-    rust_steps(&mut netlist, &made);
-    let rust_time = least_seconds(|| rust_steps(&mut netlist, &operations[made.len()..]).len());
+    rust_steps(&mut netlist, &operations[..made]);
+    let rust_time = least_seconds(|| rust_steps(&mut netlist, &operations[made..]).len());
     for n in [MOST_NETS, nets as u32] {
         let mut port = Port::new(n, all);
         assert_eq!(port.run(&operations, all), rust_run(&operations));
         let mut time = |turns| least_seconds(|| port.run(&operations, turns).len());
-        let port_time = time(all) - time(made.len());
+        let port_time = time(all) - time(made);
         row(&format!("10 million lookups among {nets} nets"), n, port_time, rust_time, LOOKUPS);
-        println!(" {:>6.2}", port.steps(made.len()));
+        println!(" {:>6.2}", port.steps(made));
     }
+}
+
+fn repeat(words: &mut Words) -> Result<(), String> {
+    let side = words.value("repeat")?;
+    let mut number = |name, least: u64, most: u64| match parse_number(name, &words.value("repeat")?)? {
+        number if (least..=most).contains(&number) => Ok(number as usize),
+        number => Err(format!("{name} is {least} to {most}, not {number}")),
+    };
+    let nets = number("NETS", 10, u64::from(MOST_NETS))?;
+    let limit = number("LIMIT", nets as u64, u64::from(MOST_NETS))?;
+    let count = number("LOOKUPS", 0, MOST_LOOKUPS as u64)?;
+    let (operations, made) = lookups(nets, MOST_LOOKUPS);
+    match side.as_str() {
+        "port" => drop(black_box(Port::new(limit as u32, operations.len()).run(&operations, made + count))),
+        "rust" => drop(black_box(rust_run(&operations[..made + count]))),
+        _ => return Err(USAGE.to_string()),
+    }
+    Ok(())
 }
 
 /// Begins a line.

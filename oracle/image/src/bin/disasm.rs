@@ -1,6 +1,5 @@
 //! disasm: prints a module image in its text form.
 
-use std::io::Read;
 use std::process::ExitCode;
 
 const HELP: &str = "usage: disasm IMAGE
@@ -29,17 +28,8 @@ fn main() -> ExitCode {
 }
 
 fn run(source: &str) -> Result<String, String> {
-    let bytes = read(source).map_err(|error| format!("{source}: {error}"))?;
+    let bytes = image::read(source).map_err(|error| format!("{source}: {error}"))?;
     let image = image::Image::decode(&bytes);
     let image = image.ok_or(format!("{source}: the header does not lay out an image"))?;
     Ok(image::disassemble(&image))
-}
-
-fn read(source: &str) -> std::io::Result<Vec<u8>> {
-    if source != "-" {
-        return std::fs::read(source);
-    }
-    let mut bytes = Vec::new();
-    std::io::stdin().read_to_end(&mut bytes)?;
-    Ok(bytes)
 }

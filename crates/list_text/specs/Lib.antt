@@ -1,0 +1,2 @@
+-- When a text stands in a buffer, and when there is room for it.
+pub mod Written
