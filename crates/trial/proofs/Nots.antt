@@ -1,9 +1,9 @@
 -- After each operation of a trial no Not has a Not or a constant as its input: over the model, then over the calls' contracts. Assumes nothing.
-use mathlib.Core.Path.{_≡_, refl, ap, _∙_}
+use mathlib.Core.Path.{_≡_, refl, sym, ap, _∙_}
 use mathlib.Core.Bool.{Bool, true, false, not, cond, _||_}
 use mathlib.Core.List.{List, _∷_, [], _++_}
 use mathlib.Core.Option.{Option, none, some}
-use Prim.Native.Nat.{ℕ, _+_, _<_, min, max}
+use Prim.Native.Nat.{ℕ, zero, suc, _+_, _<_, min, max}
 use native.Mathlib.Omega.{arith}
 use lib.Dec.{eqb, leb}
 use lib.ListN.{length, getD}
@@ -13,7 +13,7 @@ use Rattle.model.specs.Builder.{refused, done, andThen, Made, nodeForNet, const
 use Rattle.model.specs.WordCells.{findCell, arithmetic, comparison}
 use Rattle.netlist_view.specs.View.{netlistOf}
 use Rattle.netlist_view.specs.Laws.{length-nodesOf, withRecord, empty, Holds}
-use Rattle.netlist_index.specs.Index.{Held}
+use Rattle.netlist_index.specs.Index.{hashWords, Held}
 use Rattle.nodes.specs.Gives.{outOf, Gives}
 use Rattle.nodes.specs.declared.Added.{Added}
 use Rattle.nodes.specs.declared.Added.the-variants.{Net, TooManyNets, ListFull}
@@ -23,6 +23,7 @@ use Rattle.constant_fold.specs.declared.Filled.{Filled}
 use Rattle.constant_fold.specs.declared.Filled.the-variants as F
 use Rattle.cells.specs.Cells.{Makes}
 use Rattle.gates.specs.Nots.{PlainNots, not-there, Keeps, keeps-done, keeps-if, keeps-bind, keeps-made, keeps-node, keeps-cached, keeps-constant, keeps-mux, keeps-each, keeps-both, kept}
+use Rattle.trial.specs.Build.{firstOf, digestOf}
 use Rattle.trial.specs.Steps.{Steps}
 
 -- ---- gates ----
@@ -128,61 +129,79 @@ keeps-arithmetic op lhs rhs carry l p =
 pub there : (n : ℕ) (w : List ℕ) (a : ℕ) → a < getD w 1 0 → a < length (netlistOf n w .nodes)
 there n w a h = omega (arith, length-nodesOf w (getD w 1 0))
 
+-- a run's first net
+first-run : (r : Added) (b : ℕ) (l : Netlist) → 0 < b → firstOf (runOf r b l) ≡ outOf r l
+unfolding from
+first-run (Net k) zero l h = absurd (omega arith)
+first-run (Net k) (suc b) l h = refl
+first-run TooManyNets b l h = refl
+first-run ListFull b l h = refl
+
 module _ {l : Netlist} (p : PlainNots l) {n : ℕ} {w idx : List ℕ} where
   module _ {r : Added} where
-    gives-steps : {m : Made ℕ} → Keeps m → Gives m n r w idx → Steps n r w idx
-    gives-steps h g = record { held = g .held; nots = λ k e. kept h (g .says ∙ ap (λ (x : Added). outOf x (netlistOf n w)) e) }
+    gives-steps : {m : Made ℕ} → Keeps m → Gives m n r w idx → Steps m n r w idx
+    gives-steps h g = record { says = g .says; held = g .held; nots = λ k e. kept h (g .says ∙ ap (λ (x : Added). outOf x (netlistOf n w)) e) }
 
-    pub constant-steps : (v : Bool) → Gives (addConstant v l) n r w idx → Steps n r w idx
+    pub constant-steps : (v : Bool) → Gives (addConstant v l) n r w idx → Steps (addConstant v l) n r w idx
     constant-steps v g = gives-steps (keeps-constant v l p) g
 
-    pub not-steps : (a : ℕ) → a < length (l .nodes) → Gives (addNot a l) n r w idx → Steps n r w idx
+    pub not-steps : (a : ℕ) → a < length (l .nodes) → Gives (addNot a l) n r w idx → Steps (addNot a l) n r w idx
     not-steps a h g = gives-steps (keeps-not a l h p) g
 
-    pub and-steps : (a b : ℕ) → Gives (addAnd a b l) n r w idx → Steps n r w idx
+    pub and-steps : (a b : ℕ) → Gives (addAnd a b l) n r w idx → Steps (addAnd a b l) n r w idx
     and-steps a b g = gives-steps (keeps-and a b l p) g
 
-    pub or-steps : (a b : ℕ) → Gives (addOr a b l) n r w idx → Steps n r w idx
+    pub or-steps : (a b : ℕ) → Gives (addOr a b l) n r w idx → Steps (addOr a b l) n r w idx
     or-steps a b g = gives-steps (keeps-or a b l p) g
 
-    pub xor-steps : (a b : ℕ) → a < length (l .nodes) → b < length (l .nodes) → Gives (addXor a b l) n r w idx → Steps n r w idx
+    pub xor-steps : (a b : ℕ) → a < length (l .nodes) → b < length (l .nodes) → Gives (addXor a b l) n r w idx → Steps (addXor a b l) n r w idx
     xor-steps a b ha hb g = gives-steps (keeps-xor a b l ha hb p) g
 
-    pub mux-steps : (c t e : ℕ) → Gives (addMux c t e l) n r w idx → Steps n r w idx
+    pub mux-steps : (c t e : ℕ) → Gives (addMux c t e l) n r w idx → Steps (addMux c t e l) n r w idx
     mux-steps c t e g = gives-steps (keeps-mux c t e l p) g
 
-    pub comparison-steps : (op : ComparisonOp) (lhs rhs : List ℕ) {b : ℕ} → Makes (comparison op lhs rhs l) n b r w idx → Steps n r w idx
-    comparison-steps op lhs rhs {b} g = record {
-      held = g .held;
-      nots = λ k e. kept (keeps-comparison op lhs rhs l p) (g .says ∙ ap (λ (x : Added). runOf x b (netlistOf n w)) e);
+    run-steps : {m : Made (List ℕ)} {b : ℕ} → 0 < b → Keeps m → Held n w idx → m ≡ runOf r b (netlistOf n w) → Steps (firstOf m) n r w idx
+    run-steps {m} {b} more k h e = record {
+      says = ap firstOf e ∙ first-run r b (netlistOf n w) more;
+      held = h;
+      nots = λ j q. kept k (e ∙ ap (λ (x : Added). runOf x b (netlistOf n w)) q);
     }
 
-    pub input-steps : (s b : ℕ) {w₀ : List ℕ} → Held n w₀ idx → Runs (addInputPort s b l) n b r w₀ w → Steps n r w idx
-    input-steps s b h g = record {
-      held = g .held idx h;
-      nots = λ k e. kept (keeps-input s b l p) (g .says ∙ ap (λ (x : Added). runOf x b (netlistOf n w)) e);
-    }
+    pub comparison-steps : (op : ComparisonOp) (lhs rhs : List ℕ) → Makes (comparison op lhs rhs l) n 1 r w idx → Steps (firstOf (comparison op lhs rhs l)) n r w idx
+    comparison-steps op lhs rhs g = run-steps (omega arith) (keeps-comparison op lhs rhs l p) (g .held) (g .says)
 
-    pub output-steps : (s : ℕ) (xs : List ℕ) {w₀ : List ℕ} → Held n w₀ idx → Runs (addOutputPort s xs l) n (length xs) r w₀ w → Steps n r w idx
-    output-steps s xs h g = record {
-      held = g .held idx h;
-      nots = λ k e. kept (keeps-output s xs l p) (g .says ∙ ap (λ (x : Added). runOf x (length xs) (netlistOf n w)) e);
-    }
+    pub input-steps : (s b : ℕ) {w₀ : List ℕ} → 0 < b → Held n w₀ idx → Runs (addInputPort s b l) n b r w₀ w → Steps (firstOf (addInputPort s b l)) n r w idx
+    input-steps s b more h g = run-steps more (keeps-input s b l p) (g .held idx h) (g .says)
 
-  -- word arithmetic, whose answer is a number of its own
+    pub output-steps : (s : ℕ) (xs : List ℕ) {w₀ : List ℕ} → 0 < length xs → Held n w₀ idx → Runs (addOutputPort s xs l) n (length xs) r w₀ w → Steps (firstOf (addOutputPort s xs l)) n r w idx
+    output-steps s xs more h g = run-steps more (keeps-output s xs l p) (g .held idx h) (g .says)
+
+  -- word arithmetic, whose answer is a digest
   pub arithmetic-steps : (op : ArithmeticOp) (lhs rhs : List ℕ) (carry : Option ℕ) {r : Filled} {out : List ℕ} (d : ℕ) → Fills (arithmetic op lhs rhs carry l) n r out w idx
-      → r ≡ F.Done → Steps n (Net d) w idx
-  arithmetic-steps op lhs rhs carry {out} d g e = record {
-    held = g .held;
-    nots = λ k q. kept (keeps-arithmetic op lhs rhs carry l p) (g .says ∙ ap (λ (x : Filled). filledOf x out (netlistOf n w)) e);
-  }
+      → r ≡ F.Done → d ≡ hashWords 0 out → Steps (digestOf (arithmetic op lhs rhs carry l)) n (Net d) w idx
+  arithmetic-steps op lhs rhs carry {out} d g e q =
+      let made = g .says ∙ ap (λ (x : Filled). filledOf x out (netlistOf n w)) e in
+      record {
+        says = ap digestOf made ∙ ap (λ (k : ℕ). done (k, netlistOf n w)) (sym q);
+        held = g .held;
+        nots = λ k _. kept (keeps-arithmetic op lhs rhs carry l p) made;
+      }
 
 -- after a refusal nothing is said of the netlist
-pub nets-steps : {n : ℕ} {w idx : List ℕ} → Held n w idx → Steps n TooManyNets w idx
-nets-steps h = record { held = h; nots = λ k q. let z : _≡_ {A = ℕ} 0 1 = cc in absurd (omega arith) }
+module _ {m : Made (List ℕ)} {n : ℕ} {r : Filled} {out w idx : List ℕ} (g : Fills m n r out w idx) where
+  pub nets-steps : r ≡ F.TooManyNets → Steps (digestOf m) n TooManyNets w idx
+  nets-steps e = record {
+    says = ap digestOf (g .says ∙ ap (λ (x : Filled). filledOf x out (netlistOf n w)) e);
+    held = g .held;
+    nots = λ k q. let z : _≡_ {A = ℕ} 0 1 = cc in absurd (omega arith);
+  }
 
-pub list-steps : {n : ℕ} {w idx : List ℕ} → Held n w idx → Steps n ListFull w idx
-list-steps h = record { held = h; nots = λ k q. let z : _≡_ {A = ℕ} 0 1 = cc in absurd (omega arith) }
+  pub list-steps : r ≡ F.ListFull → Steps (digestOf m) n ListFull w idx
+  list-steps e = record {
+    says = ap digestOf (g .says ∙ ap (λ (x : Filled). filledOf x out (netlistOf n w)) e);
+    held = g .held;
+    nots = λ k q. let z : _≡_ {A = ℕ} 0 1 = cc in absurd (omega arith);
+  }
 
 -- ---- the empty netlist ----
 

@@ -1,31 +1,17 @@
 -- From an answer to what later calls ask. Assumes nothing.
-use mathlib.Core.Path.{_≡_, sym}
-use mathlib.Core.Bool.{true, false, true≢false}
+use mathlib.Core.Path.{_≡_}
 use mathlib.Core.List.{List}
 use Prim.Native.Nat.{ℕ, _+_, _*_, _≤_, _<_}
 use native.Mathlib.Omega.{arith}
 use lib.ListN.{length, take, replicate}
 use lib.Seq.{length-take-le}
-use lib.Dec.{eqb}
-use borrow.Author.Tests.{eqb-true}
 use Rattle.meaning.specs.Image.{countAt}
-use Rattle.meaning.specs.Checks.{checked}
-use Rattle.checks.specs.Checked.{answerOf}
-use Rattle.checks.specs.Accepted.{Accepted, accepted}
-use Rattle.checks.specs.declared.Checked.{Checked}
-use Rattle.checks.specs.declared.Checked.the-variants.{Fine}
+use Rattle.checks.specs.Accepted.{Accepted}
 use Rattle.accepted.specs.Formed.{readable}
 use Rattle.fusion.specs.Fusion.{Inside}
 use Rattle.netlist_view.specs.Laws.{empty, Holds}
 use Rattle.netlist_index.specs.Index.{Held}
 use Rattle.builder_laws.specs.Start.{held-start}
-
-pub never : {A : Type 0} → false ≡ true → A
-never e = absurd (true≢false (sym e))
-
-pub passed : (s : List ℕ) (c : Checked) → answerOf c ≡ checked s 1 0 22 98372 → c ≡ Fine → Accepted s
-unfolding answerOf
-passed s c e f = accepted s 1 0 22 98372 (sym (rw f at e)) .0
 
 pub asked : (s : List ℕ) (a b n : ℕ) → Accepted s → n ≡ countAt s 1 → a < n → b < n → Inside s a b
 asked s a b n g e l r = record { readable = readable s g; left = omega arith; right = omega arith }
@@ -33,9 +19,6 @@ asked s a b n g e l r = record { readable = readable s g; left = omega arith; ri
 -- what the lent words must be
 abbrev pub Fits : ℕ → ℕ → ℕ → Type 0
 Fits n net idx = (0 < n) × (n ≤ 65535) × (16 + 6 * n ≤ net) × (net ≤ 16 + 6 * n + 65535) × (idx ≡ 4 * n)
-
-pub fits : (n net idx : ℕ) → (n ≡ 0 → ⊥) → n ≤ 65535 → 16 + 6 * n ≤ net → net ≤ 16 + 6 * n + 65535 → eqb idx (4 * n) ≡ true → Fits n net idx
-fits n net idx z m l h e = (omega arith, m, l, h, eqb-true idx (4 * n) e)
 
 pub begun : (n k p : ℕ) (w idx : List ℕ) → k ≡ 4 * n → Holds n (empty n p) w → idx ≡ replicate k 0 → Held n w idx
 begun n k p w idx l h e = rw (e, l) (held-start n p w h)

@@ -1,2 +1,4 @@
 -- Definitions of this crate.
+pub mod Rows
+pub mod Build
 pub mod Steps

@@ -1,16 +1,20 @@
 // Parts of the port exported for comparison by running only; nothing rests on them.
 ghost use mathlib.Core.Path.{_≡_};
-ghost use mathlib.Core.Bool.{true};
-ghost use Prim.Native.Nat.{_+_, _*_, _≤_, _<_};
-ghost use lib.ListN.{length, getD};
-ghost use Rattle.meaning.specs.Image.{countAt};
+ghost use Prim.Native.Nat.{_+_, _*_, _%_, _≤_, _<_};
+ghost use lib.ListN.{length, getD, take};
 ghost use Rattle.checks.specs.Accepted.{Accepted};
 ghost use Rattle.expr_laws.specs.Exprs.{exprsOf};
-ghost use Rattle.ranges.specs.Table.{filled};
-ghost use Rattle.fusion.specs.Fusion.{Inside};
-ghost use Rattle.netlist_view.specs.View.{netlistOf};
-ghost use Rattle.netlist_index.specs.Index.{Held};
+ghost use Rattle.model.specs.Words.{bitWord};
+ghost use Rattle.model.specs.Lowering.{isZeroExpression};
+ghost use Rattle.fusion.specs.Fusion.{In, Inside, carryOf, eitherSide};
+ghost use Rattle.model.specs.WordCells as W;
+ghost use Rattle.netlist_view.specs.View.{netlistOf, room};
+ghost use Rattle.netlist_index.specs.Index.{hashWords, Held};
+ghost use Rattle.constant_fold.specs.Values as folded;
+ghost use Rattle.cells.specs.Cells.{compareOf};
 ghost use Rattle.gates.specs.Nots.{PlainNots};
+ghost use Rattle.trial.specs.Rows.{passing, Widened, carryWord, testWords, rowOf, PutRow, PutRows, Fused};
+ghost use Rattle.trial.specs.Build.{someNet, poolWord, someNets, digestOf, gateOf, gateStep, arithmeticAt, arithmeticStep, comparisonAt, comparisonStep, inputStep, outputStep, wordStep, doneFor, stepOf, sequence, refusalWord, Ran, fitting, Tried};
 ghost use Rattle.trial.specs.Steps.{Steps};
 use cells::ComparisonOp;
 use checks::Checked;
@@ -25,7 +29,7 @@ use nodes::Added;
 
 // Whether an image passes the checks, under limits and buffers that refuse none.
 fn passes(image: &[u8]) -> bool
-    ensures { λ r. ⌜ (r ≡ true → Accepted (now (image .entry))) ⌝ }
+    ensures { λ r. ⌜ r ≡ passing (now (image .entry)) ⌝ }
 {
     let checked = checks::check(image, 1, 0, 22, 98372);
     let Checked::Fine = checked else {
@@ -37,7 +41,7 @@ fn passes(image: &[u8]) -> bool
 // Ranges and narrowed adders, eight words for each expression; false if the image is refused or the table short.
 #[no_mangle]
 pub extern "C" fn trial_adder_widths(image: &[u8], table: &mut [u32]) -> bool
-    ensures { λ r. ⌜ (r ≡ true → now (table .exit) ≡ filled (exprsOf (now (image .entry))) (countAt (now (image .entry)) 1) (now (table .entry))) ⌝ }
+    ensures { λ r. ⌜ Widened (now (image .entry)) (now (table .entry)) r (now (table .exit)) ⌝ }
 {
     if passes(image) {
         let count = fields::count(image, 1) as usize;
@@ -49,7 +53,9 @@ pub extern "C" fn trial_adder_widths(image: &[u8], table: &mut [u32]) -> bool
     false
 }
 
-fn carry_word(c: Carry) -> u32 {
+fn carry_word(c: Carry) -> u32
+    ensures { λ r. ⌜ r ≡ carryWord (carryOf c) ⌝ }
+{
     match c {
         Carry::Of(e) => e,
         Carry::Nothing => ABSENT,
@@ -59,6 +65,7 @@ fn carry_word(c: Carry) -> u32 {
 // The answer of the fusion test.
 fn fusion_words(image: &[u8], a: u32, b: u32) -> [u32; 3]
     requires { ⌜ Inside (now image) a b ⌝ }
+    ensures { λ r. ⌜ r ≡ testWords (eitherSide (now (image .entry)) a b) ⌝ }
 {
     let answer = fusion::fusion_test(image, a, b);
     let Fusion::Carried(lhs, rhs, c) = answer else {
@@ -67,14 +74,23 @@ fn fusion_words(image: &[u8], a: u32, b: u32) -> [u32; 3]
     [lhs, rhs, c]
 }
 
+// Whether a is zero.
+fn zero_word(image: &[u8], a: u32) -> u32
+    requires { ⌜ In (now image) a ⌝ }
+    ensures { λ r. ⌜ r ≡ bitWord (isZeroExpression (exprsOf (now (image .entry))) a) ⌝ }
+{
+    if fusion::is_zero_expression(image, a) {
+        return 1;
+    }
+    0
+}
+
 // Whether a is zero, its carry, the fusion test of a and b, what an Add of them lowers.
 fn fusion_row(image: &[u8], a: u32, b: u32) -> [u32; 8]
     requires { ⌜ Inside (now image) a b ⌝ }
+    ensures { λ r. ⌜ r ≡ rowOf (now (image .entry)) a b ⌝ }
 {
-    let mut zero = 0;
-    if fusion::is_zero_expression(image, a) {
-        zero = 1;
-    }
+    let zero = zero_word(image, a);
     let carry = carry_word(fusion::carry_lsb(image, a));
     let test = fusion_words(image, a, b);
     let sum = fusion::add_with_carry(image, a, b);
@@ -95,6 +111,7 @@ fn fusion_row(image: &[u8], a: u32, b: u32) -> [u32; 8]
 // The row of two expressions, if they are there and there is room for it.
 fn put_row(image: &[u8], a: u32, b: u32, out: &mut [u32], at: usize) -> bool
     requires { ⌜ (Accepted (now image)) × (at < 8000000) ⌝ }
+    ensures { λ r. ⌜ PutRow (now (image .entry)) a b at (now (out .entry)) r (now (out .exit)) ⌝ }
 {
     let count = fields::count(image, 1);
     if a < count {
@@ -112,6 +129,7 @@ fn put_row(image: &[u8], a: u32, b: u32, out: &mut [u32], at: usize) -> bool
 // The rows of pairs of expressions.
 fn put_rows(image: &[u8], pairs: &[u32], count: usize, out: &mut [u32]) -> bool
     requires { ⌜ (Accepted (now image)) × (2 * count ≤ length (now pairs)) × (count ≤ 1000000) ⌝ }
+    ensures { λ r. ⌜ PutRows (now (image .entry)) (now (pairs .entry)) count (now (out .entry)) r (now (out .exit)) ⌝ }
 {
     let mut i = 0;
     while i < count {
@@ -126,7 +144,9 @@ fn put_rows(image: &[u8], pairs: &[u32], count: usize, out: &mut [u32]) -> bool
 
 // Fusion answers for pairs of expressions, eight words each; false if the image is refused, a pair not there, or the room short.
 #[no_mangle]
-pub extern "C" fn trial_fusion(image: &[u8], pairs: &[u32], out: &mut [u32]) -> bool {
+pub extern "C" fn trial_fusion(image: &[u8], pairs: &[u32], out: &mut [u32]) -> bool
+    ensures { λ r. ⌜ Fused (now (image .entry)) (now (pairs .entry)) (now (out .entry)) r (now (out .exit)) ⌝ }
+{
     let count = pairs.len() / 2;
     if count <= 1000000 {
         if passes(image) {
@@ -141,7 +161,7 @@ pub extern "C" fn trial_fusion(image: &[u8], pairs: &[u32], out: &mut [u32]) -> 
 // A net of those made so far.
 fn some_net(net: &[u32], x: u32) -> u32
     requires { ⌜ 16 ≤ length (now net) ⌝ }
-    ensures { λ r. ⌜ (0 < getD (now (net .entry)) 1 0 → r < getD (now (net .entry)) 1 0) ⌝ }
+    ensures { λ r. ⌜ (r ≡ someNet (getD (now (net .entry)) 1 0) x) × (0 < getD (now (net .entry)) 1 0 → r < getD (now (net .entry)) 1 0) ⌝ }
 {
     let count = net[1];
     if count == 0 {
@@ -150,7 +170,9 @@ fn some_net(net: &[u32], x: u32) -> u32
     x % count
 }
 
-fn pool_word(pool: &[u32], k: usize) -> u32 {
+fn pool_word(pool: &[u32], k: usize) -> u32
+    ensures { λ r. ⌜ r ≡ poolWord (now (pool .entry)) k ⌝ }
+{
     if pool.len() == 0 {
         return 0;
     }
@@ -160,7 +182,7 @@ fn pool_word(pool: &[u32], k: usize) -> u32 {
 // Nets for w bits, as the words of a pool from a place on name them.
 fn some_nets(net: &[u32], pool: &[u32], start: u32, w: usize) -> [u32; 1024]
     requires { ⌜ (16 ≤ length (now net)) × (w ≤ 1024) ⌝ }
-    ensures { λ r. ⌜ length r ≡ 1024 ⌝ }
+    ensures { λ r. ⌜ (length r ≡ 1024) × (take w r ≡ someNets (getD (now (net .entry)) 1 0) (now (pool .entry)) start w) ⌝ }
 {
     let mut nets = [0u32; 1024];
     let mut i = 0;
@@ -172,7 +194,9 @@ fn some_nets(net: &[u32], pool: &[u32], start: u32, w: usize) -> [u32; 1024]
 }
 
 // One word for several nets.
-fn digest(nets: &[u32]) -> u32 {
+fn digest(nets: &[u32]) -> u32
+    ensures { λ r. ⌜ r ≡ hashWords 0 (now (nets .entry)) ⌝ }
+{
     let mut h: u32 = 0;
     let mut i = 0;
     while i < nets.len() {
@@ -185,7 +209,7 @@ fn digest(nets: &[u32]) -> u32 {
 // A gate of nets.
 fn add_gate(net: &mut [u32], idx: &mut [u32], n: u32, op: u32, a: u32, b: u32, c: u32) -> Added
     requires { ⌜ (Held n (now net) (now idx)) × (PlainNots (netlistOf n (now net))) × (a < getD (now net) 1 0) × (b < getD (now net) 1 0) ⌝ }
-    ensures { λ r. ⌜ Steps n r (now (net .exit)) (now (idx .exit)) ⌝ }
+    ensures { λ r. ⌜ Steps (gateOf op a b c (netlistOf n (now (net .entry)))) n r (now (net .exit)) (now (idx .exit)) ⌝ }
 {
     match op {
         1 => gates::add_not(net, idx, n, a),
@@ -199,7 +223,7 @@ fn add_gate(net: &mut [u32], idx: &mut [u32], n: u32, op: u32, a: u32, b: u32, c
 // Operations 0 to 5: constants and gates.
 fn gate_step(net: &mut [u32], idx: &mut [u32], n: u32, op: u32, a: u32, b: u32, c: u32) -> Added
     requires { ⌜ (Held n (now net) (now idx)) × (PlainNots (netlistOf n (now net))) × ((op ≡ 0 → ⊥) → 0 < getD (now net) 1 0) ⌝ }
-    ensures { λ r. ⌜ Steps n r (now (net .exit)) (now (idx .exit)) ⌝ }
+    ensures { λ r. ⌜ Steps (gateStep op a b c (netlistOf n (now (net .entry)))) n r (now (net .exit)) (now (idx .exit)) ⌝ }
 {
     if op == 0 {
         return gates::add_constant(net, idx, n, a % 2 == 1);
@@ -210,7 +234,9 @@ fn gate_step(net: &mut [u32], idx: &mut [u32], n: u32, op: u32, a: u32, b: u32, 
     add_gate(net, idx, n, op, x, y, z)
 }
 
-fn arithmetic_op(op: u32) -> ArithmeticOp {
+fn arithmetic_op(op: u32) -> ArithmeticOp
+    ensures { λ r. ⌜ folded.opOf r ≡ arithmeticAt op ⌝ }
+{
     match op {
         7 => ArithmeticOp::Subtract,
         8 => ArithmeticOp::Multiply,
@@ -229,7 +255,7 @@ fn arithmetic_words(
     ys: &[u32],
 ) -> Added
     requires { ⌜ (Held n (now net) (now idx)) × (0 < length (now xs)) × (length (now xs) ≡ length (now ys)) × (length (now xs) ≤ 1024) × (PlainNots (netlistOf n (now net))) ⌝ }
-    ensures { λ r. ⌜ Steps n r (now (net .exit)) (now (idx .exit)) ⌝ }
+    ensures { λ r. ⌜ Steps (digestOf (W.arithmetic (folded.opOf op) (now (xs .entry)) (now (ys .entry)) (folded.carryOf carry) (netlistOf n (now (net .entry))))) n r (now (net .exit)) (now (idx .exit)) ⌝ }
 {
     let made = word_cells::arithmetic(net, idx, n, op, carry, xs, ys);
     match made {
@@ -252,7 +278,7 @@ fn arithmetic_step(
     pool: &[u32],
 ) -> Added
     requires { ⌜ (Held n (now net) (now idx)) × (0 < w) × (w ≤ 1024) × (PlainNots (netlistOf n (now net))) ⌝ }
-    ensures { λ r. ⌜ Steps n r (now (net .exit)) (now (idx .exit)) ⌝ }
+    ensures { λ r. ⌜ Steps (arithmeticStep op w a b carry (now (pool .entry)) (netlistOf n (now (net .entry)))) n r (now (net .exit)) (now (idx .exit)) ⌝ }
 {
     let mut lhs = some_nets(net, pool, a, w);
     let rhs = some_nets(net, pool, b, w);
@@ -260,7 +286,9 @@ fn arithmetic_step(
     arithmetic_words(net, idx, n, kind, carry, &mut lhs[..w], &rhs[..w])
 }
 
-fn comparison_op(op: u32) -> ComparisonOp {
+fn comparison_op(op: u32) -> ComparisonOp
+    ensures { λ r. ⌜ compareOf r ≡ comparisonAt op ⌝ }
+{
     match op {
         10 => ComparisonOp::LessThanUnsigned,
         11 => ComparisonOp::LessOrEqualUnsigned,
@@ -281,7 +309,7 @@ fn comparison_step(
     pool: &[u32],
 ) -> Added
     requires { ⌜ (Held n (now net) (now idx)) × (0 < w) × (w ≤ 1024) × (PlainNots (netlistOf n (now net))) ⌝ }
-    ensures { λ r. ⌜ Steps n r (now (net .exit)) (now (idx .exit)) ⌝ }
+    ensures { λ r. ⌜ Steps (comparisonStep op w a b (now (pool .entry)) (netlistOf n (now (net .entry)))) n r (now (net .exit)) (now (idx .exit)) ⌝ }
 {
     let lhs = some_nets(net, pool, a, w);
     let rhs = some_nets(net, pool, b, w);
@@ -291,8 +319,8 @@ fn comparison_step(
 
 // Operation 14: an input port. Ports count the signals.
 fn input_step(net: &mut [u32], idx: &[u32], n: u32, w: u32) -> Added
-    requires { ⌜ (Held n (now net) (now idx)) × (w ≤ 1024) × (PlainNots (netlistOf n (now net))) ⌝ }
-    ensures { λ r. ⌜ Steps n r (now (net .exit)) (now (idx .entry)) ⌝ }
+    requires { ⌜ (Held n (now net) (now idx)) × (0 < w) × (w ≤ 1024) × (PlainNots (netlistOf n (now net))) ⌝ }
+    ensures { λ r. ⌜ Steps (inputStep w (netlistOf n (now (net .entry)))) n r (now (net .exit)) (now (idx .entry)) ⌝ }
 {
     let signal = net[5];
     ports::add_input_port(net, n, signal, w)
@@ -300,8 +328,8 @@ fn input_step(net: &mut [u32], idx: &[u32], n: u32, w: u32) -> Added
 
 // Operation 15: an output port.
 fn output_step(net: &mut [u32], idx: &[u32], n: u32, w: usize, a: u32, pool: &[u32]) -> Added
-    requires { ⌜ (Held n (now net) (now idx)) × (w ≤ 1024) × (PlainNots (netlistOf n (now net))) ⌝ }
-    ensures { λ r. ⌜ Steps n r (now (net .exit)) (now (idx .entry)) ⌝ }
+    requires { ⌜ (Held n (now net) (now idx)) × (0 < w) × (w ≤ 1024) × (PlainNots (netlistOf n (now net))) ⌝ }
+    ensures { λ r. ⌜ Steps (outputStep w a (now (pool .entry)) (netlistOf n (now (net .entry)))) n r (now (net .exit)) (now (idx .entry)) ⌝ }
 {
     let signal = net[5];
     let nets = some_nets(net, pool, a, w);
@@ -321,25 +349,29 @@ fn word_step(
     pool: &[u32],
 ) -> Added
     requires { ⌜ (Held n (now net) (now idx)) × (PlainNots (netlistOf n (now net))) ⌝ }
-    ensures { λ r. ⌜ Steps n r (now (net .exit)) (now (idx .exit)) ⌝ }
+    ensures { λ r. ⌜ Steps (wordStep op (1 + w % 1024) a b c (now (pool .entry)) (netlistOf n (now (net .entry)))) n r (now (net .exit)) (now (idx .exit)) ⌝ }
 {
     let width = 1 + (w % 1024) as usize;
-    match op {
-        6..=8 => arithmetic_step(net, idx, n, op, width, a, b, ABSENT, pool),
-        9 => {
-            let carry = some_net(net, c);
-            arithmetic_step(net, idx, n, op, width, a, b, carry, pool)
-        }
-        10..=13 => comparison_step(net, idx, n, op, width, a, b, pool),
-        14 => input_step(net, idx, n, 1 + w % 1024),
-        _ => output_step(net, idx, n, width, a, pool),
+    if op < 9 {
+        return arithmetic_step(net, idx, n, op, width, a, b, ABSENT, pool);
     }
+    if op == 9 {
+        let carry = some_net(net, c);
+        return arithmetic_step(net, idx, n, op, width, a, b, carry, pool);
+    }
+    if op < 14 {
+        return comparison_step(net, idx, n, op, width, a, b, pool);
+    }
+    if op == 14 {
+        return input_step(net, idx, n, 1 + w % 1024);
+    }
+    output_step(net, idx, n, width, a, pool)
 }
 
 // The operation done: where there is no net to take, a constant for all but an input port.
 fn done_for(net: &[u32], op: u32) -> u32
     requires { ⌜ 16 ≤ length (now net) ⌝ }
-    ensures { λ r. ⌜ ((r ≡ 0 → ⊥) → r < 6 → 0 < getD (now (net .entry)) 1 0) ⌝ }
+    ensures { λ r. ⌜ (r ≡ doneFor (getD (now (net .entry)) 1 0) op) × ((r ≡ 0 → ⊥) → r < 6 → 0 < getD (now (net .entry)) 1 0) ⌝ }
 {
     if op == 14 {
         return op;
@@ -353,7 +385,7 @@ fn done_for(net: &[u32], op: u32) -> u32
 // The operation whose five words stand at a place.
 fn step(net: &mut [u32], idx: &mut [u32], n: u32, ops: &[u32], at: usize, pool: &[u32]) -> Added
     requires { ⌜ (Held n (now net) (now idx)) × (at + 5 ≤ length (now ops)) × (PlainNots (netlistOf n (now net))) ⌝ }
-    ensures { λ r. ⌜ Steps n r (now (net .exit)) (now (idx .exit)) ⌝ }
+    ensures { λ r. ⌜ Steps (stepOf (now (ops .entry)) (now (pool .entry)) at (netlistOf n (now (net .entry)))) n r (now (net .exit)) (now (idx .exit)) ⌝ }
 {
     let op = done_for(net, ops[at]);
     let a = ops[at + 1];
@@ -367,7 +399,9 @@ fn step(net: &mut [u32], idx: &mut [u32], n: u32, ops: &[u32], at: usize, pool: 
 }
 
 // The refusal of an answer: 9 or 10.
-fn refusal(x: Added) -> u64 {
+fn refusal(x: Added) -> u64
+    ensures { λ r. ⌜ r ≡ refusalWord x ⌝ }
+{
     match x {
         Added::Net(_) => 0,
         Added::TooManyNets => 9,
@@ -386,6 +420,7 @@ fn run(
     results: &mut [u32],
 ) -> [u64; 2]
     requires { ⌜ (Held n (now net) (now idx)) × (5 * turns ≤ length (now ops)) × (turns ≤ length (now results)) × (PlainNots (netlistOf n (now net))) ⌝ }
+    ensures { λ r. ⌜ Ran n (room n (now (net .entry))) (sequence (now (ops .entry)) (now (pool .entry)) turns 0 (netlistOf n (now (net .entry))) (now (results .entry))) r (now (net .exit)) (now (results .exit)) ⌝ }
 {
     let mut at = 0;
     while at < turns {
@@ -401,7 +436,7 @@ fn run(
 
 // Whether the lent words are those of n nets and some list words.
 fn fit(n: u32, net: usize, idx: usize) -> bool
-    ensures { λ r. ⌜ (r ≡ true → (0 < n) × (n ≤ 65535) × (16 + 6 * n ≤ net) × (net ≤ 16 + 6 * n + 65535) × (idx ≡ 4 * n)) ⌝ }
+    ensures { λ r. ⌜ r ≡ fitting n net idx ⌝ }
 {
     if n == 0 {
         return false;
@@ -430,7 +465,9 @@ pub extern "C" fn trial_build(
     idx: &mut [u32],
     results: &mut [u32],
     answer: &mut [u64; 2],
-) {
+)
+    ensures { λ _. ⌜ Tried n (now (ops .entry)) turns (now (pool .entry)) (now (net .entry)) (now (idx .entry)) (now (results .entry)) (now (answer .exit)) (now (net .exit)) (now (idx .exit)) (now (results .exit)) ⌝ }
+{
     *answer = [1, 0];
     if fit(n, net.len(), idx.len()) {
         if turns <= ops.len() / 5 {

@@ -2,6 +2,7 @@
 use Rattle.trial.proofs.add_gate.Statement.{statement}
 use Rattle.trial.proofs.add_gate.Tie as tie
 use Rattle.trial.proofs.Nots.{there, not-steps, and-steps, or-steps, xor-steps, mux-steps}
+use Rattle.trial.proofs.Build.{steps-as, gate-not, gate-and, gate-or, gate-xor, gate-mux}
 
 add-not-requires : tie.Need-add-not-requires
 add-not-requires c κs = c .before .before .before .before .before .pre .0
@@ -28,7 +29,7 @@ returns : tie.Need-returns
 returns c =
     let start = c .before .before .before .before .before .before .before .before .before .before in
     let a = start .args in
-    not-steps (start .pre .1) _ (there (a .n) (a .net .now) _ (start .pre .2)) (c .before .before .before .before .add-not .ensures)
+    steps-as (gate-not (a .op) (a .a) (a .b) (a .c) _ (c .before .before .before .before .before .before .before .match .keys1)) (not-steps (start .pre .1) _ (there (a .n) (a .net .now) _ (start .pre .2)) (c .before .before .before .before .add-not .ensures))
 
 same-length-3 : tie.Need-same-length-3
 same-length-3 c = c .before .before .before .before .add-and .kept .0
@@ -39,7 +40,8 @@ same-length-4 c = c .before .before .before .before .add-and .kept .1 .0
 returns-2 : tie.Need-returns-2
 returns-2 c =
     let start = c .before .before .before .before .before .before .before .before .before .before in
-    and-steps (start .pre .1) _ _ (c .before .before .before .before .add-and .ensures)
+    let a = start .args in
+    steps-as (gate-and (a .op) (a .a) (a .b) (a .c) _ (c .before .before .before .before .before .before .before .match .keys2)) (and-steps (start .pre .1) _ _ (c .before .before .before .before .add-and .ensures))
 
 same-length-5 : tie.Need-same-length-5
 same-length-5 c = c .before .before .before .before .add-or .kept .0
@@ -50,7 +52,8 @@ same-length-6 c = c .before .before .before .before .add-or .kept .1 .0
 returns-3 : tie.Need-returns-3
 returns-3 c =
     let start = c .before .before .before .before .before .before .before .before .before .before in
-    or-steps (start .pre .1) _ _ (c .before .before .before .before .add-or .ensures)
+    let a = start .args in
+    steps-as (gate-or (a .op) (a .a) (a .b) (a .c) _ (c .before .before .before .before .before .before .before .match .keys3)) (or-steps (start .pre .1) _ _ (c .before .before .before .before .add-or .ensures))
 
 same-length-7 : tie.Need-same-length-7
 same-length-7 c = c .before .before .before .before .add-xor .kept .0
@@ -62,7 +65,7 @@ returns-4 : tie.Need-returns-4
 returns-4 c =
     let start = c .before .before .before .before .before .before .before .before .before .before in
     let a = start .args in
-    xor-steps (start .pre .1) _ _ (there (a .n) (a .net .now) _ (start .pre .2)) (there (a .n) (a .net .now) _ (start .pre .3)) (c .before .before .before .before .add-xor .ensures)
+    steps-as (gate-xor (a .op) (a .a) (a .b) (a .c) _ (c .before .before .before .before .before .before .before .match .keys4)) (xor-steps (start .pre .1) _ _ (there (a .n) (a .net .now) _ (start .pre .2)) (there (a .n) (a .net .now) _ (start .pre .3)) (c .before .before .before .before .add-xor .ensures))
 
 same-length-9 : tie.Need-same-length-9
 same-length-9 c = c .before .before .before .before .add-mux .kept .0
@@ -73,7 +76,8 @@ same-length-10 c = c .before .before .before .before .add-mux .kept .1 .0
 returns-5 : tie.Need-returns-5
 returns-5 c =
     let start = c .before .before .before .before .before .before .before .before .before .before in
-    mux-steps (start .pre .1) _ _ _ (c .before .before .before .before .add-mux .ensures)
+    let a = start .args in
+    steps-as (gate-mux (a .op) (a .a) (a .b) (a .c) _ (c .before .before .before .before .before .before .before .match .rest .0 .0 .0 .1) (c .before .before .before .before .before .before .before .match .rest .0 .0 .1) (c .before .before .before .before .before .before .before .match .rest .0 .1) (c .before .before .before .before .before .before .before .match .rest .1)) (mux-steps (start .pre .1) _ _ _ (c .before .before .before .before .add-mux .ensures))
 
 pub add-gate-spec : {M : Type 1} → statement M
 add-gate-spec =

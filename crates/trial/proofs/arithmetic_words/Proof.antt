@@ -29,7 +29,7 @@ same-length-3 : tie.Need-same-length-3
 same-length-3 c = search needs
 
 returns : tie.Need-returns
-returns c = arithmetic-steps (c .before .before .before .before .before .before .before .before .before .before .before .before .before .before .before .before .before .before .before .pre .5) _ _ _ _ _ (c .before .before .before .before .before .before .before .before .before .before .arithmetic .ensures) (c .before .before .enum-told .given .1)
+returns c = arithmetic-steps (c .before .before .before .before .before .before .before .before .before .before .before .before .before .before .before .before .before .before .pre .4) _ _ _ _ _ (c .before .before .before .before .before .before .before .before .before .before .arithmetic .ensures) (c .before .before .enum-told .given .1) (c .digest .ensures)
 
 same-length-4 : tie.Need-same-length-4
 same-length-4 c = search needs
@@ -41,7 +41,7 @@ same-length-6 : tie.Need-same-length-6
 same-length-6 c = search needs
 
 returns-2 : tie.Need-returns-2
-returns-2 c = nets-steps (c .before .before .before .before .before .before .before .before .arithmetic .ensures .held)
+returns-2 c = nets-steps (c .before .before .before .before .before .before .before .before .arithmetic .ensures) (c .enum-told2 .given .1)
 
 same-length-7 : tie.Need-same-length-7
 same-length-7 c = search needs
@@ -53,7 +53,7 @@ same-length-9 : tie.Need-same-length-9
 same-length-9 c = search needs
 
 returns-3 : tie.Need-returns-3
-returns-3 c = list-steps (c .before .before .before .before .before .before .before .before .arithmetic .ensures .held)
+returns-3 c = list-steps (c .before .before .before .before .before .before .before .before .arithmetic .ensures) (c .enum-told3 .given .1)
 
 pub arithmetic-words-spec : {M : Type 1} → statement M
 arithmetic-words-spec =

@@ -3,37 +3,41 @@ use Rattle.trial.proofs.digest.Statement.{statement}
 use Rattle.trial.proofs.digest.Tie as tie
 use borrow.Author.Needs.{needs}
 use Prim.Native.Nat.{_-_, _≤_}
-use lib.ListN.{length}
+use lib.ListN.{length, drop}
+use mathlib.Core.Path.{_≡_, refl}
+use native.Mathlib.Omega.{arith}
+use Rattle.netlist_index.specs.Index.{hashWords}
+use Rattle.cell_index.proofs.Laws.{hash-turn, hash-end}
 
 abbrev Inv-loop : tie.InvT-loop
-Inv-loop nets h₀ i₀ h i = i ≤ length nets
+Inv-loop nets h₀ i₀ h i = (i ≤ length nets) × (hashWords 0 nets ≡ hashWords h (drop i nets))
 
 abbrev μ-loop : tie.MeasureT-loop
 μ-loop nets h₀ i₀ h i = length nets - i
 
 loop-holds : tie.Need-loop-holds Inv-loop μ-loop
-loop-holds c = search needs
+loop-holds c = (omega arith, refl)
 
 mul-mix : tie.Need-mul-mix Inv-loop μ-loop
-mul-mix c = search needs
+mul-mix c = omega arith
 
 shared-slice-read-mix : tie.Need-shared-slice-read-mix Inv-loop μ-loop
-shared-slice-read-mix c = search needs
+shared-slice-read-mix c = omega arith
 
 mix-requires : tie.Need-mix-requires Inv-loop μ-loop
 mix-requires c κs = search needs
 
 add-i : tie.Need-add-i Inv-loop μ-loop
-add-i c = search needs
+add-i c = omega arith
 
 loop-less : tie.Need-loop-less Inv-loop μ-loop
-loop-less c = search needs
+loop-less c = omega arith
 
 loop-again : tie.Need-loop-again Inv-loop μ-loop
-loop-again c = search needs
+loop-again c = (omega arith, hash-turn (c .before .before .before .before .before .args .nets .now) (c .before .before .before .loop .h) (c .mix .result) (c .before .before .before .loop .i) (omega arith) (c .before .before .before .loop .inv .1) (c .mix .ensures))
 
 returns : tie.Need-returns Inv-loop μ-loop
-returns c = search needs
+returns c = hash-end (c .before .before .before .args .nets .now) (c .before .loop .h) (c .before .loop .i) (c .loop-test .left) (c .before .loop .inv .1)
 
 pub digest-spec : {M : Type 1} → statement M
 digest-spec =

@@ -2,9 +2,12 @@
 use borrow.Author.Needs.{needs}
 use Rattle.trial.proofs.fusion_row.Statement.{statement}
 use Rattle.trial.proofs.fusion_row.Tie as tie
+use mathlib.Core.Path.{ap, _∙_}
+use Rattle.trial.specs.Rows.{carryWord}
+use Rattle.trial.proofs.Fused.{row-is}
 
-is-zero-expression-requires : tie.Need-is-zero-expression-requires
-is-zero-expression-requires c κs = search needs
+zero-word-requires : tie.Need-zero-word-requires
+zero-word-requires c κs = search needs
 
 carry-lsb-requires : tie.Need-carry-lsb-requires
 carry-lsb-requires c κs = search needs
@@ -21,29 +24,32 @@ add-with-carry-requires c κs = search needs
 carry-word-requires-2 : tie.Need-carry-word-requires-2
 carry-word-requires-2 c κs = search needs
 
-array-read-t15 : tie.Need-array-read-t15
-array-read-t15 c = search needs
+array-read-t14 : tie.Need-array-read-t14
+array-read-t14 c = search needs
 
-array-read-t18 : tie.Need-array-read-t18
-array-read-t18 c = search needs
+array-read-t17 : tie.Need-array-read-t17
+array-read-t17 c = search needs
 
-array-read-t21 : tie.Need-array-read-t21
-array-read-t21 c = search needs
+array-read-t20 : tie.Need-array-read-t20
+array-read-t20 c = search needs
 
 returns : tie.Need-returns
-returns c = search needs
+returns c =
+    let a = c .before .before .before .before .before .before .before .args in
+    row-is (a .image .now) (a .a) (a .b) _ _ _ (c .before .before .fusion-words .result) (c .before .add-with-carry .result) (c .before .before .before .before .before .zero-word .ensures) (c .before .before .before .carry-word .ensures ∙ ap carryWord (c .before .before .before .before .carry-lsb .ensures))
+    (c .before .before .fusion-words .ensures) (c .before .add-with-carry .ensures) (c .carry-word2 .ensures)
 
 pub fusion-row-spec : {M : Type 1} → statement M
 fusion-row-spec =
     tie.close
     (tie.spec
-    is-zero-expression-requires
+    zero-word-requires
     carry-lsb-requires
     carry-word-requires
     fusion-words-requires
     add-with-carry-requires
     carry-word-requires-2
-    array-read-t15
-    array-read-t18
-    array-read-t21
+    array-read-t14
+    array-read-t17
+    array-read-t20
     returns)

@@ -3,6 +3,7 @@ use borrow.Author.Needs.{needs}
 use Rattle.trial.proofs.gate_step.Statement.{statement}
 use Rattle.trial.proofs.gate_step.Tie as tie
 use Rattle.trial.proofs.Nots.{constant-steps}
+use Rattle.trial.proofs.Build.{steps-as, step-constant, step-gate}
 
 add-constant-requires : tie.Need-add-constant-requires
 add-constant-requires c κs = c .before .before .before .before .before .pre .0
@@ -14,7 +15,9 @@ same-length-2 : tie.Need-same-length-2
 same-length-2 c = c .before .before .before .before .add-constant .kept .1 .0
 
 returns : tie.Need-returns
-returns c = constant-steps (c .before .before .before .before .before .before .before .before .before .before .pre .1) _ (c .before .before .before .before .add-constant .ensures)
+returns c =
+    let a = c .before .before .before .before .before .before .before .before .before .before .args in
+    steps-as (step-constant (a .op) (a .a) (a .b) (a .c) _ (c .before .before .before .before .before .before .before .if1 .taken)) (constant-steps (c .before .before .before .before .before .before .before .before .before .before .pre .1) _ (c .before .before .before .before .add-constant .ensures))
 
 some-net-requires : tie.Need-some-net-requires
 some-net-requires c κs = search needs
@@ -29,7 +32,7 @@ add-gate-requires : tie.Need-add-gate-requires
 add-gate-requires c κs =
     let start = c .before .before .before .before .before .before .before .before .before .before .before in
     let some = start .pre .2 (c .before .before .before .before .before .before .before .before .if1 .left) in
-    (start .pre .0, start .pre .1, c .before .before .before .before .before .before .some-net .ensures some, c .before .before .before .before .some-net2 .ensures some)
+    (start .pre .0, start .pre .1, c .before .before .before .before .before .before .some-net .ensures .1 some, c .before .before .before .before .some-net2 .ensures .1 some)
 
 same-length-3 : tie.Need-same-length-3
 same-length-3 c = c .before .before .before .before .add-gate .kept .0
@@ -38,7 +41,9 @@ same-length-4 : tie.Need-same-length-4
 same-length-4 c = c .before .before .before .before .add-gate .kept .1 .0
 
 returns-2 : tie.Need-returns-2
-returns-2 c = c .before .before .before .before .add-gate .ensures
+returns-2 c =
+    let a = c .before .before .before .before .before .before .before .before .before .before .before .before .before .before .before .before .args in
+    steps-as (step-gate (a .n) (a .net .now) (a .op) (a .a) (a .b) (a .c) _ _ _ (c .before .before .before .before .before .before .before .before .before .before .before .before .before .if1 .left) (c .before .before .before .before .before .before .before .before .before .before .before .some-net .ensures .0) (c .before .before .before .before .before .before .before .before .before .some-net2 .ensures .0) (c .before .before .before .before .before .before .before .some-net3 .ensures .0)) (c .before .before .before .before .add-gate .ensures)
 
 pub gate-step-spec : {M : Type 1} → statement M
 gate-step-spec =

@@ -3,6 +3,7 @@ use Rattle.trial.proofs.input_step.Statement.{statement}
 use Rattle.trial.proofs.input_step.Tie as tie
 use borrow.Author.Needs.{needs}
 use Rattle.trial.proofs.Nots.{input-steps}
+use Rattle.trial.proofs.Build.{steps-as, step-input}
 
 slice-read-signal : tie.Need-slice-read-signal
 slice-read-signal c = search needs
@@ -14,7 +15,10 @@ same-length : tie.Need-same-length
 same-length c = search needs
 
 returns : tie.Need-returns
-returns c = input-steps (c .before .before .before .before .before .before .before .pre .2) _ _ (c .before .before .before .before .before .before .before .pre .0) (c .before .before .add-input-port .ensures)
+returns c =
+    let start = c .before .before .before .before .before .before .before in
+    let a = start .args in
+    steps-as (step-input (a .n) (a .net .now) (a .w) (start .pre .0 .built)) (input-steps (start .pre .3) _ _ (start .pre .1) (start .pre .0) (c .before .before .add-input-port .ensures))
 
 pub input-step-spec : {M : Type 1} → statement M
 input-step-spec =

@@ -1,8 +1,8 @@
 -- `trial::passes` meets its contract. Assumes nothing.
-use Rattle.trial.proofs.Ways.{never, passed}
 use Rattle.trial.proofs.passes.Statement.{statement}
 use Rattle.trial.proofs.passes.Tie as tie
 use borrow.Author.Needs.{needs}
+use Rattle.trial.proofs.Fused.{passes-yes, passes-no}
 
 check-requires : tie.Need-check-requires
 check-requires c κs = search needs
@@ -11,10 +11,10 @@ enum-told : tie.Need-enum-told
 enum-told c = search needs
 
 returns : tie.Need-returns
-returns c = never
+returns c = passes-no _ _ (c .before .check .ensures) (c .match .keys2)
 
 returns-2 : tie.Need-returns-2
-returns-2 c = λ e. passed _ _ (c .before .before .check .ensures) (c .enum-told .given .1)
+returns-2 c = passes-yes _ _ (c .before .before .check .ensures) (c .enum-told .given .1)
 
 pub passes-spec : {M : Type 1} → statement M
 passes-spec = tie.close (tie.spec check-requires enum-told returns returns-2)

@@ -6,9 +6,10 @@ use native.Mathlib.Omega.{arith}
 use native.Mathlib.Nat.{mod-lt}
 use Prim.Native.Nat.{_<_}
 use lib.ListN.{length}
+use Rattle.trial.proofs.Build.{pool-none, pool-some}
 
 returns : tie.Need-returns
-returns c = search needs
+returns c = pool-none _ _ (c .if1 .taken)
 
 rem-result : tie.Need-rem-result
 rem-result c = search needs
@@ -20,7 +21,7 @@ shared-slice-read-result : tie.Need-shared-slice-read-result
 shared-slice-read-result c = let z : 0 < length (c .before .before .args .pool .now) = omega (arith, c .before .if1 .left) in mod-lt (c .before .before .args .k) z
 
 returns-2 : tie.Need-returns-2
-returns-2 c = search needs
+returns-2 c = pool-some _ _ (c .before .if1 .left)
 
 pub pool-word-spec : {M : Type 1} → statement M
 pool-word-spec =

@@ -2,18 +2,18 @@
 use Rattle.trial.proofs.put_rows.Statement.{statement}
 use Rattle.trial.proofs.put_rows.Tie as tie
 use borrow.Author.Needs.{needs}
-use Prim.Native.Nat.{_-_, _≤_}
-use lib.ListN.{length}
-use mathlib.Core.Path.{_≡_}
+use Prim.Native.Nat.{_-_}
+use mathlib.Core.Path.{refl}
+use Rattle.trial.proofs.Fused.{Rowing, rows-start, rows-more, rows-out, rows-end}
 
 abbrev Inv-loop : tie.InvT-loop
-Inv-loop image pairs count out₀ i₀ out i = (i ≤ count) × (length out ≡ length out₀)
+Inv-loop image pairs count out₀ i₀ out i = Rowing image pairs count out₀ out i
 
 abbrev μ-loop : tie.MeasureT-loop
 μ-loop image pairs count out₀ i₀ out i = count - i
 
 loop-holds : tie.Need-loop-holds Inv-loop μ-loop
-loop-holds c = search needs
+loop-holds c = rows-start _ _ _ _
 
 mul-put-row : tie.Need-mul-put-row Inv-loop μ-loop
 mul-put-row c = search needs
@@ -49,19 +49,27 @@ loop-less : tie.Need-loop-less Inv-loop μ-loop
 loop-less c = search needs
 
 loop-again : tie.Need-loop-again Inv-loop μ-loop
-loop-again c = search needs
+loop-again c =
+    let a = c .before .before .before .before .before .before .before .before .before .before .before .before .args in
+    let q = c .before .before .before .before .before .before .before .before .loop in
+    let p = c .before .before .before .put-row in
+    rows-more (a .image .now) (a .pairs .now) (a .count) (a .out .now) (q .out) (q .i) _ _ (q .inv) (c .before .before .before .before .before .before .before .loop-test .taken) refl refl (p .result) _ (p .ensures) (c .if1 .taken)
 
 same-length : tie.Need-same-length Inv-loop μ-loop
 same-length c = search needs
 
 returns : tie.Need-returns Inv-loop μ-loop
-returns c = search needs
+returns c =
+    let a = c .before .before .before .before .before .before .before .before .before .before .before .before .args in
+    let q = c .before .before .before .before .before .before .before .before .loop in
+    let p = c .before .before .before .put-row in
+    rows-out (a .image .now) (a .pairs .now) (a .count) (a .out .now) (q .out) (q .i) _ _ (q .inv) (c .before .before .before .before .before .before .before .loop-test .taken) refl refl (p .result) _ (p .ensures) (c .if1 .left)
 
 same-length-2 : tie.Need-same-length-2 Inv-loop μ-loop
 same-length-2 c = search needs
 
 returns-2 : tie.Need-returns-2 Inv-loop μ-loop
-returns-2 c = search needs
+returns-2 c = rows-end _ _ _ _ _ _ (c .before .loop .inv) (c .loop-test .left)
 
 pub put-rows-spec : {M : Type 1} → statement M
 put-rows-spec =

@@ -2,21 +2,18 @@
 use Rattle.trial.proofs.run.Statement.{statement}
 use Rattle.trial.proofs.run.Tie as tie
 use borrow.Author.Needs.{needs}
-use mathlib.Core.Path.{_≡_}
-use Prim.Native.Nat.{_-_, _≤_}
-use lib.ListN.{length}
-use Rattle.netlist_view.specs.View.{netlistOf}
-use Rattle.netlist_index.specs.Index.{Held}
-use Rattle.gates.specs.Nots.{PlainNots}
+use Prim.Native.Nat.{_-_}
+use Rattle.ports.proofs.Laws.{not-net}
+use Rattle.trial.proofs.Build.{Running, run-start, run-more, run-out, run-end}
 
 abbrev Inv-loop : tie.InvT-loop
-Inv-loop net₀ idx₀ n ops turns pool results₀ at₀ net idx results at = (Held n net idx) × (at ≤ turns) × (length net ≡ length net₀) × (length idx ≡ length idx₀) × (length results ≡ length results₀) × (PlainNots (netlistOf n net))
+Inv-loop net₀ idx₀ n ops turns pool results₀ at₀ net idx results at = Running ops pool turns n net₀ idx₀ results₀ net idx results at
 
 abbrev μ-loop : tie.MeasureT-loop
 μ-loop net₀ idx₀ n ops turns pool results₀ at₀ net idx results at = turns - at
 
 loop-holds : tie.Need-loop-holds Inv-loop μ-loop
-loop-holds c = search needs
+loop-holds c = let a = c .before .before .before .before .before .args in run-start (a .ops .now) (a .pool .now) (a .turns) (a .n) (a .net .now) (a .idx .now) (a .results .now) (c .before .before .before .before .before .pre .0) (c .before .before .before .before .before .pre .3)
 
 mul-step : tie.Need-mul-step Inv-loop μ-loop
 mul-step c = search needs
@@ -40,7 +37,11 @@ same-length-3 : tie.Need-same-length-3 Inv-loop μ-loop
 same-length-3 c = search needs
 
 returns : tie.Need-returns Inv-loop μ-loop
-returns c = search needs
+returns c =
+    let a = c .before .before .before .before .before .before .before .before .before .before .before .before .before .before .before .before .args in
+    let q = c .before .before .before .before .before .before .before .before .before .before .loop in
+    let s = c .before .before .before .before .before .before .step in
+    run-out (a .ops .now) (a .pool .now) (a .turns) (a .n) (a .net .now) (a .idx .now) (a .results .now) (q .net) (q .idx) (q .results) (q .at) (q .inv) (c .before .before .before .before .before .before .before .before .before .loop-test .taken) (s .result) _ _ (s .ensures) (not-net (s .result) (c .before .match .keys2)) _ (c .refusal .ensures)
 
 mul-results : tie.Need-mul-results Inv-loop μ-loop
 mul-results c = search needs
@@ -56,8 +57,10 @@ loop-less c = search needs
 
 loop-again : tie.Need-loop-again Inv-loop μ-loop
 loop-again c =
-    let step = c .before .before .before .before .before .before .before .step in
-    (step .ensures .held, search needs, search needs, search needs, search needs, step .ensures .nots _ (c .before .x .given .1))
+    let a = c .before .before .before .before .before .before .before .before .before .before .before .before .before .before .before .before .before .args in
+    let q = c .before .before .before .before .before .before .before .before .before .before .before .loop in
+    let s = c .before .before .before .before .before .before .before .step in
+    run-more (a .ops .now) (a .pool .now) (a .turns) (a .n) (a .net .now) (a .idx .now) (a .results .now) (q .net) (q .idx) (q .results) (q .at) (q .inv) (c .before .before .before .before .before .before .before .before .before .before .loop-test .taken) (s .result) _ _ (s .ensures) _ (c .before .x .given .1) (s .kept .0) (s .kept .1 .0)
 
 same-length-4 : tie.Need-same-length-4 Inv-loop μ-loop
 same-length-4 c = search needs
@@ -69,7 +72,10 @@ same-length-6 : tie.Need-same-length-6 Inv-loop μ-loop
 same-length-6 c = search needs
 
 returns-2 : tie.Need-returns-2 Inv-loop μ-loop
-returns-2 c = search needs
+returns-2 c =
+    let a = c .before .before .before .before .before .before .before .args in
+    let q = c .before .loop in
+    run-end (a .ops .now) (a .pool .now) (a .turns) (a .n) (a .net .now) (a .idx .now) (a .results .now) (q .net) (q .idx) (q .results) (q .at) (q .inv) (c .loop-test .left)
 
 pub run-spec : {M : Type 1} → statement M
 run-spec =

@@ -2,6 +2,7 @@
 use borrow.Author.Needs.{needs}
 use Rattle.trial.proofs.step.Statement.{statement}
 use Rattle.trial.proofs.step.Tie as tie
+use Rattle.trial.proofs.Build.{steps-as, step-low, step-high}
 
 mul-done-for : tie.Need-mul-done-for
 mul-done-for c = search needs
@@ -51,7 +52,7 @@ shared-slice-read-d c = search needs
 gate-step-requires : tie.Need-gate-step-requires
 gate-step-requires c κs =
     let start = c .before .before .before .before .before .before .before .before .before .before .before .before .before .before in
-    (start .pre .0, start .pre .2, λ z. c .before .before .before .before .before .before .before .done-for .ensures z (c .before .before .if1 .taken))
+    (start .pre .0, start .pre .2, λ z. c .before .before .before .before .before .before .before .done-for .ensures .1 z (c .before .before .if1 .taken))
 
 same-length : tie.Need-same-length
 same-length c = c .before .before .before .before .gate-step .kept .0
@@ -60,7 +61,9 @@ same-length-2 : tie.Need-same-length-2
 same-length-2 c = c .before .before .before .before .gate-step .kept .1 .0
 
 returns : tie.Need-returns
-returns c = c .before .before .before .before .gate-step .ensures
+returns c =
+    let a = c .before .before .before .before .before .before .before .before .before .before .before .before .before .before .before .before .before .before .before .args in
+    steps-as (step-low (a .n) (a .net .now) (a .ops .now) (a .pool .now) (a .at) _ (c .before .before .before .before .before .before .before .before .before .before .before .before .done-for .ensures .0) (c .before .before .before .before .before .before .before .if1 .taken)) (c .before .before .before .before .gate-step .ensures)
 
 word-step-requires : tie.Need-word-step-requires
 word-step-requires c κs = (c .before .before .before .before .before .before .before .before .before .before .before .before .before .before .pre .0, c .before .before .before .before .before .before .before .before .before .before .before .before .before .before .pre .2)
@@ -72,7 +75,9 @@ same-length-4 : tie.Need-same-length-4
 same-length-4 c = c .before .before .before .before .word-step .kept .1 .0
 
 returns-2 : tie.Need-returns-2
-returns-2 c = c .before .before .before .before .word-step .ensures
+returns-2 c =
+    let a = c .before .before .before .before .before .before .before .before .before .before .before .before .before .before .before .before .before .before .before .args in
+    steps-as (step-high (a .n) (a .net .now) (a .ops .now) (a .pool .now) (a .at) _ (c .before .before .before .before .before .before .before .before .before .before .before .before .done-for .ensures .0) (c .before .before .before .before .before .before .before .if1 .left)) (c .before .before .before .before .word-step .ensures)
 
 pub step-spec : {M : Type 1} → statement M
 step-spec =
