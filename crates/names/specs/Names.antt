@@ -134,12 +134,11 @@ any-false : (p : ℕ → Bool) (n : ℕ) → ((j : ℕ) → j < n → p j ≡ fa
 unfolding any first
 any-false p n h = lt-no _ _ (omega (arith, all-no p 0 n (λ j l u. h j (omega arith))))
 
--- a remainder that was not seen: no earlier record has the name
-pub unseen : (s : List ℕ) (k r : ℕ) (seen : List ℕ) → Seen s k r seen → getD seen (hashAt s k r % length seen) 0 ≡ 0 → nameTaken s k r ≡ false
+-- record r, whose hash is v: a remainder that was not seen, so no earlier record has the name
+pub unseen : (s : List ℕ) (k r : ℕ) (seen : List ℕ) (v : ℕ) → v ≡ hashAt s k r → Seen s k r seen → getD seen (v % length seen) 0 ≡ 0 → nameTaken s k r ≡ false
 unfolding Seen nameTaken sameName
-unseen s k r seen p e = any-false _ r (λ j h. other-hash s k r j (λ q. p j h (ap (λ (x : ℕ). getD seen (x % length seen) 0) q ∙ e)))
+unseen s k r seen v f p e = any-false _ r (λ j h. other-hash s k r j (λ q. p j h (ap (λ (x : ℕ). getD seen (x % length seen) 0) (q ∙ sym f) ∙ e)))
 
--- it is seen now, or was before
 one-more : (seen : List ℕ) (at x : ℕ) → at < length seen → (getD seen x 0 ≡ 0 → ⊥) → getD (set seen at 1) x 0 ≡ 0 → ⊥
 one-more seen at x l o = go (x ≡? at) refl
   where
@@ -149,19 +148,22 @@ one-more seen at x l o = go (x ≡? at) refl
         omega arith
     go false q z = o (sym (getD-set-other seen at x 1 0 (no-eq x at q)) ∙ z)
 
-pub seen-set : (s : List ℕ) (k r : ℕ) (seen : List ℕ) (at : ℕ) → at ≡ hashAt s k r % length seen → at < length seen → Seen s k r seen → Seen s k (r + 1) (set seen at 1)
+-- it is seen now
+pub seen-set : (s : List ℕ) (k r : ℕ) (seen : List ℕ) (v : ℕ) → v ≡ hashAt s k r → v % length seen < length seen → Seen s k r seen → Seen s k (r + 1) (set seen (v % length seen) 1)
 unfolding Seen
-seen-set s k r seen at e l p j h = rw (length-set seen at 1) (⊎-elim (λ (q : j ≡ r). now-seen q) (λ (q : j < r). one-more seen at _ l (p j q)) (eq-or-lt-of-le (omega arith)))
+seen-set s k r seen v e l p j h = rw (length-set seen (v % length seen) 1) (⊎-elim (λ (q : j ≡ r). now-seen q) (λ (q : j < r). one-more seen (v % length seen) _ l (p j q)) (eq-or-lt-of-le (omega arith)))
   where
-    now-seen : j ≡ r → getD (set seen at 1) (hashAt s k j % length seen) 0 ≡ 0 → ⊥
+    now-seen : j ≡ r → getD (set seen (v % length seen) 1) (hashAt s k j % length seen) 0 ≡ 0 → ⊥
     now-seen q z =
-        let same : hashAt s k j % length seen ≡ at = ap (λ (i : ℕ). hashAt s k i % length seen) q ∙ sym e in
-        let one : getD (set seen at 1) (hashAt s k j % length seen) 0 ≡ 1 = ap (λ (i : ℕ). getD (set seen at 1) i 0) same ∙ getD-set-same seen at 1 0 l in
+        let same : hashAt s k j % length seen ≡ v % length seen = ap (λ (x : ℕ). x % length seen) (ap (hashAt s k) q ∙ sym e) in
+        let one : getD (set seen (v % length seen) 1) (hashAt s k j % length seen) 0 ≡ 1 = ap (λ (i : ℕ). getD (set seen (v % length seen) 1) i 0) same ∙ getD-set-same seen (v % length seen) 1 0 l in
         omega arith
 
-pub seen-still : (s : List ℕ) (k r : ℕ) (seen : List ℕ) → (getD seen (hashAt s k r % length seen) 0 ≡ 0 → ⊥) → Seen s k r seen → Seen s k (r + 1) seen
+-- or was before
+pub seen-still : (s : List ℕ) (k r : ℕ) (seen : List ℕ) (v : ℕ) → v ≡ hashAt s k r → (getD seen (v % length seen) 0 ≡ 0 → ⊥) → Seen s k r seen → Seen s k (r + 1) seen
 unfolding Seen
-seen-still s k r seen o p j h = ⊎-elim (λ (q : j ≡ r). λ z. o (ap (λ (i : ℕ). getD seen (hashAt s k i % length seen) 0) (sym q) ∙ z)) (λ (q : j < r). p j q) (eq-or-lt-of-le (omega arith))
+seen-still s k r seen v e o p j h =
+    ⊎-elim (λ (q : j ≡ r). λ z. o (ap (λ (x : ℕ). getD seen (x % length seen) 0) (e ∙ ap (hashAt s k) (sym q)) ∙ z)) (λ (q : j < r). p j q) (eq-or-lt-of-le (omega arith))
 
 -- ---- the search ----
 

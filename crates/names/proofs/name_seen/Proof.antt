@@ -1,49 +1,43 @@
-use borrow.Author.Needs.{needs}
+-- `names::name_seen` meets its contract. Assumes nothing.
 use Rattle.names.proofs.name_seen.Statement.{statement}
 use Rattle.names.proofs.name_seen.Tie as tie
-use Rattle.names.proofs.name_seen.Reads as reads
-use Rattle.names.proofs.name_seen.Lts as lts
-use Rattle.names.proofs.name_taken.Reads as name-taken-reads
+use mathlib.Core.Path.{sym}
+use native.Mathlib.Omega.{arith}
+use native.Mathlib.Nat.{mod-lt}
+use Rattle.names.specs.Names.{hash-of, unseen, seen-set, seen-still}
+use borrow.Author.Needs.{needs}
 
--- src/lib.rt:128:14
 mul-at : tie.Need-mul-at
 mul-at c = search needs
 
--- src/lib.rt:128:14
 shared-slice-read-at : tie.Need-shared-slice-read-at
 shared-slice-read-at c = search needs
 
--- src/lib.rt:128:14
 cast-at : tie.Need-cast-at
-cast-at c = ?
+cast-at c = omega (arith, c .shared-slice-known3 .given (c .before .before .before .before .args .r))
 
--- src/lib.rt:128:14
 rem-at : tie.Need-rem-at
 rem-at c = search needs
 
--- src/lib.rt:129:8
 slice-read-if1 : tie.Need-slice-read-if1
-slice-read-if1 c = ?
+slice-read-if1 c = mod-lt _ (c .before .before .before .before .before .pre .2)
 
--- src/lib.rt:130:9
 slice-write-seen : tie.Need-slice-write-seen
-slice-write-seen c = ?
+slice-write-seen c = mod-lt _ (c .before .before .before .before .before .before .pre .2)
 
--- src/lib.rt:131:9
 same-length : tie.Need-same-length
 same-length c = search needs
 
--- src/lib.rt:131:9
 returns : tie.Need-returns
-returns c = ?
+returns c =
+    let e = hash-of _ _ _ _ (c .before .before .before .before .before .before .pre .1) (c .before .before .before .before .before .before .args .r) (omega arith) in
+    (sym (unseen _ _ _ _ _ e (c .before .before .before .before .before .before .pre .3) (c .if1 .taken)), seen-set _ _ _ _ _ e (mod-lt _ (c .before .before .before .before .before .before .pre .2)) (c .before .before .before .before .before .before .pre .3))
 
--- src/lib.rt:133:5
 name-taken-requires : tie.Need-name-taken-requires
 name-taken-requires c κs = search needs
 
--- src/lib.rt:124:1
 returns-2 : tie.Need-returns-2
-returns-2 c = ?
+returns-2 c = (c .name-taken .ensures, seen-still _ _ _ _ _ (hash-of _ _ _ _ (c .before .before .before .before .before .before .before .pre .1) (c .before .before .before .before .before .before .before .args .r) (omega arith)) (c .before .if1 .left) (c .before .before .before .before .before .before .before .pre .3))
 
 pub name-seen-spec : {M : Type 1} → statement M
 name-seen-spec =
