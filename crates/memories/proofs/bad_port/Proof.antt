@@ -1,0 +1,48 @@
+-- `memories::bad_port` meets its contract. Assumes nothing.
+use Rattle.memories.proofs.bad_port.Statement.{statement}
+use Rattle.memories.proofs.bad_port.Tie as tie
+use mathlib.Core.Path.{sym, _∙_}
+use Rattle.rules.specs.Laws.{or-hit, or-skip}
+use Rattle.memories.specs.Memory.{port-halves, read-there}
+use borrow.Author.Needs.{needs}
+
+add-record-field : tie.Need-add-record-field
+add-record-field c = search needs
+
+record-field-requires : tie.Need-record-field-requires
+record-field-requires c κs = search needs
+
+bad-read-requires : tie.Need-bad-read-requires
+bad-read-requires c κs = search needs
+
+returns : tie.Need-returns
+returns c = or-hit _ (sym (rw (c .before .before .record-field .ensures) at (c .before .bad-read .ensures)) ∙ c .if1 .taken) ∙ port-halves _ _ _ _
+
+bad-write-requires : tie.Need-bad-write-requires
+bad-write-requires c κs = search needs
+
+returns-2 : tie.Need-returns-2
+returns-2 c =
+    or-skip (sym (rw (c .before .before .before .before .record-field .ensures) at (c .before .before .before .bad-read .ensures)) ∙ c .before .before .if1 .left)
+    (or-hit _ (sym (c .before .bad-write .ensures) ∙ c .if2 .taken)) ∙ port-halves _ _ _ _
+
+is-driven-requires : tie.Need-is-driven-requires
+is-driven-requires c κs = (c .before .before .before .before .before .before .before .before .pre .0, c .before .before .before .before .before .before .before .before .pre .1 .holds .room, read-there _ _ _ _ _ (sym (c .before .before .before .bad-read .ensures) ∙ c .before .before .if1 .left))
+
+returns-3 : tie.Need-returns-3
+returns-3 c =
+    or-skip (sym (rw (c .before .before .before .before .before .record-field .ensures) at (c .before .before .before .before .bad-read .ensures)) ∙ c .before .before .before .if1 .left)
+    (or-skip (sym (c .before .before .bad-write .ensures) ∙ c .before .if2 .left) (rw (c .before .before .before .before .before .record-field .ensures) at (c .is-driven .ensures _ _ (c .before .before .before .before .before .before .before .before .before .pre .1)))) ∙ port-halves _ _ _ _
+
+pub bad-port-spec : {M : Type 1} → statement M
+bad-port-spec =
+    tie.close
+    (tie.spec
+    add-record-field
+    record-field-requires
+    bad-read-requires
+    returns
+    bad-write-requires
+    returns-2
+    is-driven-requires
+    returns-3)
