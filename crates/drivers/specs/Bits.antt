@@ -6,25 +6,24 @@ use mathlib.Core.List.{List}
 use mathlib.Core.Logic.{_⊎_, inl, inr, ⊎-elim}
 use mathlib.Core.Path.{_≡_, refl, sym, ap, ap₂, _∙_, subst}
 use native.Mathlib.Omega.{arith}
-use native.Mathlib.Numerals.{add-one}
 use native.Mathlib.Nat.{eq-or-lt-of-le}
-use lib.ListN.{length, getD, set, length-set}
+use lib.ListN.{length, getD, set, replicate, length-set, length-replicate}
 use lib.Seq.{getD-set-same, getD-set-other}
 use Rattle.rules.specs.Rules.{_<?_, _≡?_, _or_, _and_, pick, upTo, first, any, sumTo}
-use Rattle.rules.specs.Laws.{or-no, and-yes, lt-yes, lt-no, yes-lt, eq-yes, eq-no, yes-eq, not-any, sum-more}
+use Rattle.rules.specs.Laws.{and-yes, lt-yes, lt-no, yes-lt, eq-yes, eq-no, yes-eq, not-any, sum-more}
 use Rattle.meaning.specs.Image.{countAt, field, signalWidth, firstPort, hasSecond, secondPort}
-use Rattle.meaning.specs.Checks.{signalBits, isInput, assigned, targeted, readInto, driven}
+use Rattle.meaning.specs.Checks.{signalBits, assigned, targeted, readInto}
 
 -- ---- the tables ----
 
 -- what the tables ask of the signals
-pub record Sized (s : List ℕ) : Type 0 where
+pub record SignalsFit (s : List ℕ) : Type 0 where
   pub most : signalBits s ≤ 4096
   pub wide : (p : ℕ) → p < countAt s 0 → 1 ≤ signalWidth s p
 
 -- word p is the first bit of signal p
 pub record Firsts (s firsts : List ℕ) : Type 0 where
-  pub sized : Sized s
+  pub fit : SignalsFit s
   pub few : countAt s 0 ≤ length firsts
   pub first-of : (p : ℕ) → p < countAt s 0 → getD firsts p 0 ≡ sumTo (signalWidth s) p
 
@@ -201,7 +200,7 @@ answers s a i j t p at w h one fits m = same-bool fore back
         (λ q. any-at _ w 0 (omega arith) (bit 0 (omega arith) ∙ or-right _ q))
         (or-yes e)
 
--- of the assignments alone, and of the whole of a signal that is no input
+-- where only assignments are marked
 pub answers-assigned : (s : List ℕ) (a : ℕ) (b : Bool) (p at w : ℕ) → b ≡ (assigned s a p at w or targeted s 0 p or readInto s 0 p) → b ≡ assigned s a p at w
 unfolding targeted readInto _or_
 answers-assigned s a b p at w e = rw (any-none, any-none) at e ∙ or-false _
@@ -321,11 +320,16 @@ marks-two s a i j t t′ t″ o k l m =
     marks-memory s a i j t t″
     (holds-same s _ _ t″ (λ p b u v. or-assoc _ _ _ ∙ ap (λ (x : Bool). bitDriven s a i j p b or field s 5 j (firstPort + 1) ≡? p or x) (sym (and-on _ (eq-yes _ _ o)))) (holds-whole s _ t′ t″ _ l (holds-whole s _ t t′ _ k (m .holds)))) m
 
--- a table of zeros: nothing is driven yet
-pub marks-none : (s t : List ℕ) → signalBits s ≤ length t → ((k : ℕ) → getD t k 0 ≡ 0) → Marks s 0 0 0 t
+zero-at : (n k : ℕ) → getD {A = ℕ} (replicate n 0) k 0 ≡ 0
+zero-at zero k = refl
+zero-at (suc n) zero = refl
+zero-at (suc n) (suc k) = zero-at n k
+
+-- in a table of zeros nothing is driven yet
+pub marks-none : (s : List ℕ) (n : ℕ) → signalBits s ≤ n → Marks s 0 0 0 (replicate n 0)
 unfolding bitDriven marked assigned targeted readInto _or_
-marks-none s t h z = record {
-  holds = record { room = h; bits = λ p b u v. eq-no _ _ (λ e. let y = z (sumTo (signalWidth s) p + b) in omega arith) ∙ sym (rw (any-none, any-none, any-none)) };
+marks-none s n h = record {
+  holds = record { room = simp length-replicate h; bits = λ p b u v. eq-no _ _ (λ e. let y = zero-at n (sumTo (signalWidth s) p + b) in omega arith) ∙ sym (rw (any-none, any-none, any-none)) };
   widths = λ k l. absurd (omega arith);
 }
 

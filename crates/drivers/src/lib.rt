@@ -6,7 +6,7 @@ ghost use lib.ListN.{length};
 ghost use Rattle.rules.specs.Rules.{_or_, any, sumTo};
 ghost use Rattle.meaning.specs.Image.{countAt, signalWidth};
 ghost use Rattle.meaning.specs.Checks.{signalBits, isInput, assigned, targeted, readInto, driven};
-ghost use Rattle.drivers.specs.Bits.{Sized, Firsts, Marks, Marked, marked};
+ghost use Rattle.drivers.specs.Bits.{SignalsFit, Firsts, Marks, Marked, marked};
 
 // Where the fields of a memory's ports begin, and the field that says whether there is a second; a port's read data is its second field.
 pub const FIRST_PORT: u32 = 5;
@@ -21,7 +21,7 @@ pub const SECOND_DATA: u32 = SECOND_PORT + 1;
 
 // Each signal's first bit; answers the bits of all signals.
 pub fn lay_firsts(s: &[u8], firsts: &mut [u32]) -> u32
-    requires { ⌜ (Sized (now s)) × (countAt (now s) 0 ≤ length (now firsts)) ⌝ }
+    requires { ⌜ (SignalsFit (now s)) × (countAt (now s) 0 ≤ length (now firsts)) ⌝ }
     ensures { λ r. ⌜ (r ≡ signalBits (now (s .entry))) × (Firsts (now (s .entry)) (now (firsts .exit))) ⌝ }
 {
     let n = fields::count(s, 0);

@@ -31,9 +31,11 @@ below-sum-requires c κs = search needs
 
 returns-3 : tie.Need-returns-3
 unfolding badAssignOf
-returns-3 c = λ r m.
-    or-skip (sym (c .before .before .before .before .before .before .no-signal .ensures) ∙ c .before .before .before .before .before .if1 .left)
-    (or-skip (sym (c .before .before .before .before .is-outside .ensures) ∙ c .before .before .before .if2 .left)
+returns-3 c =
+    let c4 = c .before .before .before .before in
+    λ r m.
+    or-skip (sym (c4 .before .before .no-signal .ensures) ∙ c4 .before .if1 .left)
+    (or-skip (sym (c4 .is-outside .ensures) ∙ c .before .before .before .if2 .left)
     (or-hit _ (sym (rw (c .before .before .signal-width .ensures) at (c .before .below-sum .ensures)) ∙ c .if3 .taken)))
 
 no-expr-requires : tie.Need-no-expr-requires
@@ -41,10 +43,13 @@ no-expr-requires c κs = search needs
 
 returns-4 : tie.Need-returns-4
 unfolding badAssignOf
-returns-4 c = λ r m.
-    or-skip (sym (c .before .before .before .before .before .before .before .before .no-signal .ensures) ∙ c .before .before .before .before .before .before .before .if1 .left)
-    (or-skip (sym (c .before .before .before .before .before .before .is-outside .ensures) ∙ c .before .before .before .before .before .if2 .left)
-    (or-skip (sym (rw (c .before .before .before .before .signal-width .ensures) at (c .before .before .before .below-sum .ensures)) ∙ c .before .before .if3 .left)
+returns-4 c =
+    let c4 = c .before .before .before .before in
+    let c8 = c4 .before .before .before .before in
+    λ r m.
+    or-skip (sym (c8 .no-signal .ensures) ∙ c4 .before .before .before .if1 .left)
+    (or-skip (sym (c4 .before .before .is-outside .ensures) ∙ c4 .before .if2 .left)
+    (or-skip (sym (rw (c4 .signal-width .ensures) at (c .before .before .before .below-sum .ensures)) ∙ c .before .before .if3 .left)
     (or-hit _ (sym (c .before .no-expr .ensures) ∙ c .if4 .taken))))
 
 expr-width-requires : tie.Need-expr-width-requires
@@ -52,10 +57,13 @@ expr-width-requires c κs = search needs
 
 returns-5 : tie.Need-returns-5
 unfolding badAssignOf
-returns-5 c = λ r m.
-    or-skip (sym (c .before .before .before .before .before .before .before .before .before .before .no-signal .ensures) ∙ c .before .before .before .before .before .before .before .before .before .if1 .left)
-    (or-skip (sym (c .before .before .before .before .before .before .before .before .is-outside .ensures) ∙ c .before .before .before .before .before .before .before .if2 .left)
-    (or-skip (sym (rw (c .before .before .before .before .before .before .signal-width .ensures) at (c .before .before .before .before .before .below-sum .ensures)) ∙ c .before .before .before .before .if3 .left)
+returns-5 c =
+    let c4 = c .before .before .before .before in
+    let c8 = c4 .before .before .before .before in
+    λ r m.
+    or-skip (sym (c8 .before .before .no-signal .ensures) ∙ c8 .before .if1 .left)
+    (or-skip (sym (c8 .is-outside .ensures) ∙ c4 .before .before .before .if2 .left)
+    (or-skip (sym (rw (c4 .before .before .signal-width .ensures) at (c4 .before .below-sum .ensures)) ∙ c4 .if3 .left)
     (or-skip (sym (c .before .before .before .no-expr .ensures) ∙ c .before .before .if4 .left)
     (or-hit _ (ne-yes _ _ (λ e. c .if5 .taken (c .before .expr-width .ensures ∙ e)))))))
 
@@ -64,31 +72,43 @@ is-input-requires c κs = search needs
 
 returns-6 : tie.Need-returns-6
 unfolding badAssignOf
-returns-6 c = λ r m.
-    or-skip (sym (c .before .before .before .before .before .before .before .before .before .before .before .before .no-signal .ensures) ∙ c .before .before .before .before .before .before .before .before .before .before .before .if1 .left)
-    (or-skip (sym (c .before .before .before .before .before .before .before .before .before .before .is-outside .ensures) ∙ c .before .before .before .before .before .before .before .before .before .if2 .left)
-    (or-skip (sym (rw (c .before .before .before .before .before .before .before .before .signal-width .ensures) at (c .before .before .before .before .before .before .before .below-sum .ensures)) ∙ c .before .before .before .before .before .before .if3 .left)
-    (or-skip (sym (c .before .before .before .before .before .no-expr .ensures) ∙ c .before .before .before .before .if4 .left)
+returns-6 c =
+    let c4 = c .before .before .before .before in
+    let c8 = c4 .before .before .before .before in
+    let c12 = c8 .before .before .before .before in
+    λ r m.
+    or-skip (sym (c12 .no-signal .ensures) ∙ c8 .before .before .before .if1 .left)
+    (or-skip (sym (c8 .before .before .is-outside .ensures) ∙ c8 .before .if2 .left)
+    (or-skip (sym (rw (c8 .signal-width .ensures) at (c4 .before .before .before .below-sum .ensures)) ∙ c4 .before .before .if3 .left)
+    (or-skip (sym (c4 .before .no-expr .ensures) ∙ c4 .if4 .left)
     (or-skip (ne-no _ _ (sym (c .before .before .before .expr-width .ensures) ∙ c .before .before .if5 .left))
     (or-hit _ (sym (c .before .is-input .ensures) ∙ c .if6 .taken))))))
 
 is-assigned-requires : tie.Need-is-assigned-requires
-is-assigned-requires c κs = (
-      c .before .before .before .before .before .before .before .before .before .before .before .before .before .before .before .before .pre .0,
-      c .before .before .before .before .before .before .before .before .before .before .before .before .before .before .before .before .pre .1,
-      is-signal _ _ (sym (c .before .before .before .before .before .before .before .before .before .before .before .before .no-signal .ensures) ∙ c .before .before .before .before .before .before .before .before .before .before .before .if1 .left),
-      inside _ _ _ (sym (c .before .before .before .before .before .before .before .before .before .before .is-outside .ensures) ∙ c .before .before .before .before .before .before .before .before .before .if2 .left) .0,
-      no-lt _ _ (sym (rw (c .before .before .before .before .before .before .before .before .signal-width .ensures) at (c .before .before .before .before .before .before .before .below-sum .ensures)) ∙ c .before .before .before .before .before .before .if3 .left),
+is-assigned-requires c κs =
+    let c4 = c .before .before .before .before in
+    let c8 = c4 .before .before .before .before in
+    let c12 = c8 .before .before .before .before in
+    let c16 = c12 .before .before .before .before in (
+      c16 .pre .0,
+      c16 .pre .1,
+      is-signal _ _ (sym (c12 .no-signal .ensures) ∙ c8 .before .before .before .if1 .left),
+      inside _ _ _ (sym (c8 .before .before .is-outside .ensures) ∙ c8 .before .if2 .left) .0,
+      no-lt _ _ (sym (rw (c8 .signal-width .ensures) at (c4 .before .before .before .below-sum .ensures)) ∙ c4 .before .before .if3 .left),
     )
 
 returns-7 : tie.Need-returns-7
 unfolding badAssignOf
-returns-7 c = λ r m.
-    or-skip (sym (c .before .before .before .before .before .before .before .before .before .before .before .before .before .no-signal .ensures) ∙ c .before .before .before .before .before .before .before .before .before .before .before .before .if1 .left)
-    (or-skip (sym (c .before .before .before .before .before .before .before .before .before .before .before .is-outside .ensures) ∙ c .before .before .before .before .before .before .before .before .before .before .if2 .left)
-    (or-skip (sym (rw (c .before .before .before .before .before .before .before .before .before .signal-width .ensures) at (c .before .before .before .before .before .before .before .before .below-sum .ensures)) ∙ c .before .before .before .before .before .before .before .if3 .left)
-    (or-skip (sym (c .before .before .before .before .before .before .no-expr .ensures) ∙ c .before .before .before .before .before .if4 .left)
-    (or-skip (ne-no _ _ (sym (c .before .before .before .before .expr-width .ensures) ∙ c .before .before .before .if5 .left))
+returns-7 c =
+    let c4 = c .before .before .before .before in
+    let c8 = c4 .before .before .before .before in
+    let c12 = c8 .before .before .before .before in
+    λ r m.
+    or-skip (sym (c12 .before .no-signal .ensures) ∙ c12 .if1 .left)
+    (or-skip (sym (c8 .before .before .before .is-outside .ensures) ∙ c8 .before .before .if2 .left)
+    (or-skip (sym (rw (c8 .before .signal-width .ensures) at (c8 .below-sum .ensures)) ∙ c4 .before .before .before .if3 .left)
+    (or-skip (sym (c4 .before .before .no-expr .ensures) ∙ c4 .before .if4 .left)
+    (or-skip (ne-no _ _ (sym (c4 .expr-width .ensures) ∙ c .before .before .before .if5 .left))
     (or-skip (sym (c .before .before .is-input .ensures) ∙ c .before .if6 .left)
     (c .is-assigned .ensures r m))))))
 

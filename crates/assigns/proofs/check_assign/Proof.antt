@@ -26,8 +26,10 @@ same-length : tie.Need-same-length
 same-length c = search needs
 
 returns : tie.Need-returns
-returns c = (
-      bad-of _ _ _ _ _ _ _ (c .before .before .before .before .before .before .record-field .ensures) (c .before .before .before .before .before .record-field2 .ensures) (c .before .before .before .before .record-field3 .ensures) (c .before .before .before .record-field4 .ensures) (sym (c .if1 .taken) ∙ c .before .bad-assign-of .ensures _ (c .before .before .before .before .before .before .before .before .before .before .pre .1)),
+returns c =
+    let c4 = c .before .before .before .before in
+    let c8 = c4 .before .before .before .before in (
+      bad-of _ _ _ _ _ _ _ (c4 .before .before .record-field .ensures) (c4 .before .record-field2 .ensures) (c4 .record-field3 .ensures) (c .before .before .before .record-field4 .ensures) (sym (c .if1 .taken) ∙ c .before .bad-assign-of .ensures _ (c8 .before .before .pre .1)),
       λ e. absurd (true≢false e),
     )
 

@@ -20,7 +20,7 @@ signal-width-requires c κs = search needs
 is-marked-requires : tie.Need-is-marked-requires
 is-marked-requires c κs =
     let start = c .before .before .before .before .before .before in
-    let one = start .pre .0 .sized .wide _ (start .pre .2) in
+    let one = start .pre .0 .fit .wide _ (start .pre .2) in
     (start .pre .0, start .pre .1, start .pre .2, omega arith, omega arith)
 
 returns-2 : tie.Need-returns-2

@@ -48,11 +48,13 @@ loop-less : tie.Need-loop-less Inv-loop μ-loop
 loop-less c = omega arith
 
 loop-again : tie.Need-loop-again Inv-loop μ-loop
-loop-again c = (
+loop-again c =
+    let s = c .before .before .before .before .before .before .args .s .now in
+    let l = c .before .before .loop in (
       omega arith,
-      omega (arith, sum-more (signalWidth (c .before .before .before .before .before .before .args .s .now)) (c .before .before .loop .p)),
-      simp length-set (c .before .before .loop .inv .2),
-      first-more (c .before .before .before .before .before .before .args .s .now) (c .before .before .loop .firsts) (c .before .before .loop .p) (omega arith) (c .before .before .loop .inv .3) _ (c .before .before .loop .inv .1),
+      omega (arith, sum-more (signalWidth (s)) (l .p)),
+      simp length-set (l .inv .2),
+      first-more (s) (l .firsts) (l .p) (omega arith) (l .inv .3) _ (l .inv .1),
     )
 
 same-length : tie.Need-same-length Inv-loop μ-loop
@@ -63,7 +65,7 @@ unfolding signalBits
 returns c =
     let e : c .before .loop .p ≡ countAt (c .before .before .before .before .before .args .s .now) 0 = omega arith in (
       c .before .loop .inv .1 ∙ ap (sumTo (signalWidth (c .before .before .before .before .before .args .s .now))) e,
-      record { sized = c .before .before .before .before .before .pre .0; few = omega arith; first-of = λ q h. c .before .loop .inv .3 q (omega arith) },
+      record { fit = c .before .before .before .before .before .pre .0; few = omega arith; first-of = λ q h. c .before .loop .inv .3 q (omega arith) },
     )
 
 pub lay-firsts-spec : {M : Type 1} → statement M

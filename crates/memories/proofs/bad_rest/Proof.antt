@@ -31,7 +31,8 @@ record-field-requires-3 c κs = search needs
 returns-3 : tie.Need-returns-3
 unfolding badRest
 returns-3 c =
-    or-skip (sym (rw (c .before .before .before .before .before .before .record-field .ensures) at (c .before .before .before .before .before .is-outside .ensures)) ∙ c .before .before .before .before .if1 .left)
+    let c4 = c .before .before .before .before in
+    or-skip (sym (rw (c4 .before .before .record-field .ensures) at (c4 .before .is-outside .ensures)) ∙ c4 .if1 .left)
     (or-skip (lt-no _ _ (rw (c .before .before .before .record-field2 .ensures) at (c .before .before .if2 .left)))
     (or-hit _ (ne-yes _ _ (λ e. c .if3 .taken (c .before .record-field3 .ensures ∙ e)))))
 
@@ -47,9 +48,11 @@ bad-port-requires c κs = search needs
 returns-4 : tie.Need-returns-4
 unfolding badRest
 returns-4 c =
-    or-skip (sym (rw (c .before .before .before .before .before .before .before .before .before .before .record-field .ensures) at (c .before .before .before .before .before .before .before .before .before .is-outside .ensures)) ∙ c .before .before .before .before .before .before .before .before .if1 .left)
-    (or-skip (lt-no _ _ (rw (c .before .before .before .before .before .before .before .record-field2 .ensures) at (c .before .before .before .before .before .before .if2 .left)))
-    (or-skip (ne-no _ _ (sym (c .before .before .before .before .before .record-field3 .ensures) ∙ c .before .before .before .before .if3 .left))
+    let c4 = c .before .before .before .before in
+    let c8 = c4 .before .before .before .before in
+    or-skip (sym (rw (c8 .before .before .record-field .ensures) at (c8 .before .is-outside .ensures)) ∙ c8 .if1 .left)
+    (or-skip (lt-no _ _ (rw (c4 .before .before .before .record-field2 .ensures) at (c4 .before .before .if2 .left)))
+    (or-skip (ne-no _ _ (sym (c4 .before .record-field3 .ensures) ∙ c4 .if3 .left))
     (or-hit _ (sym (rw (c .before .before .signal-width .ensures, c .before .before .before .record-field4 .ensures) at (c .before .bad-port .ensures)) ∙ c .if4 .taken))))
 
 record-field-requires-5 : tie.Need-record-field-requires-5
@@ -61,11 +64,14 @@ bad-second-requires c κs = search needs
 returns-5 : tie.Need-returns-5
 unfolding badRest
 returns-5 c =
-    or-skip (sym (rw (c .before .before .before .before .before .before .before .before .before .before .before .before .record-field .ensures) at (c .before .before .before .before .before .before .before .before .before .before .before .is-outside .ensures)) ∙ c .before .before .before .before .before .before .before .before .before .before .if1 .left)
-    (or-skip (lt-no _ _ (rw (c .before .before .before .before .before .before .before .before .before .record-field2 .ensures) at (c .before .before .before .before .before .before .before .before .if2 .left)))
-    (or-skip (ne-no _ _ (sym (c .before .before .before .before .before .before .before .record-field3 .ensures) ∙ c .before .before .before .before .before .before .if3 .left))
-    (or-skip (sym (rw (c .before .before .before .before .signal-width .ensures, c .before .before .before .before .before .record-field4 .ensures) at (c .before .before .before .bad-port .ensures)) ∙ c .before .before .if4 .left)
-    (rw (c .before .record-field5 .ensures, c .before .before .before .before .signal-width .ensures, c .before .before .before .before .before .record-field4 .ensures) at (c .bad-second .ensures)))))
+    let c4 = c .before .before .before .before in
+    let c8 = c4 .before .before .before .before in
+    let c12 = c8 .before .before .before .before in
+    or-skip (sym (rw (c12 .record-field .ensures) at (c8 .before .before .before .is-outside .ensures)) ∙ c8 .before .before .if1 .left)
+    (or-skip (lt-no _ _ (rw (c8 .before .record-field2 .ensures) at (c8 .if2 .left)))
+    (or-skip (ne-no _ _ (sym (c4 .before .before .before .record-field3 .ensures) ∙ c4 .before .before .if3 .left))
+    (or-skip (sym (rw (c4 .signal-width .ensures, c4 .before .record-field4 .ensures) at (c .before .before .before .bad-port .ensures)) ∙ c .before .before .if4 .left)
+    (rw (c .before .record-field5 .ensures, c4 .signal-width .ensures, c4 .before .record-field4 .ensures) at (c .bad-second .ensures)))))
 
 pub bad-rest-spec : {M : Type 1} → statement M
 bad-rest-spec =

@@ -15,7 +15,9 @@ returns : tie.Need-returns
 returns c = (sym (c .if1 .taken) ∙ c .before .bad-rest .ensures, λ e. absurd (true≢false e))
 
 mark-memory-requires : tie.Need-mark-memory-requires
-mark-memory-requires c κs = (c .before .before .before .before .before .before .before .pre .0, c .before .before .before .before .before .before .before .pre .1, sym (c .before .before .bad-rest .ensures) ∙ c .before .if1 .left)
+mark-memory-requires c κs =
+    let c4 = c .before .before .before .before in
+    (c4 .before .before .before .pre .0, c4 .before .before .before .pre .1, sym (c .before .before .bad-rest .ensures) ∙ c .before .if1 .left)
 
 same-length-2 : tie.Need-same-length-2
 same-length-2 c = search needs

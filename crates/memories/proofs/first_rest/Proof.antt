@@ -25,7 +25,9 @@ loop-holds : tie.Need-loop-holds Inv-loop μ-loop
 loop-holds c = (omega arith, begins _ _, c .before .before .before .before .pre .1, refl)
 
 check-rest-requires : tie.Need-check-rest-requires Inv-loop μ-loop
-check-rest-requires c κs = (c .before .before .before .before .before .before .before .pre .0, c .before .before .loop .inv .2)
+check-rest-requires c κs =
+    let c4 = c .before .before .before .before in
+    (c4 .before .before .before .pre .0, c .before .before .loop .inv .2)
 
 same-length : tie.Need-same-length Inv-loop μ-loop
 same-length c = search needs
@@ -41,11 +43,11 @@ loop-less c = search needs
 
 loop-again : tie.Need-loop-again Inv-loop μ-loop
 loop-again c = (
-      omega arith,
-      c .before .before .before .before .before .before .loop .inv .1 ∙ passed _ _ _ (omega arith) (sym (c .before .before .before .check-rest .ensures .0) ∙ c .if1 .left),
-      c .before .before .before .check-rest .ensures .1 (c .if1 .left),
-      search needs,
-    )
+  omega arith,
+  c .before .before .before .before .before .before .loop .inv .1 ∙ passed _ _ _ (omega arith) (sym (c .before .before .before .check-rest .ensures .0) ∙ c .if1 .left),
+  c .before .before .before .check-rest .ensures .1 (c .if1 .left),
+  search needs,
+)
 
 same-length-2 : tie.Need-same-length-2 Inv-loop μ-loop
 same-length-2 c = search needs

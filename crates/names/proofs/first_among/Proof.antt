@@ -57,11 +57,11 @@ loop-less c = search needs
 loop-again : tie.Need-loop-again Inv-loop μ-loop
 unfolding wrongName
 loop-again c = (
-      omega arith,
-      c .before .before .before .before .before .before .before .before .before .loop .inv .1 ∙ passed _ _ _ (omega arith) (sym (or-skip (sym (c .before .before .before .before .before .before .before .bad-name .ensures) ∙ c .before .before .before .before .before .before .if1 .left) (sym (c .if2 .left) ∙ c .before .before .before .name-seen .ensures .0))),
-      c .before .before .before .name-seen .ensures .1,
-      search needs,
-    )
+  omega arith,
+  c .before .before .before .before .before .before .before .before .before .loop .inv .1 ∙ passed _ _ _ (omega arith) (sym (or-skip (sym (c .before .before .before .before .before .before .before .bad-name .ensures) ∙ c .before .before .before .before .before .before .if1 .left) (sym (c .if2 .left) ∙ c .before .before .before .name-seen .ensures .0))),
+  c .before .before .before .name-seen .ensures .1,
+  search needs,
+)
 
 same-length-5 : tie.Need-same-length-5 Inv-loop μ-loop
 same-length-5 c = search needs

@@ -23,7 +23,9 @@ slice-read-if1 : tie.Need-slice-read-if1
 slice-read-if1 c = mod-lt _ (c .before .before .before .before .before .pre .2)
 
 slice-write-seen : tie.Need-slice-write-seen
-slice-write-seen c = mod-lt _ (c .before .before .before .before .before .before .pre .2)
+slice-write-seen c =
+    let c4 = c .before .before .before .before in
+    mod-lt _ (c4 .before .before .pre .2)
 
 same-length : tie.Need-same-length
 same-length c = search needs

@@ -38,8 +38,10 @@ bad-bit-requires c κs = search needs
 returns-3 : tie.Need-returns-3
 unfolding badRestOf
 returns-3 c =
-    or-skip (sym (c .before .before .before .before .before .before .before .before .no-signal .ensures) ∙ c .before .before .before .before .before .before .before .if1 .left)
-    (or-skip (sym (rw (c .before .before .before .before .before .record-field .ensures, c .before .before .before .before .before .before .signal-width .ensures) at (c .before .before .before .before .bad-value .ensures)) ∙ c .before .before .before .if2 .left)
+    let c4 = c .before .before .before .before in
+    let c8 = c4 .before .before .before .before in
+    or-skip (sym (c8 .no-signal .ensures) ∙ c4 .before .before .before .if1 .left)
+    (or-skip (sym (rw (c4 .before .record-field .ensures, c4 .before .before .signal-width .ensures) at (c4 .bad-value .ensures)) ∙ c .before .before .before .if2 .left)
     (or-hit _ (sym (rw (c .before .before .record-field2 .ensures) at (c .before .bad-bit .ensures)) ∙ c .if3 .taken)))
 
 record-field-requires-3 : tie.Need-record-field-requires-3
@@ -48,9 +50,11 @@ record-field-requires-3 c κs = search needs
 returns-4 : tie.Need-returns-4
 unfolding badRestOf
 returns-4 c =
-    or-skip (sym (c .before .before .before .before .before .before .before .before .before .before .no-signal .ensures) ∙ c .before .before .before .before .before .before .before .before .before .if1 .left)
-    (or-skip (sym (rw (c .before .before .before .before .before .before .before .record-field .ensures, c .before .before .before .before .before .before .before .before .signal-width .ensures) at (c .before .before .before .before .before .before .bad-value .ensures)) ∙ c .before .before .before .before .before .if2 .left)
-    (or-skip (sym (rw (c .before .before .before .before .record-field2 .ensures) at (c .before .before .before .bad-bit .ensures)) ∙ c .before .before .if3 .left)
+    let c4 = c .before .before .before .before in
+    let c8 = c4 .before .before .before .before in
+    or-skip (sym (c8 .before .before .no-signal .ensures) ∙ c8 .before .if1 .left)
+    (or-skip (sym (rw (c4 .before .before .before .record-field .ensures, c8 .signal-width .ensures) at (c4 .before .before .bad-value .ensures)) ∙ c4 .before .if2 .left)
+    (or-skip (sym (rw (c4 .record-field2 .ensures) at (c .before .before .before .bad-bit .ensures)) ∙ c .before .before .if3 .left)
     (or-hit _ (lt-yes _ _ (rw (c .before .record-field3 .ensures) at (c .if4 .taken))))))
 
 bad-optional-requires : tie.Need-bad-optional-requires
@@ -59,9 +63,12 @@ bad-optional-requires c κs = search needs
 returns-5 : tie.Need-returns-5
 unfolding badRestOf
 returns-5 c =
-    or-skip (sym (c .before .before .before .before .before .before .before .before .before .before .before .before .no-signal .ensures) ∙ c .before .before .before .before .before .before .before .before .before .before .before .if1 .left)
-    (or-skip (sym (rw (c .before .before .before .before .before .before .before .before .before .record-field .ensures, c .before .before .before .before .before .before .before .before .before .before .signal-width .ensures) at (c .before .before .before .before .before .before .before .before .bad-value .ensures)) ∙ c .before .before .before .before .before .before .before .if2 .left)
-    (or-skip (sym (rw (c .before .before .before .before .before .before .record-field2 .ensures) at (c .before .before .before .before .before .bad-bit .ensures)) ∙ c .before .before .before .before .if3 .left)
+    let c4 = c .before .before .before .before in
+    let c8 = c4 .before .before .before .before in
+    let c12 = c8 .before .before .before .before in
+    or-skip (sym (c12 .no-signal .ensures) ∙ c8 .before .before .before .if1 .left)
+    (or-skip (sym (rw (c8 .before .record-field .ensures, c8 .before .before .signal-width .ensures) at (c8 .bad-value .ensures)) ∙ c4 .before .before .before .if2 .left)
+    (or-skip (sym (rw (c4 .before .before .record-field2 .ensures) at (c4 .before .bad-bit .ensures)) ∙ c4 .if3 .left)
     (or-skip (lt-no _ _ (rw (c .before .before .before .record-field3 .ensures) at (c .before .before .if4 .left)))
     (or-hit _ (sym (c .before .bad-optional .ensures) ∙ c .if5 .taken)))))
 
@@ -71,26 +78,38 @@ bad-reset-requires c κs = search needs
 returns-6 : tie.Need-returns-6
 unfolding badRestOf
 returns-6 c =
-    or-skip (sym (c .before .before .before .before .before .before .before .before .before .before .before .before .before .before .no-signal .ensures) ∙ c .before .before .before .before .before .before .before .before .before .before .before .before .before .if1 .left)
-    (or-skip (sym (rw (c .before .before .before .before .before .before .before .before .before .before .before .record-field .ensures, c .before .before .before .before .before .before .before .before .before .before .before .before .signal-width .ensures) at (c .before .before .before .before .before .before .before .before .before .before .bad-value .ensures)) ∙ c .before .before .before .before .before .before .before .before .before .if2 .left)
-    (or-skip (sym (rw (c .before .before .before .before .before .before .before .before .record-field2 .ensures) at (c .before .before .before .before .before .before .before .bad-bit .ensures)) ∙ c .before .before .before .before .before .before .if3 .left)
-    (or-skip (lt-no _ _ (rw (c .before .before .before .before .before .record-field3 .ensures) at (c .before .before .before .before .if4 .left)))
+    let c4 = c .before .before .before .before in
+    let c8 = c4 .before .before .before .before in
+    let c12 = c8 .before .before .before .before in
+    or-skip (sym (c12 .before .before .no-signal .ensures) ∙ c12 .before .if1 .left)
+    (or-skip (sym (rw (c8 .before .before .before .record-field .ensures, c12 .signal-width .ensures) at (c8 .before .before .bad-value .ensures)) ∙ c8 .before .if2 .left)
+    (or-skip (sym (rw (c8 .record-field2 .ensures) at (c4 .before .before .before .bad-bit .ensures)) ∙ c4 .before .before .if3 .left)
+    (or-skip (lt-no _ _ (rw (c4 .before .record-field3 .ensures) at (c4 .if4 .left)))
     (or-skip (sym (c .before .before .before .bad-optional .ensures) ∙ c .before .before .if5 .left)
-    (or-hit _ (sym (rw (c .before .before .before .before .before .before .before .before .before .before .before .before .signal-width .ensures) at (c .before .bad-reset .ensures)) ∙ c .if6 .taken))))))
+    (or-hit _ (sym (rw (c12 .signal-width .ensures) at (c .before .bad-reset .ensures)) ∙ c .if6 .taken))))))
 
 is-driven-requires : tie.Need-is-driven-requires
-is-driven-requires c κs = (c .before .before .before .before .before .before .before .before .before .before .before .before .before .before .before .before .before .before .pre .0, c .before .before .before .before .before .before .before .before .before .before .before .before .before .before .before .before .before .before .pre .1 .holds .room, is-signal _ _ (sym (c .before .before .before .before .before .before .before .before .before .before .before .before .before .before .no-signal .ensures) ∙ c .before .before .before .before .before .before .before .before .before .before .before .before .before .if1 .left))
+is-driven-requires c κs =
+    let c4 = c .before .before .before .before in
+    let c8 = c4 .before .before .before .before in
+    let c12 = c8 .before .before .before .before in
+    let c16 = c12 .before .before .before .before in
+    (c16 .before .before .pre .0, c16 .before .before .pre .1 .holds .room, is-signal _ _ (sym (c12 .before .before .no-signal .ensures) ∙ c12 .before .if1 .left))
 
 returns-7 : tie.Need-returns-7
 unfolding badRestOf
 returns-7 c =
-    or-skip (sym (c .before .before .before .before .before .before .before .before .before .before .before .before .before .before .before .no-signal .ensures) ∙ c .before .before .before .before .before .before .before .before .before .before .before .before .before .before .if1 .left)
-    (or-skip (sym (rw (c .before .before .before .before .before .before .before .before .before .before .before .before .record-field .ensures, c .before .before .before .before .before .before .before .before .before .before .before .before .before .signal-width .ensures) at (c .before .before .before .before .before .before .before .before .before .before .before .bad-value .ensures)) ∙ c .before .before .before .before .before .before .before .before .before .before .if2 .left)
-    (or-skip (sym (rw (c .before .before .before .before .before .before .before .before .before .record-field2 .ensures) at (c .before .before .before .before .before .before .before .before .bad-bit .ensures)) ∙ c .before .before .before .before .before .before .before .if3 .left)
-    (or-skip (lt-no _ _ (rw (c .before .before .before .before .before .before .record-field3 .ensures) at (c .before .before .before .before .before .if4 .left)))
-    (or-skip (sym (c .before .before .before .before .bad-optional .ensures) ∙ c .before .before .before .if5 .left)
-    (or-skip (sym (rw (c .before .before .before .before .before .before .before .before .before .before .before .before .before .signal-width .ensures) at (c .before .before .bad-reset .ensures)) ∙ c .before .if6 .left)
-    (c .is-driven .ensures _ _ (c .before .before .before .before .before .before .before .before .before .before .before .before .before .before .before .before .before .before .before .pre .1)))))))
+    let c4 = c .before .before .before .before in
+    let c8 = c4 .before .before .before .before in
+    let c12 = c8 .before .before .before .before in
+    let c16 = c12 .before .before .before .before in
+    or-skip (sym (c12 .before .before .before .no-signal .ensures) ∙ c12 .before .before .if1 .left)
+    (or-skip (sym (rw (c12 .record-field .ensures, c12 .before .signal-width .ensures) at (c8 .before .before .before .bad-value .ensures)) ∙ c8 .before .before .if2 .left)
+    (or-skip (sym (rw (c8 .before .record-field2 .ensures) at (c8 .bad-bit .ensures)) ∙ c4 .before .before .before .if3 .left)
+    (or-skip (lt-no _ _ (rw (c4 .before .before .record-field3 .ensures) at (c4 .before .if4 .left)))
+    (or-skip (sym (c4 .bad-optional .ensures) ∙ c .before .before .before .if5 .left)
+    (or-skip (sym (rw (c12 .before .signal-width .ensures) at (c .before .before .bad-reset .ensures)) ∙ c .before .if6 .left)
+    (c .is-driven .ensures _ _ (c16 .before .before .before .pre .1)))))))
 
 pub bad-rest-of-spec : {M : Type 1} → statement M
 bad-rest-of-spec =

@@ -21,15 +21,20 @@ returns : tie.Need-returns
 returns c = (rest-of _ _ _ _ (c .before .before .before .record-field .ensures) (sym (c .if1 .taken) ∙ c .before .bad-rest-of .ensures), λ e. absurd (true≢false e))
 
 mark-signal-requires : tie.Need-mark-signal-requires
-mark-signal-requires c κs = (c .before .before .before .before .before .before .before .before .pre .0, c .before .before .before .before .before .before .before .before .pre .1 .holds .room, good-of _ _ _ (sym (c .before .before .bad-rest-of .ensures) ∙ c .before .if1 .left) .there)
+mark-signal-requires c κs =
+    let c4 = c .before .before .before .before in
+    let c8 = c4 .before .before .before .before in
+    (c8 .pre .0, c8 .pre .1 .holds .room, good-of _ _ _ (sym (c .before .before .bad-rest-of .ensures) ∙ c .before .if1 .left) .there)
 
 same-length-2 : tie.Need-same-length-2
 same-length-2 c = search needs
 
 returns-2 : tie.Need-returns-2
-returns-2 c = (
-      rest-of _ _ _ _ (c .before .before .before .before .before .before .before .record-field .ensures) (sym (c .before .before .before .before .if1 .left) ∙ c .before .before .before .before .before .bad-rest-of .ensures),
-      λ e. marks-register _ _ _ _ _ (rw (c .before .before .before .before .before .before .before .record-field .ensures) at (c .before .before .mark-signal .ensures)) (c .before .before .before .before .before .before .before .before .before .before .before .pre .1),
+returns-2 c =
+    let c4 = c .before .before .before .before in
+    let c8 = c4 .before .before .before .before in (
+      rest-of _ _ _ _ (c4 .before .before .before .record-field .ensures) (sym (c4 .if1 .left) ∙ c4 .before .bad-rest-of .ensures),
+      λ e. marks-register _ _ _ _ _ (rw (c4 .before .before .before .record-field .ensures) at (c .before .before .mark-signal .ensures)) (c8 .before .before .before .pre .1),
     )
 
 pub check-rest-spec : {M : Type 1} → statement M
