@@ -52,9 +52,9 @@ loop-again c =
     let s = c .before .before .before .before .before .before .args .s .now in
     let l = c .before .before .loop in (
       omega arith,
-      omega (arith, sum-more (signalWidth (s)) (l .p)),
+      omega (arith, sum-more (signalWidth s) (l .p)),
       simp length-set (l .inv .2),
-      first-more (s) (l .firsts) (l .p) (omega arith) (l .inv .3) _ (l .inv .1),
+      first-more s (l .firsts) (l .p) (omega arith) (l .inv .3) _ (l .inv .1),
     )
 
 same-length : tie.Need-same-length Inv-loop μ-loop
