@@ -5,11 +5,12 @@ use mathlib.Core.List.{List}
 use mathlib.Core.Logic.{⊎-elim}
 use mathlib.Core.Path.{_≡_, ap}
 use native.Mathlib.Omega.{arith}
-use Rattle.rules.specs.Rules.{first}
+use Rattle.rules.specs.Rules.{first, sumTo}
 use Rattle.rules.specs.Laws.{or-no, no-lt, no-ne, inside, none}
 use Rattle.meaning.specs.Image.{countAt, field, signalWidth}
 use Rattle.meaning.specs.Checks.{badAssign}
 use Rattle.shared.specs.Good.{GoodValue, is-signal, is-expr}
+use Rattle.drivers.specs.Bits.{Marks, Marked, marks-assign}
 use Rattle.drivers.specs.Good.{Apart, unassigned, not-input}
 use Rattle.assigns.specs.Assign.{badAssignOf}
 
@@ -26,7 +27,7 @@ pub record GoodAssignOf (s : List ℕ) (r p at w e : ℕ) : Type 0 where
 abbrev pub GoodAssign : List ℕ → ℕ → Type 0
 GoodAssign s r = GoodAssignOf s r (field s 3 r 0) (field s 3 r 1) (field s 3 r 2) (field s 3 r 3)
 
-good-of : (s : List ℕ) (r p at w e : ℕ) → badAssignOf s r p at w e ≡ false → GoodAssignOf s r p at w e
+pub good-of : (s : List ℕ) (r p at w e : ℕ) → badAssignOf s r p at w e ≡ false → GoodAssignOf s r p at w e
 unfolding badAssignOf
 good-of s r p at w e h =
     let a = or-no h in
@@ -53,6 +54,10 @@ good-assign s r e = good-of s r _ _ _ _ e
 -- the section has no record that breaks a rule
 pub good-assigns : (s : List ℕ) → first (badAssign s) (countAt s 3) ≡ countAt s 3 → (r : ℕ) → r < countAt s 3 → GoodAssign s r
 good-assigns s e r h = good-assign s r (none _ _ e r h)
+
+-- its bits are marked
+pub assign-marked : (s : List ℕ) (r p at w e : ℕ) (t t′ : List ℕ) → p ≡ field s 3 r 0 → at ≡ field s 3 r 1 → w ≡ field s 3 r 2 → GoodAssignOf s r p at w e → Marked (sumTo (signalWidth s) p + at) w t t′ → Marks s r 0 0 t → Marks s (r + 1) 0 0 t′
+assign-marked s r p at w e t t′ i j k g l m = marks-assign s r t t′ (rw k at (g .least)) (rw (i, j, k) at (g .room)) (rw (i, j, k) at l) m
 
 -- a signal that no assignment drives in any of its bits is the signal of no assignment
 pub never-assigned : (s : List ℕ) (j p : ℕ) → GoodAssign s j → Apart s j p 0 (signalWidth s p) → field s 3 j 0 ≡ p → ⊥

@@ -13,6 +13,7 @@ use Rattle.meaning.specs.Checks as rule
 use Rattle.header.specs.Header.{Header, header-tells, not-refused}
 use Rattle.signals.specs.Signals.{GoodSignal, good-signal}
 use Rattle.exprs.specs.Good.{GoodExpr, good-exprs, good-expr}
+use Rattle.drivers.specs.Bits.{SignalsFit}
 use Rattle.assigns.specs.Good.{GoodAssign, good-assigns}
 use Rattle.registers.specs.Good.{GoodRegister, good-registers}
 use Rattle.memories.specs.Good.{GoodMemory, good-memories}
@@ -52,6 +53,10 @@ signal-bits s e = sum-bound (signalWidth s) (countAt s 0) 4096 (λ r h. good-sig
 pub expr-bits : (s : List ℕ) → first (rule.badExpr s) (countAt s 1) ≡ countAt s 1 → rule.exprBits s ≤ 32768
 unfolding rule.exprBits
 expr-bits s e = sum-bound (exprWidth s) (countAt s 1) 32768 (λ r h. good-expr s r (none _ _ e r h) .sum)
+
+-- the checks' tables have room for signals that keep their rules
+pub signals-fit : (s : List ℕ) → first (rule.badSignal s) (countAt s 0) ≡ countAt s 0 → SignalsFit s
+signals-fit s e = record { most = signal-bits s e; wide = λ p h. good-signal s p (none _ _ e p h) .width .0 }
 
 -- ---- acceptance ----
 

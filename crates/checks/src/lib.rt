@@ -1,7 +1,10 @@
 // The check of an image: refusals 1 to 5, in their order.
 ghost use mathlib.Core.Path.{_≡_};
 ghost use Prim.Native.Nat.{_≤_};
+ghost use lib.ListN.{length};
+ghost use Rattle.meaning.specs.Image.{countAt};
 ghost use Rattle.meaning.specs.Checks as rule;
+ghost use Rattle.drivers.specs.Bits.{SignalsFit, Firsts, Marks};
 ghost use Rattle.checks.specs.Accepted.{Counts};
 ghost use Rattle.checks.specs.Checked.{answerOf, driversThen, recordsThen};
 
@@ -14,20 +17,20 @@ pub enum Checked {
     ScratchShort,
 }
 
-// The answer of the assignments, registers, memories and the scratch.
-fn check_drivers(s: &[u8], n: u32, scratch: usize) -> Checked
-    requires { ⌜ (Counts (now s)) × (rule.signalBits (now s) ≤ 4096) × (rule.exprBits (now s) ≤ 32768) ⌝ }
+// The answer of the assignments, registers, memories and the scratch; firsts has each signal's first bit, and taken no marked bit.
+fn check_sections(s: &[u8], firsts: &[u32], taken: &mut [u8], n: u32, scratch: usize) -> Checked
+    requires { ⌜ (Counts (now s)) × (rule.exprBits (now s) ≤ 32768) × (Firsts (now s) (now firsts)) × (Marks (now s) 0 0 0 (now taken)) ⌝ }
     ensures { λ c. ⌜ answerOf c ≡ driversThen (now (s .entry)) n scratch ⌝ }
 {
-    let a = assigns::first_assign(s);
+    let a = assigns::first_assign(s, firsts, taken);
     if a < fields::count(s, 3) {
         return Checked::Record(3, a);
     }
-    let r = registers::first_register(s);
+    let r = registers::first_register(s, firsts, taken);
     if r < fields::count(s, 4) {
         return Checked::Record(4, r);
     }
-    let m = memories::first_memory(s);
+    let m = memories::first_memory(s, firsts, taken);
     if m < fields::count(s, 5) {
         return Checked::Record(5, m);
     }
@@ -35,6 +38,32 @@ fn check_drivers(s: &[u8], n: u32, scratch: usize) -> Checked
         return Checked::ScratchShort;
     }
     Checked::Fine
+}
+
+// The same, with a table for 256 bits where there are no more; firsts has room for the signals.
+fn check_bits(s: &[u8], firsts: &mut [u32], n: u32, scratch: usize) -> Checked
+    requires { ⌜ (Counts (now s)) × (SignalsFit (now s)) × (rule.exprBits (now s) ≤ 32768) × (countAt (now s) 0 ≤ length (now firsts)) ⌝ }
+    ensures { λ c. ⌜ answerOf c ≡ driversThen (now (s .entry)) n scratch ⌝ }
+{
+    if drivers::lay_firsts(s, firsts) <= 256 {
+        let mut taken: [u8; 256] = [0; 256];
+        return check_sections(s, firsts, &mut taken, n, scratch);
+    }
+    let mut taken: [u8; 4096] = [0; 4096];
+    check_sections(s, firsts, &mut taken, n, scratch)
+}
+
+// The same, with a table for 32 signals where there are no more.
+fn check_drivers(s: &[u8], n: u32, scratch: usize) -> Checked
+    requires { ⌜ (Counts (now s)) × (SignalsFit (now s)) × (rule.exprBits (now s) ≤ 32768) ⌝ }
+    ensures { λ c. ⌜ answerOf c ≡ driversThen (now (s .entry)) n scratch ⌝ }
+{
+    if fields::count(s, 0) <= 32 {
+        let mut firsts: [u32; 32] = [0; 32];
+        return check_bits(s, &mut firsts, n, scratch);
+    }
+    let mut firsts: [u32; 512] = [0; 512];
+    check_bits(s, &mut firsts, n, scratch)
 }
 
 // The answer of all records and the scratch.

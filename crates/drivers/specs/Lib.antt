@@ -1,3 +1,3 @@
--- Drivers by the columns of their sections, and what a signal without a driver tells.
-pub mod Columns
+-- Driven bits as a table, and what a signal without a driver tells.
+pub mod Bits
 pub mod Good

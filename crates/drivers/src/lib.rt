@@ -1,10 +1,12 @@
-// Which bits have a driver: assignments, register targets, read data of memories and inputs drive. Fields that a search asks again and
-// again are read once, into arrays on the stack.
+// Which bits of signals have a driver: assignments, register targets, read data of memories and inputs drive. The bits that the records
+// so far drive are marked in a table with a byte for each bit of a signal; a second table has each signal's first bit.
 ghost use mathlib.Core.Path.{_≡_};
-ghost use Prim.Native.Nat.{_+_, _≤_};
-ghost use Rattle.rules.specs.Rules.{_<?_, _≡?_, _and_, any};
-ghost use Rattle.meaning.specs.Checks.{isInput, readInto, driven};
-ghost use Rattle.drivers.specs.Columns.{Column, Drivers, drivesIn, listedIn, readsInto};
+ghost use Prim.Native.Nat.{ℕ, _+_, _≤_, _<_};
+ghost use lib.ListN.{length};
+ghost use Rattle.rules.specs.Rules.{_or_, any, sumTo};
+ghost use Rattle.meaning.specs.Image.{countAt, signalWidth};
+ghost use Rattle.meaning.specs.Checks.{signalBits, isInput, assigned, targeted, readInto, driven};
+ghost use Rattle.drivers.specs.Bits.{SignalsFit, Firsts, Marks, Marked, marked};
 
 // Where the fields of a memory's ports begin, and the field that says whether there is a second; a port's read data is its second field.
 pub const FIRST_PORT: u32 = 5;
@@ -17,70 +19,71 @@ pub const FIRST_DATA: u32 = FIRST_PORT + 1;
 
 pub const SECOND_DATA: u32 = SECOND_PORT + 1;
 
-// Field f of the first n records of section k.
-pub fn column(s: &[u8], k: u32, f: u32, n: u32) -> [u32; 1024]
-    requires { ⌜ n ≤ 1024 ⌝ }
-    ensures { λ a. ⌜ Column (now (s .entry)) k f n a ⌝ }
+// Each signal's first bit; answers the bits of all signals.
+pub fn lay_firsts(s: &[u8], firsts: &mut [u32]) -> u32
+    requires { ⌜ (SignalsFit (now s)) × (countAt (now s) 0 ≤ length (now firsts)) ⌝ }
+    ensures { λ r. ⌜ (r ≡ signalBits (now (s .entry))) × (Firsts (now (s .entry)) (now (firsts .exit))) ⌝ }
 {
-    let mut a: [u32; 1024] = [0; 1024];
+    let n = fields::count(s, 0);
+    let mut sum: u32 = 0;
+    let mut p: u32 = 0;
+    while p < n {
+        firsts[p as usize] = sum;
+        sum += fields::signal_width(s, p);
+        p += 1;
+    }
+    sum
+}
+
+// One of the n bits from at on is marked.
+fn any_marked(taken: &[u8], at: usize, n: u32) -> bool
+    requires { ⌜ at + n ≤ length (now taken) ⌝ }
+    ensures { λ b. ⌜ b ≡ any (λ k. marked (now (taken .entry)) (at + k)) n ⌝ }
+{
     let mut i: u32 = 0;
     while i < n {
-        a[i as usize] = fields::record_field(s, k, i, f);
+        if taken[at + i as usize] == 1 {
+            return true;
+        }
         i += 1;
     }
-    a
-}
-
-// v bits of signal q from l on and w bits of signal p from at on have a bit in common.
-fn meet(q: u32, l: u32, v: u32, p: u32, at: u32, w: u32) -> bool
-    ensures { λ b. ⌜ b ≡ (q ≡? p and l <? at + w and at <? l + v) ⌝ }
-{
-    if q != p {
-        return false;
-    }
-    if (at as u64) + (w as u64) <= (l as u64) {
-        return false;
-    }
-    (at as u64) < (l as u64) + (v as u64)
-}
-
-// One of the first n assignments, whose fields are these, drives one of the w bits of signal p from at on.
-pub fn is_assigned(
-    signal: &[u32; 1024],
-    lsb: &[u32; 1024],
-    width: &[u32; 1024],
-    n: u32,
-    p: u32,
-    at: u32,
-    w: u32,
-) -> bool
-    requires { ⌜ n ≤ 1024 ⌝ }
-    ensures { λ b. ⌜ b ≡ any (drivesIn (now (signal .entry)) (now (lsb .entry)) (now (width .entry)) p at w) n ⌝ }
-{
-    let mut j: u32 = 0;
-    while j < n {
-        let i = j as usize;
-        if meet(signal[i], lsb[i], width[i], p, at, w) {
-            return true;
-        }
-        j += 1;
-    }
     false
 }
 
-// Signal p is one of the first n targets.
-pub fn is_listed(targets: &[u32; 1024], n: u32, p: u32) -> bool
-    requires { ⌜ n ≤ 1024 ⌝ }
-    ensures { λ b. ⌜ b ≡ any (listedIn (now (targets .entry)) p) n ⌝ }
+// Marks the n bits from at on.
+fn mark(taken: &mut [u8], at: usize, n: u32)
+    requires { ⌜ at + n ≤ length (now taken) ⌝ }
+    ensures { λ _. ⌜ Marked at n (now (taken .entry)) (now (taken .exit)) ⌝ }
 {
-    let mut j: u32 = 0;
-    while j < n {
-        if targets[j as usize] == p {
-            return true;
-        }
-        j += 1;
+    let mut i: u32 = 0;
+    while i < n {
+        taken[at + i as usize] = 1;
+        i += 1;
     }
-    false
+}
+
+// Where bit b of signal p stands.
+fn place(s: &[u8], firsts: &[u32], p: u32, b: u32) -> usize
+    requires { ⌜ (Firsts (now s) (now firsts)) × (p < countAt (now s) 0) ⌝ }
+    ensures { λ r. ⌜ r ≡ sumTo (signalWidth (now (s .entry))) p + b ⌝ }
+{
+    firsts[p as usize] as usize + b as usize
+}
+
+// One of the w bits of signal p from at on has a driver.
+fn is_marked(s: &[u8], firsts: &[u32], taken: &[u8], p: u32, at: u32, w: u32) -> bool
+    requires { ⌜ (Firsts (now s) (now firsts)) × (signalBits (now s) ≤ length (now taken)) × (p < countAt (now s) 0) × (1 ≤ w) × (at + w ≤ signalWidth (now s) p) ⌝ }
+    ensures { λ b. ⌜ ((a i j : ℕ) → Marks (now (s .entry)) a i j (now (taken .entry)) → b ≡ (assigned (now (s .entry)) a p at w or targeted (now (s .entry)) i p or readInto (now (s .entry)) j p)) ⌝ }
+{
+    any_marked(taken, place(s, firsts, p, at), w)
+}
+
+// An assignment drives one of the w bits of signal p from at on, where only assignments have been marked.
+pub fn is_assigned(s: &[u8], firsts: &[u32], taken: &[u8], p: u32, at: u32, w: u32) -> bool
+    requires { ⌜ (Firsts (now s) (now firsts)) × (signalBits (now s) ≤ length (now taken)) × (p < countAt (now s) 0) × (1 ≤ w) × (at + w ≤ signalWidth (now s) p) ⌝ }
+    ensures { λ b. ⌜ ((a : ℕ) → Marks (now (s .entry)) a 0 0 (now (taken .entry)) → b ≡ assigned (now (s .entry)) a p at w) ⌝ }
+{
+    is_marked(s, firsts, taken, p, at, w)
 }
 
 // Signal p is an input.
@@ -90,56 +93,29 @@ pub fn is_input(s: &[u8], p: u32) -> bool
     fields::record_field(s, 0, p, 3) == 1
 }
 
-// Signal p is read data of memory j.
-fn reads(s: &[u8], j: u32, p: u32) -> bool
-    ensures { λ b. ⌜ b ≡ readsInto (now (s .entry)) p j ⌝ }
-{
-    if fields::record_field(s, 5, j, FIRST_DATA) == p {
-        return true;
-    }
-    if fields::record_field(s, 5, j, HAS_SECOND) != 1 {
-        return false;
-    }
-    fields::record_field(s, 5, j, SECOND_DATA) == p
-}
-
-// Signal p is read data of one of the first n memories.
-fn is_read_into(s: &[u8], n: u32, p: u32) -> bool
-    ensures { λ b. ⌜ b ≡ readInto (now (s .entry)) n p ⌝ }
-{
-    let mut j: u32 = 0;
-    while j < n {
-        if reads(s, j, p) {
-            return true;
-        }
-        j += 1;
-    }
-    false
-}
-
-// Signal p has a driver before the first i registers and the first j memories end; n assignments.
-pub fn is_driven(
-    s: &[u8],
-    signal: &[u32; 1024],
-    lsb: &[u32; 1024],
-    width: &[u32; 1024],
-    targets: &[u32; 1024],
-    n: u32,
-    i: u32,
-    j: u32,
-    p: u32,
-) -> bool
-    requires { ⌜ Drivers (now s) n i (now signal) (now lsb) (now width) (now targets) ⌝ }
-    ensures { λ b. ⌜ b ≡ driven (now (s .entry)) i j p ⌝ }
+// Signal p has a driver, where all assignments have been marked.
+pub fn is_driven(s: &[u8], firsts: &[u32], taken: &[u8], p: u32) -> bool
+    requires { ⌜ (Firsts (now s) (now firsts)) × (signalBits (now s) ≤ length (now taken)) × (p < countAt (now s) 0) ⌝ }
+    ensures { λ b. ⌜ ((i j : ℕ) → Marks (now (s .entry)) (countAt (now (s .entry)) 3) i j (now (taken .entry)) → b ≡ driven (now (s .entry)) i j p) ⌝ }
 {
     if is_input(s, p) {
         return true;
     }
-    if is_assigned(signal, lsb, width, n, p, 0, fields::signal_width(s, p)) {
-        return true;
-    }
-    if is_listed(targets, i, p) {
-        return true;
-    }
-    is_read_into(s, j, p)
+    is_marked(s, firsts, taken, p, 0, fields::signal_width(s, p))
+}
+
+// Marks w bits of signal p from at on.
+pub fn mark_bits(s: &[u8], firsts: &[u32], taken: &mut [u8], p: u32, at: u32, w: u32)
+    requires { ⌜ (Firsts (now s) (now firsts)) × (signalBits (now s) ≤ length (now taken)) × (p < countAt (now s) 0) × (at + w ≤ signalWidth (now s) p) ⌝ }
+    ensures { λ _. ⌜ Marked (sumTo (signalWidth (now (s .entry))) p + at) w (now (taken .entry)) (now (taken .exit)) ⌝ }
+{
+    mark(taken, place(s, firsts, p, at), w);
+}
+
+// Marks all bits of signal p.
+pub fn mark_signal(s: &[u8], firsts: &[u32], taken: &mut [u8], p: u32)
+    requires { ⌜ (Firsts (now s) (now firsts)) × (signalBits (now s) ≤ length (now taken)) × (p < countAt (now s) 0) ⌝ }
+    ensures { λ _. ⌜ Marked (sumTo (signalWidth (now (s .entry))) p + 0) (signalWidth (now (s .entry)) p) (now (taken .entry)) (now (taken .exit)) ⌝ }
+{
+    mark_bits(s, firsts, taken, p, 0, fields::signal_width(s, p));
 }

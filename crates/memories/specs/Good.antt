@@ -97,7 +97,7 @@ pub record GoodRest (s : List ℕ) (r w : ℕ) : Type 0 where
   pub first-port : GoodPort s r firstPort w
   pub second-port : GoodSecond s r (field s 5 r hasSecond) w
 
-good-rest : (s : List ℕ) (r : ℕ) → badRest s r ≡ false → GoodRest s r (signalWidth s (field s 5 r (firstPort + 1)))
+pub good-rest : (s : List ℕ) (r : ℕ) → badRest s r ≡ false → GoodRest s r (signalWidth s (field s 5 r (firstPort + 1)))
 unfolding badRest
 good-rest s r h =
     let b = or-no (or-no h .1) in

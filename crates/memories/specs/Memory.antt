@@ -1,17 +1,23 @@
 -- The rules of a memory but for its name, a port in two halves: where either is first broken is the earlier of two places.
-use Prim.Native.Nat.{ℕ, _+_}
-use mathlib.Core.Bool.{Bool}
+use Prim.Native.Nat.{ℕ, _+_, _<_}
+use mathlib.Core.Bool.{Bool, false}
 use mathlib.Core.List.{List}
 use mathlib.Core.Path.{_≡_, sym}
 use Rattle.rules.specs.Rules.{_<?_, _≢?_, _or_, outside, first}
+use Rattle.rules.specs.Laws.{or-no}
 use Rattle.meaning.specs.Image.{countAt, field, signalWidth, firstPort, hasSecond}
 use Rattle.meaning.specs.Checks.{noSignal, badBit, badControl, badOptional, badValue, driven, badAddress, badPort, badSecond, badMemory}
 use Rattle.names.specs.Names.{wrongName}
+use Rattle.shared.specs.Good.{is-signal}
 use Rattle.names.specs.Earlier.{earlierOf, first-either, or-assoc}
 
 -- what a port reads, into signal p
 unfoldable pub badRead : List ℕ → ℕ → ℕ → ℕ → ℕ → Bool
 badRead s r f w p = badAddress s (field s 5 r f) or noSignal s p or signalWidth s p ≢? w or badOptional s 5 r (f + 2)
+
+pub read-there : (s : List ℕ) (r f w p : ℕ) → badRead s r f w p ≡ false → p < countAt s 0
+unfolding badRead
+read-there s r f w p h = is-signal s p (or-no (or-no h .1) .0)
 
 -- what it writes, and its clock
 unfoldable pub badWrite : List ℕ → ℕ → ℕ → ℕ → Bool

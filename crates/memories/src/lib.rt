@@ -1,11 +1,12 @@
-// The rules of the memory records, and the first record that breaks one. For all bytes, where the counts are at most 1,024 assignments,
-// 256 registers and 16 memories.
+// The rules of the memory records, and the first record that breaks one. For all bytes whose signals keep their rules, where there are at most
+// 16 memories; the bits that assignments and registers drive are marked.
+ghost use mathlib.Core.Bool.{false};
 ghost use mathlib.Core.Path.{_≡_};
 ghost use Prim.Native.Nat.{_+_, _≤_};
 ghost use Rattle.rules.specs.Rules.{first};
 ghost use Rattle.meaning.specs.Image.{countAt};
 ghost use Rattle.meaning.specs.Checks.{badAddress, badPort, badSecond, badMemory};
-ghost use Rattle.drivers.specs.Columns.{Drivers};
+ghost use Rattle.drivers.specs.Bits.{Firsts, Marks};
 ghost use Rattle.memories.specs.Memory.{badRead, badWrite, badRest};
 
 // Expression e is not there or no address.
@@ -55,20 +56,9 @@ fn bad_write(s: &[u8], r: u32, f: u32, w: u32) -> bool
     1 < fields::record_field(s, 5, r, f + 9)
 }
 
-// The port of memory r whose fields begin at f; m assignments and n registers.
-fn bad_port(
-    s: &[u8],
-    signal: &[u32; 1024],
-    lsb: &[u32; 1024],
-    width: &[u32; 1024],
-    targets: &[u32; 1024],
-    m: u32,
-    n: u32,
-    r: u32,
-    f: u32,
-    w: u32,
-) -> bool
-    requires { ⌜ (Drivers (now s) m n (now signal) (now lsb) (now width) (now targets)) × (n ≡ countAt (now s) 4) × (f ≤ 16) ⌝ }
+// The port of memory r whose fields begin at f; the bits that the assignments, the registers and the memories before it drive are marked.
+fn bad_port(s: &[u8], firsts: &[u32], taken: &[u8], r: u32, f: u32, w: u32) -> bool
+    requires { ⌜ (Firsts (now s) (now firsts)) × (Marks (now s) (countAt (now s) 3) (countAt (now s) 4) r (now taken)) × (f ≤ 16) ⌝ }
     ensures { λ b. ⌜ b ≡ badPort (now (s .entry)) r f w ⌝ }
 {
     let p = fields::record_field(s, 5, r, f + 1);
@@ -78,23 +68,12 @@ fn bad_port(
     if bad_write(s, r, f, w) {
         return true;
     }
-    drivers::is_driven(s, signal, lsb, width, targets, m, n, r, p)
+    drivers::is_driven(s, firsts, taken, p)
 }
 
 // The second port of memory r, where k says whether it is there.
-fn bad_second(
-    s: &[u8],
-    signal: &[u32; 1024],
-    lsb: &[u32; 1024],
-    width: &[u32; 1024],
-    targets: &[u32; 1024],
-    m: u32,
-    n: u32,
-    r: u32,
-    k: u32,
-    w: u32,
-) -> bool
-    requires { ⌜ (Drivers (now s) m n (now signal) (now lsb) (now width) (now targets)) × (n ≡ countAt (now s) 4) ⌝ }
+fn bad_second(s: &[u8], firsts: &[u32], taken: &[u8], r: u32, k: u32, w: u32) -> bool
+    requires { ⌜ (Firsts (now s) (now firsts)) × (Marks (now s) (countAt (now s) 3) (countAt (now s) 4) r (now taken)) ⌝ }
     ensures { λ b. ⌜ b ≡ badSecond (now (s .entry)) r k w ⌝ }
 {
     if k == 0 {
@@ -103,18 +82,7 @@ fn bad_second(
     if k != 1 {
         return true;
     }
-    if bad_port(
-        s,
-        signal,
-        lsb,
-        width,
-        targets,
-        m,
-        n,
-        r,
-        drivers::SECOND_PORT,
-        w,
-    ) {
+    if bad_port(s, firsts, taken, r, drivers::SECOND_PORT, w) {
         return true;
     }
     fields::record_field(s, 5, r, drivers::SECOND_DATA)
@@ -122,17 +90,8 @@ fn bad_second(
 }
 
 // Memory r but for its name.
-fn bad_rest(
-    s: &[u8],
-    signal: &[u32; 1024],
-    lsb: &[u32; 1024],
-    width: &[u32; 1024],
-    targets: &[u32; 1024],
-    m: u32,
-    n: u32,
-    r: u32,
-) -> bool
-    requires { ⌜ (Drivers (now s) m n (now signal) (now lsb) (now width) (now targets)) × (n ≡ countAt (now s) 4) ⌝ }
+fn bad_rest(s: &[u8], firsts: &[u32], taken: &[u8], r: u32) -> bool
+    requires { ⌜ (Firsts (now s) (now firsts)) × (Marks (now s) (countAt (now s) 3) (countAt (now s) 4) r (now taken)) ⌝ }
     ensures { λ b. ⌜ b ≡ badRest (now (s .entry)) r ⌝ }
 {
     if fields::is_outside(fields::record_field(s, 5, r, 2), 1, 65536) {
@@ -145,85 +104,59 @@ fn bad_rest(
         return true;
     }
     let w = fields::signal_width(s, fields::record_field(s, 5, r, drivers::FIRST_DATA));
-    if bad_port(
-        s,
-        signal,
-        lsb,
-        width,
-        targets,
-        m,
-        n,
-        r,
-        drivers::FIRST_PORT,
-        w,
-    ) {
+    if bad_port(s, firsts, taken, r, drivers::FIRST_PORT, w) {
         return true;
     }
-    bad_second(
-        s,
-        signal,
-        lsb,
-        width,
-        targets,
-        m,
-        n,
-        r,
-        fields::record_field(s, 5, r, drivers::HAS_SECOND),
-        w,
-    )
+    let k = fields::record_field(s, 5, r, drivers::HAS_SECOND);
+    bad_second(s, firsts, taken, r, k, w)
 }
 
-// The first of k memories that breaks another rule than that of names, and k where none does.
-fn first_among(
-    s: &[u8],
-    signal: &[u32; 1024],
-    lsb: &[u32; 1024],
-    width: &[u32; 1024],
-    targets: &[u32; 1024],
-    m: u32,
-    n: u32,
-    k: u32,
-) -> u32
-    requires { ⌜ (Drivers (now s) m n (now signal) (now lsb) (now width) (now targets)) × (n ≡ countAt (now s) 4) ⌝ }
-    ensures { λ r. ⌜ r ≡ first (badRest (now (s .entry))) k ⌝ }
+// Marks the read data of memory r, which breaks no rule.
+fn mark_memory(s: &[u8], firsts: &[u32], taken: &mut [u8], r: u32)
+    requires { ⌜ (Firsts (now s) (now firsts)) × (Marks (now s) (countAt (now s) 3) (countAt (now s) 4) r (now taken)) × (badRest (now s) r ≡ false) ⌝ }
+    ensures { λ _. ⌜ Marks (now (s .entry)) (countAt (now (s .entry)) 3) (countAt (now (s .entry)) 4) (r + 1) (now (taken .exit)) ⌝ }
 {
+    let p = fields::record_field(s, 5, r, drivers::FIRST_DATA);
+    drivers::mark_signal(s, firsts, taken, p);
+    if fields::record_field(s, 5, r, drivers::HAS_SECOND) != 1 {
+        return;
+    }
+    let q = fields::record_field(s, 5, r, drivers::SECOND_DATA);
+    drivers::mark_signal(s, firsts, taken, q);
+}
+
+// Memory r breaks another rule than that of names; the read data of one that breaks none are marked.
+fn check_rest(s: &[u8], firsts: &[u32], taken: &mut [u8], r: u32) -> bool
+    requires { ⌜ (Firsts (now s) (now firsts)) × (Marks (now s) (countAt (now s) 3) (countAt (now s) 4) r (now taken)) ⌝ }
+    ensures { λ b. ⌜ (b ≡ badRest (now (s .entry)) r) × (b ≡ false → Marks (now (s .entry)) (countAt (now (s .entry)) 3) (countAt (now (s .entry)) 4) (r + 1) (now (taken .exit))) ⌝ }
+{
+    if bad_rest(s, firsts, taken, r) {
+        return true;
+    }
+    mark_memory(s, firsts, taken, r);
+    false
+}
+
+// The first memory that breaks another rule than that of names, and the number of memories where none does.
+fn first_rest(s: &[u8], firsts: &[u32], taken: &mut [u8]) -> u32
+    requires { ⌜ (Firsts (now s) (now firsts)) × (Marks (now s) (countAt (now s) 3) (countAt (now s) 4) 0 (now taken)) ⌝ }
+    ensures { λ r. ⌜ r ≡ first (badRest (now (s .entry))) (countAt (now (s .entry)) 5) ⌝ }
+{
+    let n = fields::count(s, 5);
     let mut r: u32 = 0;
-    while r < k {
-        if bad_rest(s, signal, lsb, width, targets, m, n, r) {
+    while r < n {
+        if check_rest(s, firsts, taken, r) {
             return r;
         }
         r += 1;
     }
-    k
-}
-
-// The same over the whole section.
-fn first_rest(s: &[u8]) -> u32
-    requires { ⌜ (countAt (now s) 3 ≤ 1024) × (countAt (now s) 4 ≤ 256) ⌝ }
-    ensures { λ r. ⌜ r ≡ first (badRest (now (s .entry))) (countAt (now (s .entry)) 5) ⌝ }
-{
-    let m = fields::count(s, 3);
-    let n = fields::count(s, 4);
-    let signal = drivers::column(s, 3, 0, m);
-    let lsb = drivers::column(s, 3, 1, m);
-    let width = drivers::column(s, 3, 2, m);
-    let targets = drivers::column(s, 4, 2, n);
-    first_among(
-        s,
-        &signal,
-        &lsb,
-        &width,
-        &targets,
-        m,
-        n,
-        fields::count(s, 5),
-    )
+    n
 }
 
 // The first memory record that breaks a rule, and the number of records where none does.
-pub fn first_memory(s: &[u8]) -> u32
-    requires { ⌜ (countAt (now s) 3 ≤ 1024) × (countAt (now s) 4 ≤ 256) × (countAt (now s) 5 ≤ 16) ⌝ }
+pub fn first_memory(s: &[u8], firsts: &[u32], taken: &mut [u8]) -> u32
+    requires { ⌜ (countAt (now s) 5 ≤ 16) × (Firsts (now s) (now firsts)) × (Marks (now s) (countAt (now s) 3) (countAt (now s) 4) 0 (now taken)) ⌝ }
     ensures { λ r. ⌜ r ≡ first (badMemory (now (s .entry))) (countAt (now (s .entry)) 5) ⌝ }
 {
-    names::earlier(names::first_name(s, 5), first_rest(s))
+    names::earlier(names::first_name(s, 5), first_rest(s, firsts, taken))
 }

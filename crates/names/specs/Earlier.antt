@@ -25,6 +25,15 @@ earlier-right i x h = go (x <? i) refl
     go true e = omega (arith, yes-lt x i e)
     go false e = refl
 
+-- what the earlier place has reached, the second has
+pub earlier-second : (a b n : ℕ) → n ≤ earlierOf a b → n ≤ b
+unfolding earlierOf pick
+earlier-second a b n h = go (a <? b) refl h
+  where
+    go : (t : Bool) → (a <? b) ≡ t → n ≤ pick t a b → n ≤ b
+    go true e l = omega (arith, yes-lt a b e)
+    go false e l = l
+
 upTo-least : (p : ℕ → Bool) (i k : ℕ) → i ≤ upTo p i k
 unfolding upTo pick
 upTo-least p i zero = omega arith

@@ -1,16 +1,16 @@
 -- Names: the rule of their bytes, the hash that tells unequal names apart, and what the search for a bad or equal name answers.
-use Prim.Native.Nat.{ℕ, _+_, _*_, _%_, _≤_, _<_}
+use Prim.Native.Nat.{ℕ, zero, suc, _+_, _*_, _%_, _≤_, _<_}
 use mathlib.Core.Bool.{Bool, true, false, true≢false}
 use mathlib.Core.List.{List, [], _∷_}
 use mathlib.Core.Path.{_≡_, refl, sym, ap, _∙_}
 use native.Mathlib.Omega.{arith}
 use native.Mathlib.Numerals.{add-one}
-use lib.ListN.{length, take, drop, getD, set, drop-of-length-le}
+use lib.ListN.{length, take, drop, getD, set, drop-of-length-le, length-set}
 use lib.Seq.{drop-cons, getD-set-same, getD-set-other}
 use mathlib.Core.Logic.{⊎-elim}
 use native.Mathlib.Nat.{eq-or-lt-of-le}
-use Rattle.rules.specs.Rules.{_≡?_, _or_, outside, any, sameText}
-use Rattle.rules.specs.Laws.{and-yes, and-miss, and-skip, eq-yes, eq-no, yes-eq}
+use Rattle.rules.specs.Rules.{_≡?_, _or_, outside, pick, upTo, first, any, sameText}
+use Rattle.rules.specs.Laws.{and-yes, and-miss, and-skip, lt-no, eq-yes, eq-no, yes-eq, no-eq}
 use Rattle.meaning.specs.Image.{nameOf}
 use Rattle.meaning.specs.Checks.{badName, nameTaken}
 
@@ -91,15 +91,79 @@ other-hash s k r j h = go (sameText (nameOf s k j) (nameOf s k r)) refl
     go true e = absurd (h (ap (λ (t : List ℕ). hashFrom 0 (take 64 t)) (same-equal _ _ e)))
     go false e = refl
 
--- one more hash is stored
-pub stored : (hs : List ℕ) (g : ℕ → ℕ) (i v : ℕ) → i < length hs → v ≡ g i → ((j : ℕ) → j < i → getD hs j 0 ≡ g j) → (j : ℕ) → j < i + 1 → getD (set hs i v) j 0 ≡ g j
-stored hs g i v l e p j h = ⊎-elim (λ (q : j ≡ i). at q) (λ (q : j < i). before q) (eq-or-lt-of-le (omega arith))
+-- word j is the hash of name j, for the first n records of section k
+unfoldable pub Hashed : List ℕ → ℕ → ℕ → List ℕ → Type 0
+Hashed s k n hs = (j : ℕ) → j < n → getD hs j 0 ≡ hashAt s k j
+
+pub hashed-none : (s : List ℕ) (k : ℕ) (hs : List ℕ) → Hashed s k 0 hs
+unfolding Hashed
+hashed-none s k hs j h = absurd (omega arith)
+
+pub hashed-more : (s : List ℕ) (k i : ℕ) (hs : List ℕ) (v : ℕ) → i < length hs → v ≡ hashAt s k i → Hashed s k i hs → Hashed s k (i + 1) (set hs i v)
+unfolding Hashed
+hashed-more s k i hs v l e p j h = ⊎-elim (λ (q : j ≡ i). at q) (λ (q : j < i). before q) (eq-or-lt-of-le (omega arith))
   where
-    at : j ≡ i → getD (set hs i v) j 0 ≡ g j
+    at : j ≡ i → getD (set hs i v) j 0 ≡ hashAt s k j
     at q = rw q (getD-set-same hs i v 0 l ∙ e)
 
-    before : j < i → getD (set hs i v) j 0 ≡ g j
+    before : j < i → getD (set hs i v) j 0 ≡ hashAt s k j
     before q = getD-set-other hs i j v 0 (λ (z : j ≡ i). omega arith) ∙ p j q
+
+pub hashed-less : (s : List ℕ) (k i n : ℕ) (hs : List ℕ) → i ≤ n → Hashed s k n hs → Hashed s k i hs
+unfolding Hashed
+hashed-less s k i n hs l p j h = p j (omega arith)
+
+pub hash-of : (s : List ℕ) (k n : ℕ) (hs : List ℕ) → Hashed s k n hs → (j : ℕ) → j < n → getD hs j 0 ≡ hashAt s k j
+unfolding Hashed
+hash-of s k n hs p = p
+
+-- a byte that is not 0 stands at the remainder of each of the first n hashes
+unfoldable pub Seen : List ℕ → ℕ → ℕ → List ℕ → Type 0
+Seen s k n seen = (j : ℕ) → j < n → getD seen (hashAt s k j % length seen) 0 ≡ 0 → ⊥
+
+pub seen-none : (s : List ℕ) (k : ℕ) (seen : List ℕ) → Seen s k 0 seen
+unfolding Seen
+seen-none s k seen j h = absurd (omega arith)
+
+all-no : (p : ℕ → Bool) (i k : ℕ) → ((j : ℕ) → i ≤ j → j < i + k → p j ≡ false) → upTo p i k ≡ i + k
+unfolding upTo pick
+all-no p i zero h = omega arith
+all-no p i (suc k) h = rw (h i (omega arith) (omega arith)) (omega (arith, all-no p (suc i) k (λ j l u. h j (omega arith) (omega arith))))
+
+any-false : (p : ℕ → Bool) (n : ℕ) → ((j : ℕ) → j < n → p j ≡ false) → any p n ≡ false
+unfolding any first
+any-false p n h = lt-no _ _ (omega (arith, all-no p 0 n (λ j l u. h j (omega arith))))
+
+-- record r, whose hash is v: a remainder that was not seen, so no earlier record has the name
+pub unseen : (s : List ℕ) (k r : ℕ) (seen : List ℕ) (v : ℕ) → v ≡ hashAt s k r → Seen s k r seen → getD seen (v % length seen) 0 ≡ 0 → nameTaken s k r ≡ false
+unfolding Seen nameTaken sameName
+unseen s k r seen v f p e = any-false _ r (λ j h. other-hash s k r j (λ q. p j h (ap (λ (x : ℕ). getD seen (x % length seen) 0) (q ∙ sym f) ∙ e)))
+
+one-more : (seen : List ℕ) (at x : ℕ) → at < length seen → (getD seen x 0 ≡ 0 → ⊥) → getD (set seen at 1) x 0 ≡ 0 → ⊥
+one-more seen at x l o = go (x ≡? at) refl
+  where
+    go : (t : Bool) → (x ≡? at) ≡ t → getD (set seen at 1) x 0 ≡ 0 → ⊥
+    go true q z =
+        let e : getD (set seen at 1) x 0 ≡ 1 = ap (λ (i : ℕ). getD (set seen at 1) i 0) (yes-eq x at q) ∙ getD-set-same seen at 1 0 l in
+        omega arith
+    go false q z = o (sym (getD-set-other seen at x 1 0 (no-eq x at q)) ∙ z)
+
+-- it is seen now
+pub seen-set : (s : List ℕ) (k r : ℕ) (seen : List ℕ) (v : ℕ) → v ≡ hashAt s k r → v % length seen < length seen → Seen s k r seen → Seen s k (r + 1) (set seen (v % length seen) 1)
+unfolding Seen
+seen-set s k r seen v e l p j h = rw (length-set seen (v % length seen) 1) (⊎-elim (λ (q : j ≡ r). now-seen q) (λ (q : j < r). one-more seen (v % length seen) _ l (p j q)) (eq-or-lt-of-le (omega arith)))
+  where
+    now-seen : j ≡ r → getD (set seen (v % length seen) 1) (hashAt s k j % length seen) 0 ≡ 0 → ⊥
+    now-seen q z =
+        let same : hashAt s k j % length seen ≡ v % length seen = ap (λ (x : ℕ). x % length seen) (ap (hashAt s k) q ∙ sym e) in
+        let one : getD (set seen (v % length seen) 1) (hashAt s k j % length seen) 0 ≡ 1 = ap (λ (i : ℕ). getD (set seen (v % length seen) 1) i 0) same ∙ getD-set-same seen (v % length seen) 1 0 l in
+        omega arith
+
+-- or was before
+pub seen-still : (s : List ℕ) (k r : ℕ) (seen : List ℕ) (v : ℕ) → v ≡ hashAt s k r → (getD seen (v % length seen) 0 ≡ 0 → ⊥) → Seen s k r seen → Seen s k (r + 1) seen
+unfolding Seen
+seen-still s k r seen v e o p j h =
+    ⊎-elim (λ (q : j ≡ r). λ z. o (ap (λ (x : ℕ). getD seen (x % length seen) 0) (e ∙ ap (hashAt s k) (sym q)) ∙ z)) (λ (q : j < r). p j q) (eq-or-lt-of-le (omega arith))
 
 -- ---- the search ----
 

@@ -1,12 +1,13 @@
-// The rule of names: their bytes, and none equal within a section. Hashes tell unequal names apart.
+// The rule of names: their bytes, and none equal within a section. Hashes tell unequal names apart, and a table of remainders of hashes
+// tells names that no earlier record can have.
 ghost use mathlib.Core.Path.{_≡_};
-ghost use Prim.Native.Nat.{ℕ, _≤_, _<_};
-ghost use lib.ListN.{getD};
+ghost use Prim.Native.Nat.{_+_, _≤_, _<_};
+ghost use lib.ListN.{length};
 ghost use Rattle.rules.specs.Rules.{first, any, sameText};
 ghost use Rattle.meaning.specs.Image.{countAt};
 ghost use Rattle.meaning.specs.Checks.{badName, nameTaken};
 ghost use Rattle.names.specs.Earlier.{earlierOf};
-ghost use Rattle.names.specs.Names.{badByte, sameName, wrongName, mixed, hashFrom, hashAt};
+ghost use Rattle.names.specs.Names.{badByte, sameName, wrongName, mixed, hashFrom, hashAt, Hashed, Seen};
 
 // One of the first n bytes of a name is no printing character.
 fn bad_bytes(t: &[u8], n: u32) -> bool
@@ -81,23 +82,21 @@ fn name_hash(s: &[u8], k: u32, r: u32) -> u32
     hash(fields::stretch(fields::name(s, k, r), 0, 64))
 }
 
-// The hashes of the names of the first n records of section k.
-pub fn hashes(s: &[u8], k: u32, n: u32) -> [u32; 512]
-    requires { ⌜ n ≤ 512 ⌝ }
-    ensures { λ hs. ⌜ ((j : ℕ) → j < n → getD hs j 0 ≡ hashAt (now (s .entry)) k j) ⌝ }
+// The hashes of the names of the first n records of section k, into a table.
+fn lay_hashes(s: &[u8], k: u32, n: u32, hs: &mut [u32])
+    requires { ⌜ n ≤ length (now hs) ⌝ }
+    ensures { λ _. ⌜ Hashed (now (s .entry)) k n (now (hs .exit)) ⌝ }
 {
-    let mut hs: [u32; 512] = [0; 512];
     let mut i: u32 = 0;
     while i < n {
         hs[i as usize] = name_hash(s, k, i);
         i += 1;
     }
-    hs
 }
 
 // The names of records j and r of section k are equal; hs are the names' hashes.
-fn same_name(s: &[u8], k: u32, r: u32, j: u32, hs: &[u32; 512]) -> bool
-    requires { ⌜ (r < 512) × (j ≤ r) × ((i : ℕ) → i ≤ r → getD (now hs) i 0 ≡ hashAt (now s) k i) ⌝ }
+fn same_name(s: &[u8], k: u32, r: u32, j: u32, hs: &[u32]) -> bool
+    requires { ⌜ (j < r) × (r < length (now hs)) × (Hashed (now s) k (r + 1) (now hs)) ⌝ }
     ensures { λ b. ⌜ b ≡ sameName (now (s .entry)) k r j ⌝ }
 {
     if hs[j as usize] != hs[r as usize] {
@@ -107,8 +106,8 @@ fn same_name(s: &[u8], k: u32, r: u32, j: u32, hs: &[u32; 512]) -> bool
 }
 
 // An earlier record of section k has the name of record r; hs are the names' hashes.
-pub fn name_taken(s: &[u8], k: u32, r: u32, hs: &[u32; 512]) -> bool
-    requires { ⌜ (r < 512) × ((i : ℕ) → i ≤ r → getD (now hs) i 0 ≡ hashAt (now s) k i) ⌝ }
+fn name_taken(s: &[u8], k: u32, r: u32, hs: &[u32]) -> bool
+    requires { ⌜ (r < length (now hs)) × (Hashed (now s) k (r + 1) (now hs)) ⌝ }
     ensures { λ b. ⌜ b ≡ nameTaken (now (s .entry)) k r ⌝ }
 {
     let mut j: u32 = 0;
@@ -121,24 +120,71 @@ pub fn name_taken(s: &[u8], k: u32, r: u32, hs: &[u32; 512]) -> bool
     false
 }
 
+// The same; seen has a byte for each remainder of a hash, not 0 where an earlier name has it. Then that of record r too.
+fn name_seen(s: &[u8], k: u32, r: u32, hs: &[u32], seen: &mut [u8]) -> bool
+    requires { ⌜ (r < length (now hs)) × (Hashed (now s) k (r + 1) (now hs)) × (0 < length (now seen)) × (Seen (now s) k r (now seen)) ⌝ }
+    ensures { λ b. ⌜ (b ≡ nameTaken (now (s .entry)) k r) × (Seen (now (s .entry)) k (r + 1) (now (seen .exit))) ⌝ }
+{
+    let at = hs[r as usize] as usize % seen.len();
+    if seen[at] == 0 {
+        seen[at] = 1;
+        return false;
+    }
+    name_taken(s, k, r, hs)
+}
+
+// The first of the n records of section k whose name breaks a rule, and n where there is none; the tables hold hashes and remainders.
+fn first_among(s: &[u8], k: u32, n: u32, hs: &mut [u32], seen: &mut [u8]) -> u32
+    requires { ⌜ (n ≤ length (now hs)) × (0 < length (now seen)) ⌝ }
+    ensures { λ r. ⌜ r ≡ first (wrongName (now (s .entry)) k) n ⌝ }
+{
+    lay_hashes(s, k, n, hs);
+    let mut r: u32 = 0;
+    while r < n {
+        if bad_name(s, k, r) {
+            return r;
+        }
+        if name_seen(s, k, r, hs, seen) {
+            return r;
+        }
+        r += 1;
+    }
+    n
+}
+
+// The same for at most 32 records.
+fn first_of_few(s: &[u8], k: u32, n: u32) -> u32
+    requires { ⌜ n ≤ 32 ⌝ }
+    ensures { λ r. ⌜ r ≡ first (wrongName (now (s .entry)) k) n ⌝ }
+{
+    let mut hs: [u32; 32] = [0; 32];
+    let mut seen: [u8; 64] = [0; 64];
+    first_among(s, k, n, &mut hs, &mut seen)
+}
+
+// The same for at most 512 records.
+fn first_of_many(s: &[u8], k: u32, n: u32) -> u32
+    requires { ⌜ n ≤ 512 ⌝ }
+    ensures { λ r. ⌜ r ≡ first (wrongName (now (s .entry)) k) n ⌝ }
+{
+    let mut hs: [u32; 512] = [0; 512];
+    let mut seen: [u8; 4096] = [0; 4096];
+    first_among(s, k, n, &mut hs, &mut seen)
+}
+
 // The first of the records of section k whose name breaks a rule; their count where there is none.
 pub fn first_name(s: &[u8], k: u32) -> u32
     requires { ⌜ countAt (now s) k ≤ 512 ⌝ }
     ensures { λ r. ⌜ r ≡ first (wrongName (now (s .entry)) k) (countAt (now (s .entry)) k) ⌝ }
 {
     let n = fields::count(s, k);
-    let hs = hashes(s, k, n);
-    let mut r: u32 = 0;
-    while r < n {
-        if bad_name(s, k, r) {
-            return r;
-        }
-        if name_taken(s, k, r, &hs) {
-            return r;
-        }
-        r += 1;
+    if n == 0 {
+        return 0;
     }
-    n
+    if n <= 32 {
+        return first_of_few(s, k, n);
+    }
+    first_of_many(s, k, n)
 }
 
 // The earlier of two places.

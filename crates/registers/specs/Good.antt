@@ -41,7 +41,7 @@ pub record GoodRegisterOf (s : List ℕ) (r p : ℕ) : Type 0 where
   pub reset : GoodReset s r (signalWidth s p)
   pub alone : Undriven s r 0 p
 
-good-of : (s : List ℕ) (r p : ℕ) → badRestOf s r p ≡ false → GoodRegisterOf s r p
+pub good-of : (s : List ℕ) (r p : ℕ) → badRestOf s r p ≡ false → GoodRegisterOf s r p
 unfolding badRestOf
 good-of s r p h =
     let a = or-no h in

@@ -22,6 +22,10 @@ badRestOf s r p =
 unfoldable pub badRest : List ℕ → ℕ → Bool
 badRest s r = badRestOf s r (field s 4 r 2)
 
+pub rest-of : (s : List ℕ) (r p : ℕ) (b : Bool) → p ≡ field s 4 r 2 → b ≡ badRestOf s r p → b ≡ badRest s r
+unfolding badRest
+rest-of s r p b e h = rw e at h
+
 pub name-or-rest : (s : List ℕ) (r : ℕ) → badRegister s r ≡ (wrongName s 4 r or badRest s r)
 unfolding badRegister wrongName badRest badRestOf
 name-or-rest s r = sym (or-assoc _ _ _)

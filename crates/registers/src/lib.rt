@@ -1,11 +1,12 @@
-// The rules of the register records, and the first record that breaks one. For all bytes, where the counts are at most 1,024 assignments
-// and 256 registers.
+// The rules of the register records, and the first record that breaks one. For all bytes whose signals keep their rules, where there are at
+// most 256 registers; the bits that the assignments drive are marked, and then those of the targets.
+ghost use mathlib.Core.Bool.{false};
 ghost use mathlib.Core.Path.{_≡_};
-ghost use Prim.Native.Nat.{_≤_};
+ghost use Prim.Native.Nat.{_+_, _≤_};
 ghost use Rattle.rules.specs.Rules.{first};
 ghost use Rattle.meaning.specs.Image.{countAt};
 ghost use Rattle.meaning.specs.Checks.{badReset, badRegister};
-ghost use Rattle.drivers.specs.Columns.{Drivers};
+ghost use Rattle.drivers.specs.Bits.{Firsts, Marks};
 ghost use Rattle.registers.specs.Register.{badRest, badRestOf};
 
 // The reset of register r, whose target is w wide.
@@ -24,18 +25,9 @@ fn bad_reset(s: &[u8], r: u32, w: u32) -> bool
     shared::bad_value(s, fields::record_field(s, 4, r, 11), w)
 }
 
-// Register r, whose target is signal p, but for its name; n assignments.
-fn bad_rest_of(
-    s: &[u8],
-    signal: &[u32; 1024],
-    lsb: &[u32; 1024],
-    width: &[u32; 1024],
-    targets: &[u32; 1024],
-    n: u32,
-    r: u32,
-    p: u32,
-) -> bool
-    requires { ⌜ Drivers (now s) n r (now signal) (now lsb) (now width) (now targets) ⌝ }
+// Register r, whose target is signal p, but for its name; the bits that the assignments and the registers before it drive are marked.
+fn bad_rest_of(s: &[u8], firsts: &[u32], taken: &[u8], r: u32, p: u32) -> bool
+    requires { ⌜ (Firsts (now s) (now firsts)) × (Marks (now s) (countAt (now s) 3) r 0 (now taken)) ⌝ }
     ensures { λ b. ⌜ b ≡ badRestOf (now (s .entry)) r p ⌝ }
 {
     if shared::no_signal(s, p) {
@@ -57,34 +49,32 @@ fn bad_rest_of(
     if bad_reset(s, r, w) {
         return true;
     }
-    drivers::is_driven(s, signal, lsb, width, targets, n, r, 0, p)
+    drivers::is_driven(s, firsts, taken, p)
 }
 
-// The first of n registers that breaks another rule than that of names, and n where none does; m assignments.
-fn first_among(
-    s: &[u8],
-    signal: &[u32; 1024],
-    lsb: &[u32; 1024],
-    width: &[u32; 1024],
-    targets: &[u32; 1024],
-    m: u32,
-    n: u32,
-) -> u32
-    requires { ⌜ Drivers (now s) m n (now signal) (now lsb) (now width) (now targets) ⌝ }
-    ensures { λ r. ⌜ r ≡ first (badRest (now (s .entry))) n ⌝ }
+// Register r breaks another rule than that of names; the bits of the target of one that breaks none are marked.
+fn check_rest(s: &[u8], firsts: &[u32], taken: &mut [u8], r: u32) -> bool
+    requires { ⌜ (Firsts (now s) (now firsts)) × (Marks (now s) (countAt (now s) 3) r 0 (now taken)) ⌝ }
+    ensures { λ b. ⌜ (b ≡ badRest (now (s .entry)) r) × (b ≡ false → Marks (now (s .entry)) (countAt (now (s .entry)) 3) (r + 1) 0 (now (taken .exit))) ⌝ }
 {
+    let p = fields::record_field(s, 4, r, 2);
+    if bad_rest_of(s, firsts, taken, r, p) {
+        return true;
+    }
+    drivers::mark_signal(s, firsts, taken, p);
+    false
+}
+
+// The first register that breaks another rule than that of names, and the number of registers where none does: then the bits of all
+// targets are marked.
+fn first_rest(s: &[u8], firsts: &[u32], taken: &mut [u8]) -> u32
+    requires { ⌜ (Firsts (now s) (now firsts)) × (Marks (now s) (countAt (now s) 3) 0 0 (now taken)) ⌝ }
+    ensures { λ r. ⌜ (r ≡ first (badRest (now (s .entry))) (countAt (now (s .entry)) 4)) × (countAt (now (s .entry)) 4 ≤ r → Marks (now (s .entry)) (countAt (now (s .entry)) 3) (countAt (now (s .entry)) 4) 0 (now (taken .exit))) ⌝ }
+{
+    let n = fields::count(s, 4);
     let mut r: u32 = 0;
     while r < n {
-        if bad_rest_of(
-            s,
-            signal,
-            lsb,
-            width,
-            targets,
-            m,
-            r,
-            fields::record_field(s, 4, r, 2),
-        ) {
+        if check_rest(s, firsts, taken, r) {
             return r;
         }
         r += 1;
@@ -92,24 +82,10 @@ fn first_among(
     n
 }
 
-// The same over the whole section.
-fn first_rest(s: &[u8]) -> u32
-    requires { ⌜ (countAt (now s) 3 ≤ 1024) × (countAt (now s) 4 ≤ 256) ⌝ }
-    ensures { λ r. ⌜ r ≡ first (badRest (now (s .entry))) (countAt (now (s .entry)) 4) ⌝ }
+// The first register record that breaks a rule, and the number of records where none does: then the bits of all targets are marked.
+pub fn first_register(s: &[u8], firsts: &[u32], taken: &mut [u8]) -> u32
+    requires { ⌜ (countAt (now s) 4 ≤ 256) × (Firsts (now s) (now firsts)) × (Marks (now s) (countAt (now s) 3) 0 0 (now taken)) ⌝ }
+    ensures { λ r. ⌜ (r ≡ first (badRegister (now (s .entry))) (countAt (now (s .entry)) 4)) × (countAt (now (s .entry)) 4 ≤ r → Marks (now (s .entry)) (countAt (now (s .entry)) 3) (countAt (now (s .entry)) 4) 0 (now (taken .exit))) ⌝ }
 {
-    let m = fields::count(s, 3);
-    let n = fields::count(s, 4);
-    let signal = drivers::column(s, 3, 0, m);
-    let lsb = drivers::column(s, 3, 1, m);
-    let width = drivers::column(s, 3, 2, m);
-    let targets = drivers::column(s, 4, 2, n);
-    first_among(s, &signal, &lsb, &width, &targets, m, n)
-}
-
-// The first register record that breaks a rule, and the number of records where none does.
-pub fn first_register(s: &[u8]) -> u32
-    requires { ⌜ (countAt (now s) 3 ≤ 1024) × (countAt (now s) 4 ≤ 256) ⌝ }
-    ensures { λ r. ⌜ r ≡ first (badRegister (now (s .entry))) (countAt (now (s .entry)) 4) ⌝ }
-{
-    names::earlier(names::first_name(s, 4), first_rest(s))
+    names::earlier(names::first_name(s, 4), first_rest(s, firsts, taken))
 }

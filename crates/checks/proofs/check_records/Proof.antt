@@ -3,7 +3,7 @@ use borrow.Author.Needs.{needs}
 use Rattle.checks.proofs.check_records.Statement.{statement}
 use Rattle.checks.proofs.check_records.Tie as tie
 use Rattle.checks.specs.Checked.{answerOf, recordsThen, then-fine, then-refused, section-bad, section-fine, all-good}
-use Rattle.checks.specs.Accepted.{signal-bits, expr-bits}
+use Rattle.checks.specs.Accepted.{signals-fit, expr-bits}
 
 first-signal-requires : tie.Need-first-signal-requires
 first-signal-requires c κs = search needs
@@ -30,7 +30,7 @@ returns-2 c =
 check-drivers-requires : tie.Need-check-drivers-requires
 check-drivers-requires c κs = (
   c .before .before .before .before .before .before .before .pre,
-  signal-bits _ (all-good _ 0 _ _ _ (c .before .before .before .before .before .first-signal .ensures) (c .before .before .before .before .count .ensures) (c .before .before .before .if1 .left)),
+  signals-fit _ (all-good _ 0 _ _ _ (c .before .before .before .before .before .first-signal .ensures) (c .before .before .before .before .count .ensures) (c .before .before .before .if1 .left)),
   expr-bits _ (all-good _ 1 _ _ _ (c .before .before .first-expr .ensures) (c .before .count2 .ensures) (c .if2 .left)),
 )
 

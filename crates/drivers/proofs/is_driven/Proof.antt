@@ -2,66 +2,32 @@
 use Rattle.drivers.proofs.is_driven.Statement.{statement}
 use Rattle.drivers.proofs.is_driven.Tie as tie
 use mathlib.Core.Path.{sym, _∙_}
-use borrow.Author.Needs.{needs}
+use native.Mathlib.Omega.{arith}
 use Rattle.rules.specs.Laws.{or-hit, or-skip}
 use Rattle.meaning.specs.Checks.{driven}
-use Rattle.drivers.specs.Columns.{same-assigned, same-targeted}
+use borrow.Author.Needs.{needs}
 
 is-input-requires : tie.Need-is-input-requires
 is-input-requires c κs = search needs
 
 returns : tie.Need-returns
 unfolding driven
-returns c = or-hit _ (sym (c .before .is-input .ensures) ∙ c .if1 .taken)
+returns c = λ i j m. or-hit _ (sym (c .before .is-input .ensures) ∙ c .if1 .taken)
 
 signal-width-requires : tie.Need-signal-width-requires
 signal-width-requires c κs = search needs
 
-is-assigned-requires : tie.Need-is-assigned-requires
-is-assigned-requires c κs = search needs
+is-marked-requires : tie.Need-is-marked-requires
+is-marked-requires c κs =
+    let start = c .before .before .before .before .before .before in
+    let one = start .pre .0 .fit .wide _ (start .pre .2) in
+    (start .pre .0, start .pre .1, start .pre .2, omega arith, omega arith)
 
 returns-2 : tie.Need-returns-2
 unfolding driven
-returns-2 c =
-    let c4 = c .before .before .before .before in
-    or-skip (sym (c4 .is-input .ensures) ∙ c .before .before .before .if1 .left)
-    (or-hit _ (sym (rw (c4 .before .before .pre .assigns, c .before .before .signal-width .ensures) at (c .before .is-assigned .ensures ∙ same-assigned _ _ _ _ _ _ _ _ (c4 .before .before .pre .columns))) ∙ c .if2 .taken))
-
-is-listed-requires : tie.Need-is-listed-requires
-is-listed-requires c κs = search needs
-
-returns-3 : tie.Need-returns-3
-unfolding driven
-returns-3 c =
-    let c4 = c .before .before .before .before in
-    let c8 = c4 .before .before .before .before in
-    or-skip (sym (c4 .before .before .is-input .ensures) ∙ c4 .before .if1 .left)
-    (or-skip (sym (rw (c8 .pre .assigns, c4 .signal-width .ensures) at (c .before .before .before .is-assigned .ensures ∙ same-assigned _ _ _ _ _ _ _ _ (c8 .pre .columns))) ∙ c .before .before .if2 .left)
-    (or-hit _ (sym (c .before .is-listed .ensures ∙ same-targeted _ _ _ _ (c8 .pre .targets-of)) ∙ c .if3 .taken)))
-
-is-read-into-requires : tie.Need-is-read-into-requires
-is-read-into-requires c κs = search needs
-
-returns-4 : tie.Need-returns-4
-unfolding driven
-returns-4 c =
-    let c4 = c .before .before .before .before in
-    let c8 = c4 .before .before .before .before in
-    or-skip (sym (c4 .before .before .before .is-input .ensures) ∙ c4 .before .before .if1 .left)
-    (or-skip (sym (rw (c8 .before .pre .assigns, c4 .before .signal-width .ensures) at (c4 .is-assigned .ensures ∙ same-assigned _ _ _ _ _ _ _ _ (c8 .before .pre .columns))) ∙ c .before .before .before .if2 .left)
-    (or-skip (sym (c .before .before .is-listed .ensures ∙ same-targeted _ _ _ _ (c8 .before .pre .targets-of)) ∙ c .before .if3 .left)
-    (c .is-read-into .ensures)))
+returns-2 c = λ i j m. or-skip (sym (c .before .before .before .is-input .ensures) ∙ c .before .before .if1 .left) (rw (c .before .signal-width .ensures) at (c .is-marked .ensures _ i j m))
 
 pub is-driven-spec : {M : Type 1} → statement M
 is-driven-spec =
     tie.close
-    (tie.spec
-    is-input-requires
-    returns
-    signal-width-requires
-    is-assigned-requires
-    returns-2
-    is-listed-requires
-    returns-3
-    is-read-into-requires
-    returns-4)
+    (tie.spec is-input-requires returns signal-width-requires is-marked-requires returns-2)

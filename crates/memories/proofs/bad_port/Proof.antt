@@ -2,9 +2,9 @@
 use Rattle.memories.proofs.bad_port.Statement.{statement}
 use Rattle.memories.proofs.bad_port.Tie as tie
 use mathlib.Core.Path.{sym, _∙_}
-use borrow.Author.Needs.{needs}
 use Rattle.rules.specs.Laws.{or-hit, or-skip}
-use Rattle.memories.specs.Memory.{port-halves}
+use Rattle.memories.specs.Memory.{port-halves, read-there}
+use borrow.Author.Needs.{needs}
 
 add-record-field : tie.Need-add-record-field
 add-record-field c = search needs
@@ -27,13 +27,17 @@ returns-2 c =
     (or-hit _ (sym (c .before .bad-write .ensures) ∙ c .if2 .taken)) ∙ port-halves _ _ _ _
 
 is-driven-requires : tie.Need-is-driven-requires
-is-driven-requires c κs = search needs
+is-driven-requires c κs =
+    let c4 = c .before .before .before .before in
+    let c8 = c4 .before .before .before .before in
+    (c8 .pre .0, c8 .pre .1 .holds .room, read-there _ _ _ _ _ (sym (c .before .before .before .bad-read .ensures) ∙ c .before .before .if1 .left))
 
 returns-3 : tie.Need-returns-3
 returns-3 c =
     let c4 = c .before .before .before .before in
+    let c8 = c4 .before .before .before .before in
     or-skip (sym (rw (c4 .before .record-field .ensures) at (c4 .bad-read .ensures)) ∙ c .before .before .before .if1 .left)
-    (or-skip (sym (c .before .before .bad-write .ensures) ∙ c .before .if2 .left) (rw (c4 .before .before .before .pre .1, c4 .before .record-field .ensures) at (c .is-driven .ensures))) ∙ port-halves _ _ _ _
+    (or-skip (sym (c .before .before .bad-write .ensures) ∙ c .before .if2 .left) (rw (c4 .before .record-field .ensures) at (c .is-driven .ensures _ _ (c8 .before .pre .1)))) ∙ port-halves _ _ _ _
 
 pub bad-port-spec : {M : Type 1} → statement M
 bad-port-spec =

@@ -2,9 +2,9 @@
 use Rattle.memories.proofs.bad_rest.Statement.{statement}
 use Rattle.memories.proofs.bad_rest.Tie as tie
 use mathlib.Core.Path.{sym, _∙_}
-use borrow.Author.Needs.{needs}
 use Rattle.rules.specs.Laws.{or-hit, or-skip, lt-yes, lt-no, ne-yes, ne-no}
 use Rattle.memories.specs.Memory.{badRest}
+use borrow.Author.Needs.{needs}
 
 record-field-requires : tie.Need-record-field-requires
 record-field-requires c κs = search needs

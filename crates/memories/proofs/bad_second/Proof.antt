@@ -2,9 +2,9 @@
 use Rattle.memories.proofs.bad_second.Statement.{statement}
 use Rattle.memories.proofs.bad_second.Tie as tie
 use mathlib.Core.Path.{refl, sym, _∙_}
-use borrow.Author.Needs.{needs}
 use Rattle.rules.specs.Laws.{pick-hit, pick-skip, or-hit, or-skip, eq-yes, eq-no, eq-same}
 use Rattle.meaning.specs.Checks.{badSecond}
+use borrow.Author.Needs.{needs}
 
 not-zero-requires : tie.Need-not-zero-requires
 not-zero-requires c κs = search needs

@@ -1,57 +1,73 @@
--- `memories::first_rest` meets its contract. Assumes nothing.
+-- `memories::first_rest` meets its contract. The loop's invariant: no record below r breaks a rule, and the read data of these are marked. Assumes nothing.
 use Rattle.memories.proofs.first_rest.Statement.{statement}
 use Rattle.memories.proofs.first_rest.Tie as tie
-use mathlib.Core.Path.{ap, _∙_}
+use mathlib.Core.Path.{_≡_, refl, sym, _∙_}
+use Prim.Native.Nat.{_-_, _≤_}
 use native.Mathlib.Omega.{arith}
+use lib.ListN.{length}
 use Rattle.rules.specs.Rules.{first}
+use Rattle.rules.specs.Laws.{from, begins, passed, found, ended}
+use Rattle.meaning.specs.Image.{countAt}
+use Rattle.drivers.specs.Bits.{Marks}
 use Rattle.memories.specs.Memory.{badRest}
+use borrow.Author.Needs.{needs}
 
-count-requires : tie.Need-count-requires
-count-requires c κs = tt
+abbrev Inv-loop : tie.InvT-loop
+Inv-loop s firsts taken₀ n r₀ taken r = (r ≤ countAt s 5) × (first (badRest s) (countAt s 5) ≡ from (badRest s) (countAt s 5) r) × (Marks s (countAt s 3) (countAt s 4) r taken) × (length taken ≡ length taken₀)
 
-count-requires-2 : tie.Need-count-requires-2
-count-requires-2 c κs = tt
+abbrev μ-loop : tie.MeasureT-loop
+μ-loop s firsts taken₀ n r₀ taken r = n - r
 
-column-requires : tie.Need-column-requires
-column-requires c κs = omega arith
+count-requires : tie.Need-count-requires Inv-loop μ-loop
+count-requires c κs = search needs
 
-column-requires-2 : tie.Need-column-requires-2
-column-requires-2 c κs = omega arith
+loop-holds : tie.Need-loop-holds Inv-loop μ-loop
+loop-holds c = (omega arith, begins _ _, c .before .before .before .before .pre .1, refl)
 
-column-requires-3 : tie.Need-column-requires-3
-column-requires-3 c κs = omega arith
+check-rest-requires : tie.Need-check-rest-requires Inv-loop μ-loop
+check-rest-requires c κs =
+    let c4 = c .before .before .before .before in
+    (c4 .before .before .before .pre .0, c .before .before .loop .inv .2)
 
-column-requires-4 : tie.Need-column-requires-4
-column-requires-4 c κs = omega arith
+same-length : tie.Need-same-length Inv-loop μ-loop
+same-length c = search needs
 
-count-requires-3 : tie.Need-count-requires-3
-count-requires-3 c κs = tt
+returns : tie.Need-returns Inv-loop μ-loop
+returns c = sym (found _ _ _ (omega arith) (c .before .before .before .before .before .before .loop .inv .1) (sym (c .before .before .before .check-rest .ensures .0) ∙ c .if1 .taken))
 
-first-among-requires : tie.Need-first-among-requires
-first-among-requires c κs =
-    let b = c .before .before .before .before .before in (
-      record {
-        assigns = b .before .before .before .before .before .count .ensures;
-        columns = record { few = omega arith; signals = b .before .before .before .column .ensures; lsbs = b .before .before .column2 .ensures; widths = b .before .column3 .ensures };
-        few = omega arith;
-        targets-of = b .column4 .ensures;
-      },
-      b .before .before .before .before .count2 .ensures,
-    )
+add-r : tie.Need-add-r Inv-loop μ-loop
+add-r c = search needs
 
-returns : tie.Need-returns
-returns c = c .first-among .ensures ∙ ap (first (badRest _)) (c .before .count3 .ensures)
+loop-less : tie.Need-loop-less Inv-loop μ-loop
+loop-less c = search needs
+
+loop-again : tie.Need-loop-again Inv-loop μ-loop
+loop-again c = (
+  omega arith,
+  c .before .before .before .before .before .before .loop .inv .1 ∙ passed _ _ _ (omega arith) (sym (c .before .before .before .check-rest .ensures .0) ∙ c .if1 .left),
+  c .before .before .before .check-rest .ensures .1 (c .if1 .left),
+  search needs,
+)
+
+same-length-2 : tie.Need-same-length-2 Inv-loop μ-loop
+same-length-2 c = search needs
+
+returns-2 : tie.Need-returns-2 Inv-loop μ-loop
+returns-2 c = c .before .before .count .ensures ∙ sym (ended _ _ _ (omega arith) (omega arith) (c .before .loop .inv .1))
 
 pub first-rest-spec : {M : Type 1} → statement M
 first-rest-spec =
     tie.close
     (tie.spec
+    Inv-loop
+    μ-loop
     count-requires
-    count-requires-2
-    column-requires
-    column-requires-2
-    column-requires-3
-    column-requires-4
-    count-requires-3
-    first-among-requires
-    returns)
+    loop-holds
+    check-rest-requires
+    same-length
+    returns
+    add-r
+    loop-less
+    loop-again
+    same-length-2
+    returns-2)

@@ -1,5 +1,4 @@
 -- `names::name_taken` meets its contract. The loop's invariant: no record below j has the name of r. Assumes nothing.
-use borrow.Author.Needs.{needs}
 use Rattle.names.proofs.name_taken.Statement.{statement}
 use Rattle.names.proofs.name_taken.Tie as tie
 use Prim.Native.Nat.{_≤_, _-_}
@@ -8,6 +7,7 @@ use native.Mathlib.Omega.{arith}
 use Rattle.rules.specs.Rules.{first}
 use Rattle.rules.specs.Laws.{from, begins, passed, any-yes, any-no}
 use Rattle.names.specs.Names.{sameName, taken-from}
+use borrow.Author.Needs.{needs}
 
 abbrev Inv-loop : tie.InvT-loop
 Inv-loop s k r hs j₀ j = (j ≤ r) × (first (sameName s k r) r ≡ from (sameName s k r) r j)
@@ -19,7 +19,7 @@ loop-holds : tie.Need-loop-holds Inv-loop μ-loop
 loop-holds c = (omega arith, begins _ _)
 
 same-name-requires : tie.Need-same-name-requires Inv-loop μ-loop
-same-name-requires c κs = (c .before .before .before .pre .0, omega arith, c .before .before .before .pre .1)
+same-name-requires c κs = (omega arith, c .before .before .before .before .pre .0, c .before .before .before .before .pre .1)
 
 returns : tie.Need-returns Inv-loop μ-loop
 returns c = sym (taken-from _ _ _ ∙ any-yes _ _ _ (omega arith) (c .before .before .before .loop .inv .1) (sym (c .before .same-name .ensures) ∙ c .if1 .taken))

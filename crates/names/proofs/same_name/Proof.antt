@@ -1,25 +1,25 @@
 -- `names::same_name` meets its contract. Names with other hashes are not equal. Assumes nothing.
-use borrow.Author.Needs.{needs}
 use Rattle.names.proofs.same_name.Statement.{statement}
 use Rattle.names.proofs.same_name.Tie as tie
 use mathlib.Core.Path.{sym, _∙_}
-use native.Mathlib.Nat.{le-refl}
-use Rattle.names.specs.Names.{sameName, other-hash}
+use native.Mathlib.Omega.{arith}
+use Rattle.names.specs.Names.{sameName, other-hash, hash-of}
+use borrow.Author.Needs.{needs}
 
 mul-if1 : tie.Need-mul-if1
 mul-if1 c = search needs
 
-element-copy-out-if1 : tie.Need-element-copy-out-if1
-element-copy-out-if1 c = search needs
+shared-slice-read-if1 : tie.Need-shared-slice-read-if1
+shared-slice-read-if1 c = search needs
 
 mul-if1-2 : tie.Need-mul-if1-2
 mul-if1-2 c = search needs
 
-element-copy-out-if1-2 : tie.Need-element-copy-out-if1-2
-element-copy-out-if1-2 c = search needs
+shared-slice-read-if1-2 : tie.Need-shared-slice-read-if1-2
+shared-slice-read-if1-2 c = search needs
 
 returns : tie.Need-returns
-returns c = sym (other-hash _ _ _ _ (λ e. c .if1 .taken (c .before .before .before .before .pre .2 _ (c .before .before .before .before .pre .1) ∙ e ∙ sym (c .before .before .before .before .pre .2 _ (le-refl _)))))
+returns c = sym (other-hash _ _ _ _ (λ e. c .if1 .taken (hash-of _ _ _ _ (c .before .before .before .before .before .pre .2) (c .before .before .before .before .before .args .j) (omega arith) ∙ e ∙ sym (hash-of _ _ _ _ (c .before .before .before .before .before .pre .2) (c .before .before .before .before .before .args .r) (omega arith)))))
 
 name-requires : tie.Need-name-requires
 name-requires c κs = search needs
@@ -39,9 +39,9 @@ same-name-spec =
     tie.close
     (tie.spec
     mul-if1
-    element-copy-out-if1
+    shared-slice-read-if1
     mul-if1-2
-    element-copy-out-if1-2
+    shared-slice-read-if1-2
     returns
     name-requires
     name-requires-2

@@ -2,9 +2,10 @@
 use Rattle.registers.proofs.bad_rest_of.Statement.{statement}
 use Rattle.registers.proofs.bad_rest_of.Tie as tie
 use mathlib.Core.Path.{sym, _∙_}
-use borrow.Author.Needs.{needs}
 use Rattle.rules.specs.Laws.{or-hit, or-skip, lt-yes, lt-no}
+use Rattle.shared.specs.Good.{is-signal}
 use Rattle.registers.specs.Register.{badRestOf}
+use borrow.Author.Needs.{needs}
 
 no-signal-requires : tie.Need-no-signal-requires
 no-signal-requires c κs = search needs
@@ -88,7 +89,12 @@ returns-6 c =
     (or-hit _ (sym (rw (c12 .signal-width .ensures) at (c .before .bad-reset .ensures)) ∙ c .if6 .taken))))))
 
 is-driven-requires : tie.Need-is-driven-requires
-is-driven-requires c κs = search needs
+is-driven-requires c κs =
+    let c4 = c .before .before .before .before in
+    let c8 = c4 .before .before .before .before in
+    let c12 = c8 .before .before .before .before in
+    let c16 = c12 .before .before .before .before in
+    (c16 .before .before .pre .0, c16 .before .before .pre .1 .holds .room, is-signal _ _ (sym (c12 .before .before .no-signal .ensures) ∙ c12 .before .if1 .left))
 
 returns-7 : tie.Need-returns-7
 unfolding badRestOf
@@ -96,13 +102,14 @@ returns-7 c =
     let c4 = c .before .before .before .before in
     let c8 = c4 .before .before .before .before in
     let c12 = c8 .before .before .before .before in
+    let c16 = c12 .before .before .before .before in
     or-skip (sym (c12 .before .before .before .no-signal .ensures) ∙ c12 .before .before .if1 .left)
     (or-skip (sym (rw (c12 .record-field .ensures, c12 .before .signal-width .ensures) at (c8 .before .before .before .bad-value .ensures)) ∙ c8 .before .before .if2 .left)
     (or-skip (sym (rw (c8 .before .record-field2 .ensures) at (c8 .bad-bit .ensures)) ∙ c4 .before .before .before .if3 .left)
     (or-skip (lt-no _ _ (rw (c4 .before .before .record-field3 .ensures) at (c4 .before .if4 .left)))
     (or-skip (sym (c4 .bad-optional .ensures) ∙ c .before .before .before .if5 .left)
     (or-skip (sym (rw (c12 .before .signal-width .ensures) at (c .before .before .bad-reset .ensures)) ∙ c .before .if6 .left)
-    (c .is-driven .ensures))))))
+    (c .is-driven .ensures _ _ (c16 .before .before .before .pre .1)))))))
 
 pub bad-rest-of-spec : {M : Type 1} → statement M
 bad-rest-of-spec =

@@ -2,9 +2,9 @@
 use Rattle.registers.proofs.first_register.Statement.{statement}
 use Rattle.registers.proofs.first_register.Tie as tie
 use mathlib.Core.Path.{sym, ap₂, _∙_}
-use borrow.Author.Needs.{needs}
 use Rattle.registers.specs.Register.{first-earlier}
-use Rattle.names.specs.Earlier.{earlierOf}
+use Rattle.names.specs.Earlier.{earlierOf, earlier-second}
+use borrow.Author.Needs.{needs}
 
 first-name-requires : tie.Need-first-name-requires
 first-name-requires c κs = search needs
@@ -15,9 +15,16 @@ first-rest-requires c κs = search needs
 earlier-requires : tie.Need-earlier-requires
 earlier-requires c κs = search needs
 
+same-length : tie.Need-same-length
+same-length c = search needs
+
 returns : tie.Need-returns
-returns c = c .earlier .ensures ∙ (ap₂ earlierOf (c .before .before .first-name .ensures) (c .before .first-rest .ensures) ∙ sym (first-earlier _ _))
+returns c = (
+  c .earlier .ensures ∙ (ap₂ earlierOf (c .before .before .before .before .before .first-name .ensures) (c .before .before .before .first-rest .ensures .0) ∙ sym (first-earlier _ _)),
+  λ h. c .before .before .before .first-rest .ensures .1 (earlier-second _ _ _ (rw (c .earlier .ensures) at h)),
+)
 
 pub first-register-spec : {M : Type 1} → statement M
 first-register-spec =
-    tie.close (tie.spec first-name-requires first-rest-requires earlier-requires returns)
+    tie.close
+    (tie.spec first-name-requires first-rest-requires earlier-requires same-length returns)

@@ -1,18 +1,19 @@
--- `drivers::is_listed` meets its contract. Assumes nothing.
-use Rattle.drivers.proofs.is_listed.Statement.{statement}
-use Rattle.drivers.proofs.is_listed.Tie as tie
+-- `drivers::any_marked` meets its contract. The loop's invariant: no bit before the i-th is marked. Assumes nothing.
+use Rattle.drivers.proofs.any_marked.Statement.{statement}
+use Rattle.drivers.proofs.any_marked.Tie as tie
 use mathlib.Core.Path.{_≡_, sym, _∙_}
-use Prim.Native.Nat.{_-_, _≤_}
+use Prim.Native.Nat.{_+_, _-_, _≤_}
 use native.Mathlib.Omega.{arith}
 use Rattle.rules.specs.Rules.{first}
 use Rattle.rules.specs.Laws.{eq-yes, eq-no, from, begins, passed, any-yes, any-no}
-use Rattle.drivers.specs.Columns.{listedIn}
+use Rattle.drivers.specs.Bits.{marked}
+use borrow.Author.Needs.{needs}
 
 abbrev Inv-loop : tie.InvT-loop
-Inv-loop targets n p j₀ j = (j ≤ n) × (first (listedIn targets p) n ≡ from (listedIn targets p) n j)
+Inv-loop taken at n i₀ i = (i ≤ n) × (first (λ k. marked taken (at + k)) n ≡ from (λ k. marked taken (at + k)) n i)
 
 abbrev μ-loop : tie.MeasureT-loop
-μ-loop targets n p j₀ j = n - j
+μ-loop taken at n i₀ i = n - i
 
 loop-holds : tie.Need-loop-holds Inv-loop μ-loop
 loop-holds c = (omega arith, begins _ _)
@@ -20,41 +21,41 @@ loop-holds c = (omega arith, begins _ _)
 cast-if1 : tie.Need-cast-if1 Inv-loop μ-loop
 cast-if1 c = omega arith
 
-mul-if1 : tie.Need-mul-if1 Inv-loop μ-loop
-mul-if1 c = omega arith
+add-if1 : tie.Need-add-if1 Inv-loop μ-loop
+add-if1 c = search needs
 
-element-copy-out-if1 : tie.Need-element-copy-out-if1 Inv-loop μ-loop
-element-copy-out-if1 c = omega arith
+shared-slice-read-if1 : tie.Need-shared-slice-read-if1 Inv-loop μ-loop
+shared-slice-read-if1 c = search needs
 
 returns : tie.Need-returns Inv-loop μ-loop
-unfolding listedIn
+unfolding marked
 returns c = sym (any-yes _ _ _ (omega arith) (c .before .before .before .loop .inv .1) (eq-yes _ _ (c .if1 .taken)))
 
-add-j : tie.Need-add-j Inv-loop μ-loop
-add-j c = omega arith
+add-i : tie.Need-add-i Inv-loop μ-loop
+add-i c = omega arith
 
 loop-less : tie.Need-loop-less Inv-loop μ-loop
 loop-less c = omega arith
 
 loop-again : tie.Need-loop-again Inv-loop μ-loop
-unfolding listedIn
+unfolding marked
 loop-again c = (omega arith, c .before .before .before .loop .inv .1 ∙ passed _ _ _ (omega arith) (eq-no _ _ (c .if1 .left)))
 
 returns-2 : tie.Need-returns-2 Inv-loop μ-loop
 returns-2 c = sym (any-no _ _ _ (omega arith) (omega arith) (c .before .loop .inv .1))
 
-pub is-listed-spec : {M : Type 1} → statement M
-is-listed-spec =
+pub any-marked-spec : {M : Type 1} → statement M
+any-marked-spec =
     tie.close
     (tie.spec
     Inv-loop
     μ-loop
     loop-holds
     cast-if1
-    mul-if1
-    element-copy-out-if1
+    add-if1
+    shared-slice-read-if1
     returns
-    add-j
+    add-i
     loop-less
     loop-again
     returns-2)
