@@ -33,7 +33,7 @@ use Rattle.walk_view.specs.Met.{AllMet, all-append}
 use Rattle.walk_view.specs.View.{walkState, Ready, Sure, Gives}
 use Rattle.walk_view.specs.declared.Lowered.{Lowered}
 use Rattle.walk_view.specs.declared.Lowered.the-variants.{Done}
-use Rattle.walk_steps.specs.Answers.{Refused}
+use Rattle.walk_view.specs.Answers.{Refused}
 use Rattle.walk_steps.specs.Steps.{GivesAll, gives-one}
 use Rattle.connect_parts.specs.Ran.{then-then, turns}
 use Rattle.connect_parts.specs.Steps.{gives-then, gives-out}

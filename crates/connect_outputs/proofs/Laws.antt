@@ -27,7 +27,7 @@ use Rattle.nodes.specs.declared.Added.the-variants.{Net, TooManyNets, ListFull}
 use Rattle.ports.specs.Fills.{runOf, Runs}
 use Rattle.walk_view.specs.View.{indexOf, walkState, Ready, Sure, outOf}
 use Rattle.walk_view.specs.declared.Lowered.the-variants as L
-use Rattle.walk_steps.specs.Answers.{not-done}
+use Rattle.walk_view.specs.Answers.{not-done}
 use Rattle.connect_parts.specs.Ran.{Ran, turns}
 use Rattle.connect_outputs.specs.Outputs.{outputTurn, portTurn, lowered}
 

@@ -8,8 +8,8 @@ use Rattle.model.specs.Lowering.{State}
 use Rattle.walk_view.specs.View.{walkState, Ready, Sure, Kept, outOf, Phase}
 use Rattle.walk_view.specs.declared.Lowered.{Lowered}
 use Rattle.walk_view.specs.declared.Lowered.the-variants.{Done}
-use Rattle.sure_laws.specs.Stores.{kept-same, kept-then}
-use Rattle.walk_steps.specs.Answers.{Refused, out, not-done}
+use Rattle.walk_view.specs.Stores.{kept-same, kept-then}
+use Rattle.walk_view.specs.Answers.{Refused, out, not-done}
 
 -- from net, w a call that the model describes answered r and left net′, w′
 pub record Ran (model : Out State) (s net w : List ℕ) (r : Lowered) (net′ w′ : List ℕ) : Type 0 where

@@ -1,4 +1,3 @@
--- What reserving nets for the sources gives, and laws of phases: one after another, and one for each record in turn.
-pub mod Phases
+-- What reserving nets for the sources gives, and laws of a phase for each record in turn.
 pub mod Turns
 pub mod Reserves

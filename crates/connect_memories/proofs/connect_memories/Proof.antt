@@ -8,7 +8,7 @@ use native.Mathlib.Omega.{arith}
 use Rattle.meaning.specs.Image.{countAt, decode}
 use Rattle.model.specs.Lowering.{connectMemories}
 use Rattle.walk_view.specs.View.{walkState}
-use Rattle.walk_steps.specs.Answers.{not-done-tag}
+use Rattle.walk_view.proofs.Answers.{not-done-tag}
 use Rattle.connect_parts.specs.Ran.{ran-phase, TurnsAt, turns-start, turns-more, turns-out, turns-end}
 use Rattle.connect_memories.specs.Memories.{memoryTurn}
 use Rattle.connect_memories.proofs.Laws.{all-memories}

@@ -9,7 +9,7 @@ use Rattle.meaning.specs.Image.{countAt, decode}
 use Rattle.model.specs.Lowering.{connectOutputs}
 use Rattle.walk_view.specs.View.{walkState}
 use Rattle.connect_parts.specs.Ran.{ran-phase, TurnsAt, turns-start, turns-more, turns-out, turns-end}
-use Rattle.walk_steps.specs.Answers.{not-done-tag}
+use Rattle.walk_view.proofs.Answers.{not-done-tag}
 use Rattle.connect_outputs.specs.Outputs.{outputTurn}
 use Rattle.connect_outputs.proofs.Laws.{all-outputs}
 

@@ -8,7 +8,7 @@ use native.Mathlib.Omega.{arith}
 use Rattle.meaning.specs.Image.{countAt, decode}
 use Rattle.model.specs.Lowering.{connectRegisters}
 use Rattle.walk_view.specs.View.{walkState}
-use Rattle.walk_steps.specs.Answers.{not-done-tag}
+use Rattle.walk_view.proofs.Answers.{not-done-tag}
 use Rattle.connect_parts.specs.Ran.{ran-phase, TurnsAt, turns-start, turns-more, turns-out, turns-end}
 use Rattle.connect_registers.specs.Registers.{registerTurn}
 use Rattle.connect_registers.proofs.Laws.{all-registers}

@@ -10,7 +10,7 @@ use Rattle.model.specs.Lowering.{registerBit}
 use Rattle.records.specs.Others.{registerMeans}
 use Rattle.table_view.specs.Bounds.{signal-width}
 use Rattle.walk_view.specs.View.{walkState}
-use Rattle.walk_steps.specs.Answers.{not-done-tag}
+use Rattle.walk_view.proofs.Answers.{not-done-tag}
 use Rattle.connect_parts.specs.Ran.{turns, TurnsAt, turns-start, turns-more, turns-out, turns-end}
 use Rattle.connect_registers.specs.Registers.{bitsTurn}
 use Rattle.connect_registers.proofs.Laws.{bits-turns}
