@@ -1,3 +1,2 @@
--- What reserving nets for the sources gives, and laws of a phase for each record in turn.
-pub mod Turns
+-- What reserving nets for the sources gives.
 pub mod Reserves

@@ -9,7 +9,7 @@ use Rattle.meaning.specs.Image.{decode}
 use Rattle.model.specs.Lowering.{reserveMemories}
 use Rattle.walk_view.specs.View.{walkState}
 use Rattle.walk_view.proofs.Answers.{not-done-tag}
-use Rattle.sources.specs.Turns.{Turning, turning-start, turning-more, turning-out, turning-end}
+use Rattle.walk_view.specs.Turns.{Turning, turning-start, turning-more, turning-out, turning-end}
 use Rattle.sources.specs.Reserves.{dataAt, memories-turn}
 
 abbrev Inv-loop : tie.InvT-loop
