@@ -33,9 +33,10 @@ use Rattle.walk_view.specs.Met.{AllMet, all-append}
 use Rattle.walk_view.specs.View.{walkState, Ready, Sure, Gives}
 use Rattle.walk_view.specs.declared.Lowered.{Lowered}
 use Rattle.walk_view.specs.declared.Lowered.the-variants.{Done}
-use Rattle.walk_steps.specs.Answers.{Refused}
+use Rattle.walk_view.specs.Answers.{Refused}
 use Rattle.walk_steps.specs.Steps.{GivesAll, gives-one}
-use Rattle.connect_parts.specs.Ran.{then-then, turns}
+use Rattle.walk_view.specs.Turns.{inTurn}
+use Rattle.connect_parts.specs.Ran.{then-then}
 use Rattle.connect_parts.specs.Steps.{gives-then, gives-out}
 use Rattle.connect_parts.specs.Parts.{control-there, met-whole}
 use Rattle.connect_memories.specs.Puts.{Puts, puts-paste, puts-as}
@@ -239,15 +240,15 @@ pub turn-as : (s : List ℕ) (k : ℕ) (x : Memory) (st : State) → memoryMeans
     → memoryTurn s k st ≡ andThen (lowerAll (decode s) false (memorySteps (memoryMeans x)) st) (λ st₁. pushRecord (memoryWords (decode s) k (memoryMeans x) st₁) st₁)
 turn-as s k x st e = ap (λ (y : R.Memory). andThen (lowerAll (decode s) false (memorySteps y) st) (λ st₁. pushRecord (memoryWords (decode s) k y st₁) st₁)) (sym e)
 
-memories-turns : (s : List ℕ) (i n : ℕ) (st : State) → connectMemories (decode s) false i (each (memoryAt s) i n) st ≡ turns (memoryTurn s) i n st
-unfolding connectMemories each turns
+memories-turns : (s : List ℕ) (i n : ℕ) (st : State) → connectMemories (decode s) false i (each (memoryAt s) i n) st ≡ inTurn (memoryTurn s) i n st
+unfolding connectMemories each inTurn
 memories-turns s i zero st = refl
 memories-turns s i (suc n) st =
     ap (andThen (lowerAll (decode s) false (memorySteps (memoryAt s i)) st))
     (λ j st₁. andThen (pushRecord (memoryWords (decode s) i (memoryAt s i) st₁) st₁) (λ st₂. memories-turns s (suc i) n st₂ j))
     ∙ sym (then-then (lowerAll (decode s) false (memorySteps (memoryAt s i)) st) (λ st₁. pushRecord (memoryWords (decode s) i (memoryAt s i) st₁) st₁)
-    (λ st₂. turns (memoryTurn s) (suc i) n st₂))
+    (λ st₂. inTurn (memoryTurn s) (suc i) n st₂))
 
-pub all-memories : (s : List ℕ) (st : State) → connectMemories (decode s) false 0 (decode s .memories) st ≡ turns (memoryTurn s) 0 (countAt s 5) st
+pub all-memories : (s : List ℕ) (st : State) → connectMemories (decode s) false 0 (decode s .memories) st ≡ inTurn (memoryTurn s) 0 (countAt s 5) st
 unfolding decode listOf
 all-memories s st = memories-turns s 0 (countAt s 5) st

@@ -27,8 +27,9 @@ use Rattle.nodes.specs.declared.Added.the-variants.{Net, TooManyNets, ListFull}
 use Rattle.ports.specs.Fills.{runOf, Runs}
 use Rattle.walk_view.specs.View.{indexOf, walkState, Ready, Sure, outOf}
 use Rattle.walk_view.specs.declared.Lowered.the-variants as L
-use Rattle.walk_steps.specs.Answers.{not-done}
-use Rattle.connect_parts.specs.Ran.{Ran, turns}
+use Rattle.walk_view.specs.Answers.{not-done}
+use Rattle.walk_view.specs.Turns.{inTurn}
+use Rattle.connect_parts.specs.Ran.{Ran}
 use Rattle.connect_outputs.specs.Outputs.{outputTurn, portTurn, lowered}
 
 -- what was copied to the front of an array
@@ -95,11 +96,11 @@ module _ (s : List ℕ) (p : ℕ) (x : Signal) (e : signalMeans x ≡ signalAt s
 
 -- ---- all signals ----
 
-outputs-turns : (s : List ℕ) (i n : ℕ) (st : State) → connectOutputs (decode s) false i (each (signalAt s) i n) st ≡ turns (outputTurn s) i n st
-unfolding connectOutputs each turns
+outputs-turns : (s : List ℕ) (i n : ℕ) (st : State) → connectOutputs (decode s) false i (each (signalAt s) i n) st ≡ inTurn (outputTurn s) i n st
+unfolding connectOutputs each inTurn
 outputs-turns s i zero st = refl
 outputs-turns s i (suc n) st = ap (andThen (outputTurn s i st)) (λ j st₁. outputs-turns s (suc i) n st₁ j)
 
-pub all-outputs : (s : List ℕ) (st : State) → connectOutputs (decode s) false 0 (decode s .signals) st ≡ turns (outputTurn s) 0 (countAt s 0) st
+pub all-outputs : (s : List ℕ) (st : State) → connectOutputs (decode s) false 0 (decode s .signals) st ≡ inTurn (outputTurn s) 0 (countAt s 0) st
 unfolding decode listOf
 all-outputs s st = outputs-turns s 0 (countAt s 0) st

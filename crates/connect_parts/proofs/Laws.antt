@@ -29,7 +29,7 @@ use Rattle.tables.specs.declared.Known.{Known}
 use Rattle.walk_view.specs.View.{indexOf, walkState, Ready, Sure, outOf}
 use Rattle.walk_view.specs.declared.Lowered.{Lowered}
 use Rattle.walk_view.specs.declared.Lowered.the-variants as L
-use Rattle.walk_steps.specs.Answers.{not-done}
+use Rattle.walk_view.specs.Answers.{not-done}
 use Rattle.connect_parts.specs.Ran.{Ran}
 
 -- ---- nets of bits ----

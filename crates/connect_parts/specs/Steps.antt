@@ -17,8 +17,8 @@ use Rattle.walk_view.specs.Met.{all-grow}
 use Rattle.walk_view.specs.View.{walkState, Ready, Sure, outOf}
 use Rattle.walk_view.specs.declared.Lowered.{Lowered}
 use Rattle.walk_view.specs.declared.Lowered.the-variants.{Done}
-use Rattle.sure_laws.specs.Stores.{kept-same}
-use Rattle.walk_steps.specs.Answers.{Refused, not-done}
+use Rattle.walk_view.specs.Stores.{kept-same}
+use Rattle.walk_view.specs.Answers.{Refused, not-done}
 use Rattle.walk_steps.specs.Steps.{all-append, met-append, GivesAll}
 use Rattle.connect_parts.specs.Ran.{Ran, ran-as, ran-then, ran-out}
 

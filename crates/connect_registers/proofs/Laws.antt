@@ -23,9 +23,10 @@ use Rattle.walk_view.specs.Met.{AllMet, all-append}
 use Rattle.walk_view.specs.View.{walkState, Ready, Sure, Gives}
 use Rattle.walk_view.specs.declared.Lowered.{Lowered}
 use Rattle.walk_view.specs.declared.Lowered.the-variants.{Done}
-use Rattle.walk_steps.specs.Answers.{Refused}
+use Rattle.walk_view.specs.Answers.{Refused}
 use Rattle.walk_steps.specs.Steps.{GivesAll, gives-one}
-use Rattle.connect_parts.specs.Ran.{then-then, turns}
+use Rattle.walk_view.specs.Turns.{inTurn}
+use Rattle.connect_parts.specs.Ran.{then-then}
 use Rattle.connect_parts.specs.Steps.{gives-then, gives-out}
 use Rattle.connect_parts.specs.Parts.{control-there, met-whole}
 use Rattle.connect_registers.specs.declared.ResetWords.{ResetWords}
@@ -159,18 +160,18 @@ pub turn-as : (s : List ℕ) (k : ℕ) (x : Register) (st : State) → registerM
     → registerTurn s k st ≡ andThen (lowerAll (decode s) false (registerSteps (registerMeans x)) st) (λ st₁. bitsTurn s k (registerMeans x) st₁)
 turn-as s k x st e = ap (λ (r : R.Register). andThen (lowerAll (decode s) false (registerSteps r) st) (λ st₁. bitsTurn s k r st₁)) (sym e)
 
-pub bits-turns : (k : ℕ) (r : R.Register) (b n : ℕ) (st : State) → registerBits k r b n st ≡ turns (registerBit (r .reset) k r) b n st
-unfolding registerBits turns
+pub bits-turns : (k : ℕ) (r : R.Register) (b n : ℕ) (st : State) → registerBits k r b n st ≡ inTurn (registerBit (r .reset) k r) b n st
+unfolding registerBits inTurn
 bits-turns k r b zero st = refl
 bits-turns k r b (suc n) st = ap (andThen (registerBit (r .reset) k r b st)) (λ i st₁. bits-turns k r (suc b) n st₁ i)
 
-registers-turns : (s : List ℕ) (i n : ℕ) (st : State) → connectRegisters (decode s) false i (each (registerAt s) i n) st ≡ turns (registerTurn s) i n st
-unfolding connectRegisters each turns
+registers-turns : (s : List ℕ) (i n : ℕ) (st : State) → connectRegisters (decode s) false i (each (registerAt s) i n) st ≡ inTurn (registerTurn s) i n st
+unfolding connectRegisters each inTurn
 registers-turns s i zero st = refl
 registers-turns s i (suc n) st =
     ap (andThen (lowerAll (decode s) false (registerSteps (registerAt s i)) st)) (λ j st₁. andThen (bitsTurn s i (registerAt s i) st₁) (λ st₂. registers-turns s (suc i) n st₂ j))
-    ∙ sym (then-then (lowerAll (decode s) false (registerSteps (registerAt s i)) st) (λ st₁. bitsTurn s i (registerAt s i) st₁) (λ st₂. turns (registerTurn s) (suc i) n st₂))
+    ∙ sym (then-then (lowerAll (decode s) false (registerSteps (registerAt s i)) st) (λ st₁. bitsTurn s i (registerAt s i) st₁) (λ st₂. inTurn (registerTurn s) (suc i) n st₂))
 
-pub all-registers : (s : List ℕ) (st : State) → connectRegisters (decode s) false 0 (decode s .registers) st ≡ turns (registerTurn s) 0 (countAt s 4) st
+pub all-registers : (s : List ℕ) (st : State) → connectRegisters (decode s) false 0 (decode s .registers) st ≡ inTurn (registerTurn s) 0 (countAt s 4) st
 unfolding decode listOf
 all-registers s st = registers-turns s 0 (countAt s 4) st

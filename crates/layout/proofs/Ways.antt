@@ -1,13 +1,13 @@
 -- The steps in which the scratch is laid out: their loops, and what they come to. Assumes nothing.
 use mathlib.Core.Path.{_≡_, refl, sym, ap, _∙_, subst}
 use mathlib.Core.Bool.{Bool, true, false, cond, true≢false}
-use mathlib.Core.List.{List, [], _∷_, _++_, map, append-nil}
+use mathlib.Core.List.{List, [], _∷_, map}
 use mathlib.Core.Logic.{⊎-elim, _⊎_}
 use mathlib.Core.Option.{Option, none}
 use Prim.Native.Nat.{ℕ, zero, suc, _+_, _*_, _-_, _≤_, _<_}
 use native.Mathlib.Nat.{sub-self, sub-zero, eq-or-lt-of-le}
 use native.Mathlib.Omega.{arith}
-use lib.ListN.{length, getD, set, drop, replicate, length-set, drop-of-length-le, length-replicate}
+use lib.ListN.{length, getD, set, replicate, length-set, length-replicate}
 use lib.Seq.{getD-set-same, getD-set-other, paste}
 use Rattle.rules.specs.Rules.{each, listOf, sumTo}
 use Rattle.rtl.specs.Rtl as R
@@ -23,12 +23,7 @@ use Rattle.table_view.specs.Laws.{Stored, stored-paste, need-is, signal-inside,
 use Rattle.table_view.specs.Drivers.{covers, covered, covers-yes}
 use Rattle.layout.specs.Stages.{HeadedAt, Fixed, FirstsAt, Starts, Indexed, Ready}
 
--- ---- clear ----
-
-pub all-zero : (d : List ℕ) (i : ℕ) → length d ≤ i → i ≤ length d → replicate i 0 ++ drop i d ≡ replicate (length d) 0
-all-zero d i h u =
-    let e : i ≡ length d = omega arith in
-    ap (λ (x : List ℕ). replicate i 0 ++ x) (drop-of-length-le d {i = i} h) ∙ append-nil (replicate i 0) ∙ ap (λ (n : ℕ). replicate n 0) e
+-- ---- cleared words ----
 
 zeros : (n j : ℕ) → _≡_ {A = ℕ} (getD (replicate n 0) j 0) 0
 zeros zero j = refl

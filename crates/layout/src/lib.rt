@@ -10,17 +10,6 @@ ghost use Rattle.table_view.specs.View.{limitOf, signalColumn, firstAt, driverA
 ghost use Rattle.table_view.specs.Laws.{Stored};
 ghost use Rattle.layout.specs.Stages.{HeadedAt, Fixed, FirstsAt, Starts, Indexed, Ready};
 
-// All words 0.
-pub fn clear(words: &mut [u32])
-    ensures { λ _. ⌜ now (words .exit) ≡ replicate (length (now (words .entry))) 0 ⌝ }
-{
-    let mut i = 0;
-    while i < words.len() {
-        words[i] = 0;
-        i += 1;
-    }
-}
-
 // The bits of all signals.
 fn signal_bits(image: &[u8]) -> u32
     requires { ⌜ Sized (now image) ⌝ }
@@ -134,7 +123,7 @@ pub fn lay(image: &[u8], n: u32, ob: bool, scr: &mut [u32])
     requires { ⌜ (Sized (now image)) × (n ≤ 65535) × (length (now scr) ≡ scratchNeed (now image) n) ⌝ }
     ensures { λ _. ⌜ Ready (now (image .entry)) n ob (now (scr .exit)) ⌝ }
 {
-    clear(scr);
+    nodes::clear(scr);
     lay_fixed(image, n, ob, scr);
     lay_firsts(image, scr);
     lay_starts(image, scr);

@@ -31,13 +31,13 @@ use Rattle.table_view.specs.View.{limitOf}
 use Rattle.walk_view.specs.declared.Lowered.{Lowered}
 use Rattle.walk_view.specs.declared.Lowered.the-variants as L
 use Rattle.walk_view.specs.View.{walkState, outOf, Phase}
+use Rattle.walk_view.specs.Answers as answers
 use Rattle.lower.specs.Lower.{endOf, keptOf, wordsAfter, Lent, Prepared, Ended}
-use Rattle.lower.proofs.Stages as stages
 use Rattle.lower.proofs.Stages.{limit-kept}
 
 -- ---- the netlist words after an answer ----
 
-pub kept-refused : (r : Lowered) → stages.Refused r → (net : List ℕ) → replicate (length net) 0 ≡ keptOf r net
+pub kept-refused : (r : Lowered) → answers.Refused r → (net : List ℕ) → replicate (length net) 0 ≡ keptOf r net
 unfolding keptOf
 kept-refused L.Done f net = absurd f
 kept-refused (L.Undriven p b) f net = refl

@@ -19,6 +19,7 @@ use Rattle.model.specs.Builder.{Made, from, addNodes}
 use Rattle.model.specs.Lowering as M
 use Rattle.model.specs.Lowering.{State, reserve, setSignal, reserveInput, reserveInputs, reserveBits, reserveRegisters, reserveSecond, reserveMemories, reserveSources}
 use Rattle.netlist_view.specs.View.{netlistOf}
+use Rattle.netlist_index.specs.Index.{Held}
 use Rattle.table_view.specs.View.{limitOf, stateOf, Laid, Writes}
 use Rattle.table_view.specs.Bounds.{signal-width}
 use Rattle.tables.specs.Answers.{Small}
@@ -27,8 +28,10 @@ use Rattle.nodes.specs.declared.Added.the-variants as A
 use Rattle.ports.specs.Fills.{runOf, Runs}
 use Rattle.walk_view.specs.declared.Lowered.{Lowered}
 use Rattle.walk_view.specs.declared.Lowered.the-variants.{Done, TooManyNets, ListFull}
-use Rattle.walk_view.specs.View.{indexOf, walkState, Ready, outOf, Phase}
-use Rattle.sources.specs.Phases.{Refused, kept-then, phase-none, phase-as, phase-then, phase-out, no-store, stored-ready, stored-kept, stored-state, built-ready, built-kept}
+use Rattle.walk_view.specs.View.{indexOf, walkState, Ready, Kept, outOf, Phase}
+use Rattle.walk_view.specs.Answers.{Refused}
+use Rattle.walk_view.specs.Stores.{kept-then, no-store, stored-ready, stored-kept, stored-state}
+use Rattle.walk_view.specs.Phases.{phase-none, phase-as, phase-then, phase-out}
 use Rattle.sources.specs.Reserves.{answerOf, withAdded, Keeps, inputAt, secondAt, dataAt}
 
 length-from : (b w : ℕ) → length (from b w) ≡ w
@@ -57,6 +60,15 @@ run-small a first n h u i l =
     sym (getD-take n (sets a 0 (from first n)) i 0 l) ∙ ap (λ (t : List ℕ). getD t i 0) (run-taken a first n h) ∙ from-at first n i 0 l in
     rw e (omega arith)
 
+-- ---- a call of the builder ----
+
+module _ (s net net′ w : List ℕ) (r : Ready s net w) where
+  built-ready : Held (limitOf w) net′ (indexOf w) → Ready s net′ w
+  built-ready h = record { accepted = r .accepted; laid = r .laid; held = h; narrowed = r .narrowed }
+
+  built-kept : length net′ ≡ length net → Kept s net w net′ w
+  built-kept long = record { netLong = long; long = refl; fixed = refl; fewer = omega arith }
+
 -- ---- what adding nets answered ----
 
 pub kept-run : (k p n : ℕ) (s w w′ : List ℕ) → Writes (λ st. setSignal st p (from k n)) s w w′ → Keeps (A.Net k) p n s w Done w′
@@ -82,8 +94,8 @@ reserved made p n x s net net′ w w′ r g a net-long k long =
     let g₁ = built-ready s net net′ w g (a .held (indexOf w) (g .held)) in
     record {
       says = ap (reserve (walkState s net w) p) (a .says) ∙ added x p n s w (netlistOf (limitOf w) net) (netlistOf (limitOf w) net′)
-          ∙ ap (outOf (answerOf x)) (sym (stored-state _ s net′ w w′ g₁ (k .writes))) ∙ ap (λ (y : Lowered). outOf y (walkState s net′ w′)) (sym (k .same));
-      ready = stored-ready _ s net′ w w′ g₁ (k .writes);
+          ∙ ap (outOf (answerOf x)) (sym (stored-state _ s net′ w w′ g₁ (k .writes) long)) ∙ ap (λ (y : Lowered). outOf y (walkState s net′ w′)) (sym (k .same));
+      ready = stored-ready _ s net′ w w′ g₁ (k .writes) long;
       kept = kept-then s net w net′ w net′ w′ (built-kept s net net′ w g net-long) (stored-kept _ s net′ w w′ g₁ (k .writes) long);
     }
 

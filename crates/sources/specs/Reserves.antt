@@ -11,7 +11,7 @@ use Rattle.nodes.specs.declared.Added.{Added}
 use Rattle.nodes.specs.declared.Added.the-variants as A
 use Rattle.walk_view.specs.declared.Lowered.{Lowered}
 use Rattle.walk_view.specs.declared.Lowered.the-variants.{Done, TooManyNets, ListFull}
-use Rattle.sources.specs.Turns.{inTurn}
+use Rattle.walk_view.specs.Turns.{inTurn}
 
 -- ---- nets kept ----
 

@@ -10,7 +10,7 @@ ghost use Rattle.rules.specs.Rules.{listOf};
 ghost use Rattle.meaning.specs.Image.{countAt, signalWidth, exprWidth, decode};
 ghost use Rattle.model.specs.Words.{Netlist};
 ghost use Rattle.model.specs.Lowering.{cell, signalBit, signalNets, rangeNets, rangeKnown, allSome, setSignalBit, setSignal, setWhole, setRange, driverOf};
-ghost use Rattle.table_view.specs.View.{limitOf, known, netWord, isSet, isWhole, stateOf, Laid, Writes, Marks};
+ghost use Rattle.table_view.specs.View.{limitOf, known, netWord, isWhole, stateOf, Laid, Writes, Marks};
 ghost use Rattle.tables.specs.Answers.{knownOf, drivenBy, SignalPlace, ExprPlace, ExprNet, Small};
 
 pub const ABSENT: u32 = 4294967295;
@@ -64,14 +64,6 @@ fn expr_place(image: &[u8], scr: &[u32], e: u32, b: u32) -> usize
     let words = scr[2] as usize + 8 * (e as usize);
     let first = scr[words] as usize;
     scr[3] as usize + (first + b as usize)
-}
-
-// The flag `resolve_observable_dependencies`.
-pub fn observes(scr: &[u32]) -> bool
-    requires { ⌜ 4 < length (now scr) ⌝ }
-    ensures { λ r. ⌜ r ≡ isSet (getD (now (scr .entry)) 4 0) ⌝ }
-{
-    scr[4] != 0
 }
 
 // ---- signal bits ----

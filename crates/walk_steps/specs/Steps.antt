@@ -14,7 +14,7 @@ use Rattle.walk_view.specs.View.{walkState, Ready, Sure, Kept, outOf, There, Gi
 use Rattle.walk_view.specs.declared.Lowered.{Lowered}
 use Rattle.walk_view.specs.declared.Lowered.the-variants.{Done}
 use Rattle.sure_laws.specs.Sure.{sure-done}
-use Rattle.sure_laws.specs.Stores.{kept-same, kept-then}
+use Rattle.walk_view.specs.Stores.{kept-same, kept-then}
 use Rattle.walk_steps.specs.Answers.{Refused, out, not-done}
 use Rattle.walk_steps.specs.Fuel.{cost-enough}
 

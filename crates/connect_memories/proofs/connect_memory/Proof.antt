@@ -7,7 +7,7 @@ use Rattle.meaning.specs.Image.{decode}
 use Rattle.model.specs.Lowering.{pushRecord}
 use Rattle.records.specs.Others.{memoryMeans}
 use Rattle.walk_view.specs.View.{walkState}
-use Rattle.walk_steps.specs.Answers.{not-done-tag}
+use Rattle.walk_view.proofs.Answers.{not-done-tag}
 use Rattle.connect_parts.specs.Ran.{ran-as, ran-then, ran-out}
 use Rattle.connect_parts.specs.Steps.{all-ran}
 use Rattle.connect_memories.specs.Memories.{memoryWords, MemoryThere}

@@ -5,7 +5,7 @@ use Rattle.connect_memories.proofs.lower_enables.Tie as tie
 use native.Mathlib.Omega.{arith}
 use Rattle.model.specs.Lowering.{Bit, controlSteps}
 use Rattle.records.specs.Others.{controlMeans, enableMeans, portMeans}
-use Rattle.walk_steps.specs.Answers.{not-done-tag}
+use Rattle.walk_view.proofs.Answers.{not-done-tag}
 use Rattle.walk_steps.specs.Steps.{gives-one}
 use Rattle.connect_parts.specs.Steps.{gives-then, gives-out}
 

@@ -6,7 +6,7 @@ use native.Mathlib.Omega.{arith}
 use mathlib.Core.List.{_++_}
 use Rattle.model.specs.Lowering.{Bit, bitStep, enableSteps}
 use Rattle.records.specs.Others.{portMeans}
-use Rattle.walk_steps.specs.Answers.{not-done-tag}
+use Rattle.walk_view.proofs.Answers.{not-done-tag}
 use Rattle.walk_steps.specs.Steps.{gives-one}
 use Rattle.connect_parts.specs.Steps.{gives-then, gives-out}
 

@@ -4,7 +4,7 @@ use Rattle.connect_memories.proofs.lower_memory.Statement.{statement}
 use Rattle.connect_memories.proofs.lower_memory.Tie as tie
 use Rattle.model.specs.Lowering.{secondSteps}
 use Rattle.records.specs.Others.{secondMeans, memoryMeans}
-use Rattle.walk_steps.specs.Answers.{not-done-tag}
+use Rattle.walk_view.proofs.Answers.{not-done-tag}
 use Rattle.connect_parts.specs.Steps.{gives-then, gives-out}
 
 lower-first-requires : tie.Need-lower-first-requires

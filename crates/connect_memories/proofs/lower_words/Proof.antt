@@ -3,7 +3,7 @@ use borrow.Author.Needs.{needs}
 use Rattle.connect_memories.proofs.lower_words.Statement.{statement}
 use Rattle.connect_memories.proofs.lower_words.Tie as tie
 use Rattle.records.specs.Others.{portMeans}
-use Rattle.walk_steps.specs.Answers.{not-done-tag}
+use Rattle.walk_view.proofs.Answers.{not-done-tag}
 use Rattle.connect_memories.proofs.Laws.{read-given, read-out, write-given, write-out, data-given}
 
 lower-expression-requires : tie.Need-lower-expression-requires

@@ -7,7 +7,7 @@ use Rattle.meaning.specs.Image.{decode}
 use Rattle.walk_laws.specs.Walk.{bits-asked}
 use Rattle.connect_parts.specs.Ran.{ran-then, ran-out}
 use Rattle.connect_parts.specs.Steps.{all-ran, gives-after}
-use Rattle.walk_steps.specs.Answers.{not-done-tag}
+use Rattle.walk_view.proofs.Answers.{not-done-tag}
 use Rattle.connect_outputs.specs.Outputs.{portTurn}
 
 resolve-signal-requires : tie.Need-resolve-signal-requires

@@ -5,7 +5,7 @@ use Rattle.connect_registers.proofs.connect_register.Tie as tie
 use mathlib.Core.Path.{sym, subst}
 use Rattle.records.specs.Others.{registerMeans}
 use Rattle.walk_view.specs.View.{walkState}
-use Rattle.walk_steps.specs.Answers.{not-done-tag}
+use Rattle.walk_view.proofs.Answers.{not-done-tag}
 use Rattle.connect_parts.specs.Ran.{ran-as, ran-then, ran-out}
 use Rattle.connect_parts.specs.Steps.{all-ran}
 use Rattle.connect_registers.specs.Registers.{bitsTurn, There}

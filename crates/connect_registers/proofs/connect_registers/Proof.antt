@@ -5,17 +5,18 @@ use borrow.Author.Needs.{needs}
 use mathlib.Core.Bool.{false}
 use Prim.Native.Nat.{_-_}
 use native.Mathlib.Omega.{arith}
-use Rattle.meaning.specs.Image.{countAt, decode}
+use Rattle.meaning.specs.Image.{decode}
 use Rattle.model.specs.Lowering.{connectRegisters}
-use Rattle.walk_view.specs.View.{walkState}
-use Rattle.walk_steps.specs.Answers.{not-done-tag}
-use Rattle.connect_parts.specs.Ran.{ran-phase, TurnsAt, turns-start, turns-more, turns-out, turns-end}
+use Rattle.walk_view.specs.View.{walkState, Sure}
+use Rattle.walk_view.proofs.Answers.{not-done-tag}
+use Rattle.walk_view.specs.Turns.{Turning, turning-start, turning-more, turning-out, turning-end}
+use Rattle.connect_parts.specs.Ran.{ran-phase}
 use Rattle.connect_registers.specs.Registers.{registerTurn}
 use Rattle.connect_registers.proofs.Laws.{all-registers}
 
 abbrev Inv-loop : tie.InvT-loop
 Inv-loop image net₀ scr₀ n k₀ net scr k =
-    TurnsAt (connectRegisters (decode image) false 0 (decode image .registers) (walkState image net₀ scr₀)) (registerTurn image) image net₀ scr₀ (countAt image 4) k net scr
+    (Turning (connectRegisters (decode image) false 0 (decode image .registers) (walkState image net₀ scr₀)) (registerTurn image) n image net₀ scr₀ net scr k) × (Sure image net scr)
 
 abbrev μ-loop : tie.MeasureT-loop
 μ-loop image net₀ scr₀ n k₀ net scr k = n - k
@@ -25,15 +26,13 @@ count-requires c κs = search needs
 
 loop-holds : tie.Need-loop-holds Inv-loop μ-loop
 loop-holds c =
-    let pre = c .before .before .before .before .pre in
-    let a = c .before .before .before .before .args in
-    turns-start _ (registerTurn (a .image .now)) (a .image .now) (a .net .now) (a .scr .now) (countAt (a .image .now) 4)
-    (all-registers (a .image .now) (walkState (a .image .now) (a .net .now) (a .scr .now))) (pre .0) (pre .1)
+    let s = c .before .before .before .before in
+    (turning-start _ _ _ _ _ _ _ (c .count .ensures) (all-registers (s .args .image .now) _) (s .pre .0), s .pre .1)
 
 connect-register-requires : tie.Need-connect-register-requires Inv-loop μ-loop
 connect-register-requires c κs =
     let q = c .before .before .before .loop in
-    (q .inv .ready, q .inv .sure, omega (arith, c .before .before .loop-test .taken, c .before .before .before .before .count .ensures))
+    (q .inv .0 .ready, q .inv .1, omega (arith, c .before .before .loop-test .taken, c .before .before .before .before .count .ensures))
 
 enum-told : tie.Need-enum-told Inv-loop μ-loop
 enum-told c = search needs
@@ -46,13 +45,9 @@ same-length-2 c = search needs
 
 returns : tie.Need-returns Inv-loop μ-loop
 returns c =
-    let loop-test = c .before .before .before .before .before .before .before .before .loop-test in
-    let count = c .before .before .before .before .before .before .before .before .before .before .count in
-    let a = c .before .before .before .before .before .before .before .before .before .before .before .before .before .before .args in
-    let q = c .before .before .before .before .before .before .before .before .before .loop in
+    let c8 = c .before .before .before .before .before .before .before .before in
     let g = c .before .before .before .before .before .connect-register in
-    ran-phase (turns-out _ (registerTurn (a .image .now)) (a .image .now) (a .net .now) (a .scr .now) (countAt (a .image .now) 4) (q .k) (q .net) (q .scr) _ _ (q .inv) (g .result)
-    (omega (arith, loop-test .taken, count .ensures)) (g .ensures) (not-done-tag (g .result) (c .match .keys2)))
+    turning-out _ _ _ _ _ _ _ _ _ (c8 .before .loop .inv .0) (g .result) _ _ (c8 .loop-test .taken) (not-done-tag (g .result) (c .match .keys2)) (ran-phase (g .ensures))
 
 add-k : tie.Need-add-k Inv-loop μ-loop
 add-k c = search needs
@@ -62,13 +57,10 @@ loop-less c = search needs
 
 loop-again : tie.Need-loop-again Inv-loop μ-loop
 loop-again c =
-    let loop-test = c .before .before .before .before .before .before .before .before .before .loop-test in
-    let count = c .before .before .before .before .before .before .before .before .before .before .before .count in
-    let a = c .before .before .before .before .before .before .before .before .before .before .before .before .before .before .before .args in
-    let q = c .before .before .before .before .before .before .before .before .before .before .loop in
+    let c8 = c .before .before .before .before .before .before .before .before in
     let g = c .before .before .before .before .before .before .connect-register in
-    turns-more _ (registerTurn (a .image .now)) (a .image .now) (a .net .now) (a .scr .now) (countAt (a .image .now) 4) (q .k) (q .net) (q .scr) _ _ (q .inv) (g .result)
-    (omega (arith, loop-test .taken, count .ensures)) (g .ensures) (c .enum-told .given .1)
+    let e = c .enum-told .given .1 in
+    (turning-more _ _ _ _ _ _ _ _ _ (c8 .before .before .loop .inv .0) (g .result) _ _ (c8 .before .loop-test .taken) e (ran-phase (g .ensures)), g .ensures .sure e)
 
 same-length-3 : tie.Need-same-length-3 Inv-loop μ-loop
 same-length-3 c = search needs
@@ -77,11 +69,7 @@ same-length-4 : tie.Need-same-length-4 Inv-loop μ-loop
 same-length-4 c = search needs
 
 returns-2 : tie.Need-returns-2 Inv-loop μ-loop
-returns-2 c =
-    let a = c .before .before .before .before .before .before .args in
-    let q = c .before .loop in
-    ran-phase (turns-end _ (registerTurn (a .image .now)) (a .image .now) (a .net .now) (a .scr .now) (countAt (a .image .now) 4) (q .k) (q .net) (q .scr) (q .net) (q .scr) (q .inv)
-    (omega (arith, c .loop-test .left, c .before .before .count .ensures)))
+returns-2 c = turning-end _ _ _ _ _ _ _ _ _ (c .before .loop .inv .0) (c .loop-test .left)
 
 pub connect-registers-spec : {M : Type 1} → statement M
 connect-registers-spec =

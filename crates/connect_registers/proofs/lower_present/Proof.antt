@@ -4,7 +4,7 @@ use Rattle.connect_registers.proofs.lower_present.Statement.{statement}
 use Rattle.connect_registers.proofs.lower_present.Tie as tie
 use native.Mathlib.Omega.{arith}
 use Rattle.model.specs.Lowering.{Whole, Bit, bitStep}
-use Rattle.walk_steps.specs.Answers.{not-done-tag}
+use Rattle.walk_view.proofs.Answers.{not-done-tag}
 use Rattle.walk_steps.specs.Steps.{gives-one}
 use Rattle.connect_parts.specs.Steps.{gives-then, gives-out}
 

@@ -4,7 +4,7 @@ use Rattle.connect_registers.proofs.lower_register.Statement.{statement
 use Rattle.connect_registers.proofs.lower_register.Tie as tie
 use native.Mathlib.Omega.{arith}
 use Rattle.records.specs.Others.{registerMeans}
-use Rattle.walk_steps.specs.Answers.{not-done-tag}
+use Rattle.walk_view.proofs.Answers.{not-done-tag}
 use Rattle.connect_registers.proofs.Laws.{next-given, next-out, clock-given, clock-out, enable-given, enable-out, reset-given}
 
 lower-expression-requires : tie.Need-lower-expression-requires

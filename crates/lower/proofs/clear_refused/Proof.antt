@@ -3,7 +3,7 @@ use borrow.Author.Needs.{needs}
 use Rattle.lower.proofs.clear_refused.Statement.{statement}
 use Rattle.lower.proofs.clear_refused.Tie as tie
 use mathlib.Core.Path.{_∙_}
-use Rattle.lower.proofs.Stages.{not-done}
+use Rattle.walk_view.proofs.Answers.{not-done-tag}
 use Rattle.lower.proofs.Ends.{kept-refused, kept-done}
 
 enum-told : tie.Need-enum-told
@@ -16,7 +16,7 @@ same-length : tie.Need-same-length
 same-length c = search needs
 
 returns : tie.Need-returns
-returns c = let a = c .before .before .before .before .before .before .args in c .before .before .clear .ensures ∙ kept-refused (a .r) (not-done (a .r) (c .before .before .before .before .match .keys2)) (a .net .now)
+returns c = let a = c .before .before .before .before .before .before .args in c .before .before .clear .ensures ∙ kept-refused (a .r) (not-done-tag (a .r) (c .before .before .before .before .match .keys2)) (a .net .now)
 
 returns-2 : tie.Need-returns-2
 returns-2 c = let a = c .before .before .before .args in kept-done (a .r) (c .enum-told .given .1) (a .net .now)

@@ -3,7 +3,8 @@ use borrow.Author.Needs.{needs}
 use Rattle.lower.proofs.phases.Statement.{statement}
 use Rattle.lower.proofs.phases.Tie as tie
 use mathlib.Core.Path.{_∙_}
-use Rattle.lower.proofs.Stages.{not-done, done-phase, sure-1, sure-2, sure-3, refused-1, refused-2, refused-3, ended}
+use Rattle.walk_view.proofs.Answers.{not-done-tag}
+use Rattle.lower.proofs.Stages.{done-phase, sure-1, sure-2, sure-3, refused-1, refused-2, refused-3, ended}
 
 reserve-sources-requires : tie.Need-reserve-sources-requires
 reserve-sources-requires c κs = search needs
@@ -23,7 +24,7 @@ returns c =
     let s = c8 .before .before .before in
     let a = s .args in
     let x = c .before .before .before .before .before .reserve-sources in
-    refused-1 (a .image .now) (a .net .now) (a .scr .now) (s .pre) (x .result) _ _ (not-done (x .result) (c .match .keys2)) (x .ensures)
+    refused-1 (a .image .now) (a .net .now) (a .scr .now) (s .pre) (x .result) _ _ (not-done-tag (x .result) (c .match .keys2)) (x .ensures)
 
 connect-memories-requires : tie.Need-connect-memories-requires
 connect-memories-requires c κs =
@@ -51,7 +52,7 @@ returns-2 c =
     let x = c8 .before .before .before .before .before .before .reserve-sources in
     let y = c .before .before .before .before .before .connect-memories in
     refused-2 (a .image .now) (a .net .now) (a .scr .now) (s .pre) _ _ (done-phase (x .result) (c8 .enum-told .given .1) (x .ensures))
-    (y .result) _ _ (not-done (y .result) (c .match2 .keys2)) (y .ensures)
+    (y .result) _ _ (not-done-tag (y .result) (c .match2 .keys2)) (y .ensures)
 
 connect-registers-requires : tie.Need-connect-registers-requires
 connect-registers-requires c κs =
@@ -86,7 +87,7 @@ returns-3 c =
     let y = c8 .before .before .before .before .before .before .connect-memories in
     let z = c .before .before .before .before .before .connect-registers in
     refused-3 (a .image .now) (a .net .now) (a .scr .now) (s .pre) _ _ (done-phase (x .result) (c16 .before .enum-told .given .1) (x .ensures))
-    _ _ (done-phase (y .result) (c8 .enum-told2 .given .1) (y .ensures)) (z .result) _ _ (not-done (z .result) (c .match3 .keys2)) (z .ensures)
+    _ _ (done-phase (y .result) (c8 .enum-told2 .given .1) (y .ensures)) (z .result) _ _ (not-done-tag (z .result) (c .match3 .keys2)) (z .ensures)
 
 connect-outputs-requires : tie.Need-connect-outputs-requires
 connect-outputs-requires c κs =

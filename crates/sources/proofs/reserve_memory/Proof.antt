@@ -5,7 +5,7 @@ use Rattle.sources.proofs.reserve_memory.Tie as tie
 use native.Mathlib.Omega.{arith}
 use mathlib.Core.Path.{refl}
 use Rattle.netlist_index.specs.Index.{isGate}
-use Rattle.sources.specs.Phases.{not-done}
+use Rattle.walk_view.proofs.Answers.{not-done-tag}
 use Rattle.sources.proofs.Laws.{first-there, memory-out, memory-both}
 
 record-field-requires : tie.Need-record-field-requires
@@ -31,7 +31,7 @@ returns c =
     let c4 = c .before .before .before .before in
     let c8 = c4 .before .before .before .before in
     let c12 = c8 .before .before .before .before in
-    memory-out _ _ _ _ _ (c12 .args .k) _ _ (c8 .record-field .ensures) (c4 .before .reserve-bits .ensures) (not-done (c4 .before .reserve-bits .result) (c .match .keys2))
+    memory-out _ _ _ _ _ (c12 .args .k) _ _ (c8 .record-field .ensures) (c4 .before .reserve-bits .ensures) (not-done-tag (c4 .before .reserve-bits .result) (c .match .keys2))
 
 signal-width-requires : tie.Need-signal-width-requires
 signal-width-requires c κs = search needs

@@ -8,8 +8,8 @@ use native.Mathlib.Omega.{arith}
 use Rattle.meaning.specs.Image.{decode}
 use Rattle.model.specs.Lowering.{reserveRegisters}
 use Rattle.walk_view.specs.View.{walkState}
-use Rattle.sources.specs.Phases.{not-done}
-use Rattle.sources.specs.Turns.{Turning, turning-start, turning-more, turning-out, turning-end}
+use Rattle.walk_view.proofs.Answers.{not-done-tag}
+use Rattle.walk_view.specs.Turns.{Turning, turning-start, turning-more, turning-out, turning-end}
 use Rattle.sources.specs.Reserves.{outputsAt, registers-turn}
 
 abbrev Inv-loop : tie.InvT-loop
@@ -46,7 +46,7 @@ returns : tie.Need-returns Inv-loop μ-loop
 returns c =
     let c4 = c .before .before .before .before in
     let c8 = c4 .before .before .before .before in
-    turning-out _ _ _ _ _ _ _ _ _ (c8 .before .loop .inv) (c4 .before .reserve-register .result) _ _ (c8 .loop-test .taken) (not-done (c4 .before .reserve-register .result) (c .match .keys2)) (c4 .before .reserve-register .ensures)
+    turning-out _ _ _ _ _ _ _ _ _ (c8 .before .loop .inv) (c4 .before .reserve-register .result) _ _ (c8 .loop-test .taken) (not-done-tag (c4 .before .reserve-register .result) (c .match .keys2)) (c4 .before .reserve-register .ensures)
 
 add-k : tie.Need-add-k Inv-loop μ-loop
 add-k c = omega arith

@@ -2,7 +2,7 @@
 use borrow.Author.Needs.{needs}
 use Rattle.sources.proofs.reserve_sources.Statement.{statement}
 use Rattle.sources.proofs.reserve_sources.Tie as tie
-use Rattle.sources.specs.Phases.{not-done}
+use Rattle.walk_view.proofs.Answers.{not-done-tag}
 use Rattle.sources.proofs.Laws.{sources-inputs, sources-registers, sources-all}
 
 reserve-inputs-requires : tie.Need-reserve-inputs-requires
@@ -18,7 +18,7 @@ same-length-2 : tie.Need-same-length-2
 same-length-2 c = search needs
 
 returns : tie.Need-returns
-returns c = sources-inputs _ _ _ _ _ (c .before .before .before .before .before .reserve-inputs .result) (c .before .before .before .before .before .reserve-inputs .ensures) (not-done (c .before .before .before .before .before .reserve-inputs .result) (c .match .keys2))
+returns c = sources-inputs _ _ _ _ _ (c .before .before .before .before .before .reserve-inputs .result) (c .before .before .before .before .before .reserve-inputs .ensures) (not-done-tag (c .before .before .before .before .before .reserve-inputs .result) (c .match .keys2))
 
 reserve-registers-requires : tie.Need-reserve-registers-requires
 reserve-registers-requires c κs = search needs
@@ -37,7 +37,7 @@ returns-2 c =
     let c4 = c .before .before .before .before in
     let c8 = c4 .before .before .before .before in
     let c12 = c8 .before .before .before .before in
-    sources-registers _ _ _ _ _ _ (c12 .before .before .reserve-inputs .ensures) (c4 .before .reserve-registers .result) _ _ (c8 .enum-told .given .1) (c4 .before .reserve-registers .ensures) (not-done (c4 .before .reserve-registers .result) (c .match2 .keys2))
+    sources-registers _ _ _ _ _ _ (c12 .before .before .reserve-inputs .ensures) (c4 .before .reserve-registers .result) _ _ (c8 .enum-told .given .1) (c4 .before .reserve-registers .ensures) (not-done-tag (c4 .before .reserve-registers .result) (c .match2 .keys2))
 
 reserve-memories-requires : tie.Need-reserve-memories-requires
 reserve-memories-requires c κs = search needs

@@ -6,10 +6,12 @@ use native.Mathlib.Omega.{arith}
 use native.Mathlib.Numerals.{add-one}
 use Rattle.model.specs.Builder.{Out, done, andThen}
 use Rattle.model.specs.Lowering.{State}
 use Rattle.walk_view.specs.declared.Lowered.{Lowered}
 use Rattle.walk_view.specs.declared.Lowered.the-variants.{Done}
 use Rattle.walk_view.specs.View.{walkState, Ready, Kept, outOf, Phase}
-use Rattle.sources.specs.Phases.{Refused, kept-same, kept-then, phase-out}
+use Rattle.walk_view.specs.Answers.{Refused}
+use Rattle.walk_view.specs.Stores.{kept-same, kept-then}
+use Rattle.walk_view.specs.Phases.{phase-out}
 
 -- f i, .. , f (i + n - 1)
 unfoldable pub inTurn : (ℕ → State → Out State) → ℕ → ℕ → State → Out State
