@@ -5,28 +5,28 @@ use mathlib.Core.Path.{_≡_}
 use lib.ListN.{length, getD}
 use Rattle.rtl.specs.Rtl as R
 use Rattle.meaning.specs.Image as image
-use Rattle.expr_laws.specs.Listed.{length-listOf, getD-listOf}
+use Rattle.table_view.specs.Rows.{length-listOf, at-listOf}
 
 module _ (s : List ℕ) (r : ℕ) where
   pub signal-decoded : (d : R.Sig) → r < image.countAt s 0 → getD (image.decode s .signals) r d ≡ image.signalAt s r
   unfolding image.decode
-  signal-decoded d h = getD-listOf _ (image.signalAt s) r d h
+  signal-decoded d h = at-listOf _ (image.signalAt s) r d h
 
   pub expr-decoded : (d : R.Expr) → r < image.countAt s 1 → getD (image.decode s .exprs) r d ≡ image.exprAt s r
   unfolding image.decode
-  expr-decoded d h = getD-listOf _ (image.exprAt s) r d h
+  expr-decoded d h = at-listOf _ (image.exprAt s) r d h
 
   pub assign-decoded : (d : R.Assign) → r < image.countAt s 3 → getD (image.decode s .assigns) r d ≡ image.assignAt s r
   unfolding image.decode
-  assign-decoded d h = getD-listOf _ (image.assignAt s) r d h
+  assign-decoded d h = at-listOf _ (image.assignAt s) r d h
 
   pub register-decoded : (d : R.Register) → r < image.countAt s 4 → getD (image.decode s .registers) r d ≡ image.registerAt s r
   unfolding image.decode
-  register-decoded d h = getD-listOf _ (image.registerAt s) r d h
+  register-decoded d h = at-listOf _ (image.registerAt s) r d h
 
   pub memory-decoded : (d : R.Memory) → r < image.countAt s 5 → getD (image.decode s .memories) r d ≡ image.memoryAt s r
   unfolding image.decode
-  memory-decoded d h = getD-listOf _ (image.memoryAt s) r d h
+  memory-decoded d h = at-listOf _ (image.memoryAt s) r d h
 
 -- how many there are
 pub record Lengths (s : List ℕ) : Type 0 where

@@ -13,7 +13,7 @@ use Rattle.records.specs.declared.Expression.{Expression}
 use Rattle.records.specs.declared.ExprKind.{ExprKind}
 use Rattle.records.specs.declared.ExprKind.the-variants.{Signal, Constant, Unary, Binary, Mux, Concat, Slice}
 use Rattle.word_laws.specs.Widths.{Formed, BelowE, WidthOk}
-use Rattle.expr_laws.specs.Listed.{length-listOf, getD-listOf}
+use Rattle.table_view.specs.Rows.{length-listOf, at-listOf}
 
 abbrev pub exprsOf : List ℕ → List Expr
 exprsOf s = (image.decode s) .exprs
@@ -24,7 +24,7 @@ length-exprs s = length-listOf (image.countAt s 1) (image.exprAt s)
 
 pub expr-at : (s : List ℕ) (e : ℕ) → e < image.countAt s 1 → model.exprAt (exprsOf s) e ≡ image.exprAt s e
 unfolding image.decode
-expr-at s e h = getD-listOf (image.countAt s 1) (image.exprAt s) e (record { width = 0; kind = R.Constant 0 }) h
+expr-at s e h = at-listOf (image.countAt s 1) (image.exprAt s) e (record { width = 0; kind = R.Constant 0 }) h
 
 -- the list words of an expression of width w
 abbrev pub Listed : ℕ → ExprKind → Type 0

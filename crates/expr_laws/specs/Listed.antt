@@ -1,32 +1,14 @@
--- Lists made by `listOf`: their length and their elements. Assumes nothing.
-use mathlib.Core.Path.{_≡_, refl, ap, _∙_}
+-- Lists made by `listOf`: their length and their elements (passed on), bounds of them, the elements from one on. Assumes nothing.
+use mathlib.Core.Path.{_≡_, ap}
 use mathlib.Core.List.{List, [], _∷_}
 use Prim.Native.Nat.{ℕ, zero, suc, _+_, _-_, _≤_, _<_}
 use native.Mathlib.Numerals.{add-one}
 use native.Mathlib.Omega.{arith}
-use native.Mathlib.Nat.{not-suc-le-zero, le-of-suc-le-suc, add-zero, add-suc, suc-add, zero-add}
+use native.Mathlib.Nat.{not-suc-le-zero, le-of-suc-le-suc}
 use lib.ListN.{length, getD}
 use Rattle.rules.specs.Rules.{each, listOf}
 use Rattle.word_laws.specs.Widths.{AllBelow}
-
-length-each : {A : Type 0} (f : ℕ → A) (i n : ℕ) → length (each f i n) ≡ n
-unfolding each
-length-each f i zero = refl
-length-each f i (suc n) = ap suc (length-each f (suc i) n)
-
-getD-each : {A : Type 0} (f : ℕ → A) (i n j : ℕ) (d : A) → j < n → getD (each f i n) j d ≡ f (i + j)
-unfolding each
-getD-each f i zero j d h = absurd (not-suc-le-zero h)
-getD-each f i (suc n) zero d h = rw (add-zero i)
-getD-each f i (suc n) (suc j) d h = getD-each f (suc i) n j d (le-of-suc-le-suc h) ∙ rw (suc-add i j, add-suc i j)
-
-pub length-listOf : {A : Type 0} (n : ℕ) (f : ℕ → A) → length (listOf n f) ≡ n
-unfolding listOf
-length-listOf n f = length-each f 0 n
-
-pub getD-listOf : {A : Type 0} (n : ℕ) (f : ℕ → A) (i : ℕ) (d : A) → i < n → getD (listOf n f) i d ≡ f i
-unfolding listOf
-getD-listOf n f i d h = getD-each f 0 n i d h ∙ rw (zero-add i)
+pub use Rattle.table_view.specs.Rows.{length-listOf, at-listOf as getD-listOf}
 
 pub below-at : (x : ℕ) (l : List ℕ) (i d : ℕ) → AllBelow x l → i < length l → getD l i d < x
 below-at x [] i d b h = absurd (not-suc-le-zero h)
