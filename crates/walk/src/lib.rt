@@ -3,16 +3,18 @@
 // stack: what an expression does between two calls is a turn, outside of the recursion.
 ghost use mathlib.Core.Path.{_≡_};
 ghost use mathlib.Core.Bool.{true};
-ghost use Prim.Native.Nat.{ℕ, _+_, _≤_, _<_};
+ghost use Prim.Native.Nat.{ℕ, _+_, _*_, _≤_, _<_};
 ghost use Rattle.meaning.specs.Image.{countAt, signalWidth, exprWidth};
 ghost use Rattle.model.specs.Words.{Netlist};
 ghost use Rattle.model.specs.Lowering as model;
+ghost use Rattle.checks.specs.Accepted.{Accepted};
 ghost use Rattle.table_view.specs.View.{limitOf, isWhole, stateOf, Laid};
 ghost use Rattle.walk_view.specs.View.{Ready, Sure, Gives};
 ghost use Rattle.walk_steps.specs.Steps.{GivesAll};
 ghost use Rattle.walk_view.specs.declared.Lowered.the-variants as L;
 ghost use Rattle.walk.specs.declared.Part.the-variants as P;
-ghost use Rattle.walk.specs.Walk.{ThereNeed, GivesNeed, FirstTurn, Keeps, Begun, Turns};
+ghost use Rattle.plan.specs.Plan.{bitsNeeds, BitsThere, rangeRest};
+ghost use Rattle.walk.specs.Walk.{ThereNeed, GivesNeed, LeftOf, LeftIn, wholeRest, TurnThere, LeavesTurn, FirstTurn, Keeps, Begun, Turns};
 use plan::Need;
 use plan::Turn;
 use tables::Driver;
@@ -58,7 +60,7 @@ fn next_bit(image: &[u8], scr: &[u32], p: u32, first: u32, n: u32, from: u32) ->
     Left::Build
 }
 
-fn left(image: &[u8], scr: &[u32], turn: Turn, k: u32) -> Left
+fn left_by(image: &[u8], scr: &[u32], turn: Turn, k: u32) -> Left
     requires { ⌜ (Laid (now image) (now scr)) × TurnThere (now image) turn × (k < 4294967295) ⌝ }
     ensures { λ r. ⌜ LeavesTurn (now (image .entry)) (now (scr .entry)) turn k r ⌝ }
 {
@@ -77,7 +79,7 @@ fn whole_left(image: &[u8], scr: &[u32], e: u32, k: u32) -> Left
     if k == LAST {
         return Left::Build;
     }
-    left(image, scr, plan::whole_turn(image, e, k), k)
+    left_by(image, scr, plan::whole_turn(image, e, k), k)
 }
 
 fn range_left(image: &[u8], scr: &[u32], e: u32, lsb: u32, w: u32, k: u32, at: u32) -> Left
@@ -87,7 +89,7 @@ fn range_left(image: &[u8], scr: &[u32], e: u32, lsb: u32, w: u32, k: u32, at: u
     if k == LAST {
         return Left::Build;
     }
-    left(image, scr, plan::range_turn(image, e, lsb, w, k, at), k)
+    left_by(image, scr, plan::range_turn(image, e, lsb, w, k, at), k)
 }
 
 // ---- turns ----
