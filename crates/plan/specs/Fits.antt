@@ -7,7 +7,7 @@ use mathlib.Core.Option.{Option, none, some}
 use Prim.Native.Nat.{ℕ, zero, suc, _+_, _*_, _-_, _^_, _%_, _≤_, _<_, min, max}
 use native.Mathlib.Omega.{arith}
 use lib.Dec.{eqb, ltb}
-use lib.ListN.{length}
+use lib.ListN.{length, drop}
 use borrow.Author.Tests.{ltb-true}
 use Rattle.rules.specs.Rules.{listOf}
 use Rattle.rtl.specs.Rtl as R
@@ -31,9 +31,9 @@ use Rattle.expr_laws.specs.Exprs.{exprsOf, length-exprs}
 use Rattle.accepted.specs.Formed.{readable}
 use Rattle.walk_view.specs.Image.{fits, width-is, width-at, below-each}
 use Rattle.walk_view.specs.View.{rankOf, There}
-use Rattle.plan.specs.Plan.{stepNeeds, operandNeeds, kindNeeds, wholeNeeds, Asked, bitwise, unaryNeeds, binaryNeeds, pieceStep, partNeeds, lowFirst, kindTurns, kindRest, AskedRange, NextAsked, rangeTurns, rangeRest}
+use Rattle.plan.specs.Plan.{stepNeeds, BitsThere, operandNeeds, kindNeeds, wholeNeeds, Asked, bitwise, unaryNeeds, binaryNeeds, pieceStep, partNeeds, lowFirst, kindRest, AskedRange, rangeRest}
 use Rattle.plan.specs.Lists.{piece-next}
-use Rattle.plan.specs.Kinds.{binary-yes, binary-no, whole-read}
+use Rattle.plan.specs.Kinds.{none-left, binary-yes, binary-no, whole-read, needs-short, rest-short}
 
 -- ---- needs of a rank below c ----
 
@@ -239,7 +239,7 @@ module _ (s : List ℕ) (a : Accepted s) (e lsb w : ℕ) (h : e < countAt s 1) (
           rw (binary-yes e x y lsb w op t) (fit-range (2 * e + 2) x (omega arith) (f .0) (rw (b .0) room), (fit-range (2 * e + 2) y (omega arith) (f .1) (rw (b .1) room), tt))
       go false t = rw (binary-no e x y lsb w op t) ((h, omega arith), tt)
 
-  fit-rest : (k : ExprKind) → kindFits s e (exprWidth s e) k → AllFit s (2 * e + 2) (kindRest s e lsb w 0 0 k)
+  fit-rest : (k : ExprKind) → kindFits s e (exprWidth s e) k → AllFit s (2 * e + 2) (kindRest s e lsb w k 0 0)
   unfolding kindRest listOf
   fit-rest (K.Signal p l) f = fit-signal s (2 * e + 2) p (l + lsb) w (f .0) (omega (arith, f .1)) (omega arith)
   fit-rest (K.Constant start) f = tt
@@ -260,8 +260,11 @@ module _ (s : List ℕ) (a : Accepted s) (e lsb w : ℕ) (h : e < countAt s 1) (
 -- ---- what the functions ask ----
 
 module _ (s : List ℕ) (a : Accepted s) (e : ℕ) (h : e < countAt s 1) where
+  bits-there : (p b n : ℕ) → p < countAt s 0 → b + n ≤ signalWidth s p → BitsThere s p b n
+  bits-there p b n h r = record { signal = h; room = r; most = (let m = a .signals p h .width .1 in omega arith) }
+
   ask : (w : ℕ) (k : ExprKind) → kindFits s e w k → Asked s w k
-  ask w (K.Signal p lsb) f = let m = a .signals p (f .0) .width .1 in omega (arith, f .1)
+  ask w (K.Signal p lsb) f = bits-there p lsb w (f .0) (f .1)
   ask w (K.Constant start) f = tt
   ask w (K.Unary op x) f = tt
   ask w (K.Binary op x y) f = record { readable = readable s a; left = omega (arith, f .0); right = omega (arith, f .1) }
@@ -273,7 +276,7 @@ module _ (s : List ℕ) (a : Accepted s) (e : ℕ) (h : e < countAt s 1) where
   asked = ask _ ((expressionOf s e) .kind) (rw (← width-is s e) at (fits s e a h))
 
   ask-range : (lsb w : ℕ) (k : ExprKind) → lsb + w ≤ exprWidth s e → kindFits s e (exprWidth s e) k → AskedRange s lsb w k
-  ask-range lsb w (K.Signal p l) r f = let m = a .signals p (f .0) .width .1 in omega (arith, f .1)
+  ask-range lsb w (K.Signal p l) r f = bits-there p (l + lsb) w (f .0) (omega (arith, f .1))
   ask-range lsb w (K.Constant start) r f = tt
   ask-range lsb w (K.Unary op x) r f = tt
   ask-range lsb w (K.Binary op x y) r f = tt
@@ -289,15 +292,14 @@ module _ (s : List ℕ) (a : Accepted s) (e : ℕ) (h : e < countAt s 1) where
   pub asked-range : (lsb w : ℕ) → lsb + w ≤ exprWidth s e → AskedRange s lsb w ((expressionOf s e) .kind)
   asked-range lsb w r = ask-range lsb w ((expressionOf s e) .kind) r (fits s e a h)
 
-  ask-next : (w k : ℕ) (d : ExprKind) → kindFits s e (exprWidth s e) d → k < kindTurns w d → NextAsked s k d
-  unfolding kindTurns
-  ask-next w k (K.Signal p l) f u = tt
-  ask-next w k (K.Constant start) f u = tt
-  ask-next w k (K.Unary op x) f u = tt
-  ask-next w k (K.Binary op x y) f u = tt
-  ask-next w k (K.Mux x y z) f u = tt
-  ask-next w k (K.Concat start n) f u = (u, omega (arith, f .1, a .most .list), λ i v. a .exprs (listWord s (start + i)) (let b = f .2 i v in omega arith) .most)
-  ask-next w k (K.Slice x l) f u = tt
+  -- ---- no list is long ----
 
-  pub next-asked : (w k : ℕ) → k < rangeTurns s e w → NextAsked s k ((expressionOf s e) .kind)
-  next-asked w k u = ask-next w k ((expressionOf s e) .kind) (fits s e a h) u
+  pub whole-short : (k : ℕ) → 8192 ≤ k → drop k (wholeNeeds s e) ≡ []
+  whole-short k l =
+      let x = expressionOf s e in
+      let r = whole-read s (readable s a) e h x (decoded s e x refl) in
+      let m = needs-short s (x .width) (x .kind) asked in
+      none-left (wholeNeeds s e) k (rw (← r) (omega arith))
+
+  pub range-short : (lsb w k at : ℕ) → lsb + w ≤ exprWidth s e → 8192 ≤ k → rangeRest s e lsb w k at ≡ []
+  range-short lsb w k at r l = rest-short s e lsb w k at ((expressionOf s e) .kind) (asked-range lsb w r) l

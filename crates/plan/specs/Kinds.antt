@@ -24,8 +24,10 @@ use Rattle.op_class.specs.declared.OpClass.{OpClass}
 use Rattle.walk_view.specs.Met.{isSome}
 use Rattle.plan.specs.declared.Need.{Need}
 use Rattle.plan.specs.declared.Need.the-variants.{Bit, Whole, Range, Nothing}
-use Rattle.plan.specs.Plan.{needsOf, stepNeeds, plainOf, operandNeeds, muxNeeds, kindNeeds, wholeNeeds, bitwise, unaryNeeds, binaryNeeds, muxRanges, pieceStep, partNeeds, lowFirst, kindTurns, kindRest, kindNext, AskedRange, NextAsked, rangeTurns, rangeRest}
-use Rattle.plan.specs.Lists.{signal-length, signal-next, low-length, low-next, wholes-length, wholes-drop, piece-next}
+use Rattle.plan.specs.declared.Turn.{Turn}
+use Rattle.plan.specs.declared.Turn.the-variants.{Lower, Last, Bits, Build}
+use Rattle.plan.specs.Plan.{needsOf, stepNeeds, bitsNeeds, TurnOf, TurnIn, plainOf, operandNeeds, pairNeeds, tripleNeeds, lowFirst, partsNeeds, kindNeeds, wholeNeeds, Asked, bitwise, unaryNeeds, binaryNeeds, muxRanges, pieceStep, partNeeds, piecesNeeds, kindRest, AskedParts, AskedRange, rangeRest}
+use Rattle.plan.specs.Lists.{signal-length, low-length, low-next, wholes-length, wholes-drop, piece-next}
 
 -- ---- operands ----
 
@@ -38,98 +40,85 @@ pub operands-add : (s : List ℕ) (op : BinaryOp) (c : OpClass) (a b : ℕ) → 
 unfolding operandsOf
 operands-add s op c a b e f = rw (add-class op, ← e, f)
 
-module _ (o : M.Operands) (k : ℕ) where
-  pub operand-left : k ≡ 0 → drop k (operandNeeds o) ≡ M.Whole (o .lhs) ∷ drop (k + 1) (operandNeeds o)
-  operand-left z = rw z (go (o .carry))
-    where
-      go : (r : Option ℕ) → operandNeeds (record { lhs = o .lhs; rhs = o .rhs; carry = r }) ≡ M.Whole (o .lhs) ∷ drop 1 (operandNeeds (record { lhs = o .lhs; rhs = o .rhs; carry = r }))
-      go none = refl
-      go (some c) = refl
+pub operand-two : (o : M.Operands) → o .carry ≡ none → operandNeeds o ≡ pairNeeds (o .lhs) (o .rhs)
+operand-two o q = rw q
 
-  pub operand-right : k ≡ 1 → drop k (operandNeeds o) ≡ M.Whole (o .rhs) ∷ drop (k + 1) (operandNeeds o)
-  operand-right z = rw z (go (o .carry))
-    where
-      go : (r : Option ℕ) → drop 1 (operandNeeds (record { lhs = o .lhs; rhs = o .rhs; carry = r })) ≡ M.Whole (o .rhs) ∷ drop 2 (operandNeeds (record { lhs = o .lhs; rhs = o .rhs; carry = r }))
-      go none = refl
-      go (some c) = refl
+pub operand-three : (o : M.Operands) (c : ℕ) → o .carry ≡ some c → operandNeeds o ≡ tripleNeeds (o .lhs) (o .rhs) c
+operand-three o c q = rw q
 
-  module _ (h : k < length (operandNeeds o)) (l : k ≡ 0 → ⊥) (m : k ≡ 1 → ⊥) where
-    pub operand-carry : (c : ℕ) → o .carry ≡ some c → drop k (operandNeeds o) ≡ M.Whole c ∷ drop (k + 1) (operandNeeds o)
-    operand-carry c q =
-        let u : k < 3 = rw q at h in
-        let z : k ≡ 2 = omega arith in
-        rw (z, q)
+-- ---- turns ----
 
-    pub operand-none : o .carry ≡ none → {A : Type 0} → A
-    operand-none q = let u : k < 2 = rw q at h in absurd (omega arith)
+pub none-left : {A : Type 0} (l : List A) (k : ℕ) → length l ≤ k → drop k l ≡ []
+none-left l k h = drop-of-length-le l h
 
--- ---- a whole expression: what is left before need k ----
+needs-most : (n : Need) → length (needsOf n) ≤ 1
+needs-most (Bit p b) = omega arith
+needs-most (Whole a) = omega arith
+needs-most (Range a l v) = omega arith
+needs-most Nothing = omega arith
+
+pub one-ends : (n : Need) (k : ℕ) → (k ≡ 0 → ⊥) → drop k (needsOf n) ≡ []
+one-ends n k z = let m = needs-most n in none-left (needsOf n) k (omega (arith, z))
+
+module _ (s : List ℕ) where
+  pub turn-for : (all all₁ : List M.Need) (k : ℕ) (r : Turn) → all₁ ≡ all → TurnIn s all k r → TurnIn s all₁ k r
+  turn-for all all₁ k r e t = rw e t
+
+  pub turn-list : (rest : ℕ → ℕ → List M.Need) (all : List M.Need) (k at : ℕ) (r : Turn) → ((j i : ℕ) → rest j i ≡ drop j all) → TurnIn s all k r → TurnOf s rest k at r
+  turn-list rest all k at (Lower n b) e t = (e k at ∙ t .0 ∙ ap (λ (l : List M.Need). needsOf n ++ l) (sym (e (k + 1) b)), t .1)
+  turn-list rest all k at (Last n) e t = e k at ∙ t
+  turn-list rest all k at (Bits p b n) e t = (t .0, λ j i. e j i ∙ t .1 j i)
+  turn-list rest all k at Build e t = e k at ∙ t
+
+  pub turn-as : (rest rest₁ : ℕ → ℕ → List M.Need) (k at : ℕ) (r : Turn) → ((j i : ℕ) → rest₁ j i ≡ rest j i) → TurnOf s rest k at r → TurnOf s rest₁ k at r
+  turn-as rest rest₁ k at (Lower n b) e t = (e k at ∙ t .0 ∙ ap (λ (l : List M.Need). needsOf n ++ l) (sym (e (k + 1) b)), t .1)
+  turn-as rest rest₁ k at (Last n) e t = e k at ∙ t
+  turn-as rest rest₁ k at (Bits p b n) e t = (t .0, λ j i. e j i ∙ t .1 j i)
+  turn-as rest rest₁ k at Build e t = e k at ∙ t
+
+-- ---- a whole expression: the list of its needs ----
 
 module _ (s : List ℕ) (w : ℕ) (kind : ExprKind) where
-  abbrev pub NextNeed : ℕ → Need → Type 0
-  NextNeed k r = drop k (kindNeeds s w kind) ≡ needsOf r ++ drop (k + 1) (kindNeeds s w kind)
-
-  pub count-signal : (p lsb : ℕ) → kind ≡ K.Signal p lsb → w ≡ length (kindNeeds s w kind)
+  pub needs-signal : (p lsb : ℕ) → kind ≡ K.Signal p lsb → kindNeeds s w kind ≡ bitsNeeds p lsb w
   unfolding kindNeeds kindMeans
-  count-signal p lsb e = rw e (sym (signal-length p lsb w))
+  needs-signal p lsb e = rw e
 
-  pub count-constant : (start : ℕ) → kind ≡ K.Constant start → 0 ≡ length (kindNeeds s w kind)
+  pub needs-constant : (start : ℕ) → kind ≡ K.Constant start → kindNeeds s w kind ≡ []
   unfolding kindNeeds kindMeans
-  count-constant start e = rw e
+  needs-constant start e = rw e
 
-  pub count-unary : (op : UnaryOp) (a : ℕ) → kind ≡ K.Unary op a → 1 ≡ length (kindNeeds s w kind)
+  pub needs-unary : (op : UnaryOp) (a : ℕ) → kind ≡ K.Unary op a → kindNeeds s w kind ≡ M.Whole a ∷ []
   unfolding kindNeeds kindMeans
-  count-unary op a e = rw e
+  needs-unary op a e = rw e
 
-  pub count-binary : (op : BinaryOp) (a b : ℕ) (o : M.Operands) → kind ≡ K.Binary op a b → o ≡ operandsOf (exprsOf s) (binaryMeans op) a b
-      → length (operandNeeds o) ≡ length (kindNeeds s w kind)
+  pub needs-binary : (op : BinaryOp) (a b : ℕ) (o : M.Operands) → kind ≡ K.Binary op a b → o ≡ operandsOf (exprsOf s) (binaryMeans op) a b → kindNeeds s w kind ≡ operandNeeds o
   unfolding kindNeeds kindMeans
-  count-binary op a b o e f = rw (e, f)
+  needs-binary op a b o e f = rw (e, f)
 
-  pub count-mux : (c t f : ℕ) → kind ≡ K.Mux c t f → 3 ≡ length (kindNeeds s w kind)
+  pub needs-mux : (c t f : ℕ) → kind ≡ K.Mux c t f → kindNeeds s w kind ≡ tripleNeeds c t f
   unfolding kindNeeds kindMeans
-  count-mux c t f e = rw e
+  needs-mux c t f e = rw e
 
-  pub count-concat : (start n : ℕ) → kind ≡ K.Concat start n → n ≡ length (kindNeeds s w kind)
+  pub needs-concat : (start n : ℕ) → kind ≡ K.Concat start n → kindNeeds s w kind ≡ partsNeeds s start n
   unfolding kindNeeds kindMeans
-  count-concat start n e = rw e (sym (wholes-length (lowFirst s start n) ∙ low-length n (λ i. listWord s (start + i))))
+  needs-concat start n e = rw e
 
-  pub count-slice : (a lsb : ℕ) → kind ≡ K.Slice a lsb → 1 ≡ length (kindNeeds s w kind)
+  pub needs-slice : (a lsb : ℕ) → kind ≡ K.Slice a lsb → kindNeeds s w kind ≡ M.Range a lsb w ∷ []
   unfolding kindNeeds kindMeans
-  count-slice a lsb e = rw e
+  needs-slice a lsb e = rw e
 
-  module _ (k : ℕ) (h : k < length (kindNeeds s w kind)) where
-    pub need-signal : (p lsb : ℕ) → kind ≡ K.Signal p lsb → NextNeed k (Bit p (lsb + k))
-    unfolding kindNeeds kindMeans
-    need-signal p lsb e = let u : k < w = omega (arith, count-signal p lsb e) in rw e (signal-next p lsb w k u)
+module _ (s : List ℕ) (start n k : ℕ) where
+  parts-length : length (partsNeeds s start n) ≡ n
+  parts-length = wholes-length (lowFirst s start n) ∙ low-length n (λ i. listWord s (start + i))
 
-    pub need-constant : (start : ℕ) → kind ≡ K.Constant start → NextNeed k Nothing
-    need-constant start e = absurd (omega (arith, count-constant start e))
+  pub part-next : (p : ℕ) → k < n → p ≡ listWord s (start + (n - 1 - k)) → drop k (partsNeeds s start n) ≡ M.Whole p ∷ drop (k + 1) (partsNeeds s start n)
+  part-next p u q =
+      rw q
+      (wholes-drop (lowFirst s start n) k ∙ ap (λ (l : List ℕ). stepNeeds (wholes l)) (low-next n (λ i. listWord s (start + i)) k u)
+      ∙ ap (λ (l : List M.Need). M.Whole (listWord s (start + (n - 1 - k))) ∷ l) (sym (wholes-drop (lowFirst s start n) (k + 1))))
 
-    pub need-unary : (op : UnaryOp) (a : ℕ) → kind ≡ K.Unary op a → NextNeed k (Whole a)
-    unfolding kindNeeds kindMeans
-    need-unary op a e = let z : k ≡ 0 = omega (arith, count-unary op a e) in rw (e, z)
-
-    pub need-binary : (op : BinaryOp) (a b : ℕ) (o : M.Operands) (r : Need) → kind ≡ K.Binary op a b → o ≡ operandsOf (exprsOf s) (binaryMeans op) a b
-        → drop k (operandNeeds o) ≡ needsOf r ++ drop (k + 1) (operandNeeds o) → NextNeed k r
-    unfolding kindNeeds kindMeans
-    need-binary op a b o r e f g = rw e (rw f at g)
-
-    pub need-mux : (c t f : ℕ) (r : Need) → kind ≡ K.Mux c t f → drop k (muxNeeds c t f) ≡ needsOf r ++ drop (k + 1) (muxNeeds c t f) → NextNeed k r
-    unfolding kindNeeds kindMeans
-    need-mux c t f r e g = rw e g
-
-    pub need-concat : (start n p : ℕ) → kind ≡ K.Concat start n → p ≡ listWord s (start + (n - 1 - k)) → NextNeed k (Whole p)
-    unfolding kindNeeds kindMeans
-    need-concat start n p e q =
-        let u : k < n = omega (arith, count-concat start n e) in
-        rw (e, q)
-        (wholes-drop (lowFirst s start n) k ∙ ap (λ (l : List ℕ). stepNeeds (wholes l)) (low-next n (λ i. listWord s (start + i)) k u)
-        ∙ ap (λ (l : List M.Need). M.Whole (listWord s (start + (n - 1 - k))) ∷ l) (sym (wholes-drop (lowFirst s start n) (k + 1))))
-
-    pub need-slice : (a lsb : ℕ) → kind ≡ K.Slice a lsb → NextNeed k (Range a lsb w)
-    unfolding kindNeeds kindMeans
-    need-slice a lsb e = let z : k ≡ 0 = omega (arith, count-slice a lsb e) in rw (e, z)
+  pub parts-end : n ≤ k → drop k (partsNeeds s start n) ≡ []
+  parts-end u = none-left (partsNeeds s start n) k (rw parts-length u)
 
 -- the expression that was read
 pub whole-read : (s : List ℕ) (g : Readable s) (e : ℕ) → e < countAt s 1 → (x : Expression) → Decoded s e x → kindNeeds s (x .width) (x .kind) ≡ wholeNeeds s e
@@ -165,83 +154,56 @@ module _ (lsb end at p v : ℕ) where
   unfolding partNeeds
   part-no lo hi l h u = rw (← l, ← h, le-ltb lo hi u)
 
+-- the list of a range's needs
 module _ (s : List ℕ) (e lsb w : ℕ) (kind : ExprKind) where
-  abbrev pub NextTurn : ℕ → ℕ → Need → Type 0
-  NextTurn k at r = kindRest s e lsb w k at kind ≡ needsOf r ++ kindRest s e lsb w (k + 1) (kindNext s k at kind) kind
+  pub rest-signal : (p l : ℕ) → kind ≡ K.Signal p l → (j i : ℕ) → kindRest s e lsb w kind j i ≡ drop j (bitsNeeds p (l + lsb) w)
+  unfolding kindRest
+  rest-signal p l q j i = rw q
 
-  module _ (k at : ℕ) (h : k < kindTurns w kind) where
-    pub turn-signal : (p l : ℕ) → kind ≡ K.Signal p l → NextTurn k at (Bit p (l + lsb + k))
-    unfolding kindRest kindTurns
-    turn-signal p l q = let u : k < w = rw q at h in rw q (signal-next p (l + lsb) w k u)
+  pub rest-constant : (start : ℕ) → kind ≡ K.Constant start → (j i : ℕ) → kindRest s e lsb w kind j i ≡ []
+  unfolding kindRest
+  rest-constant start q j i = rw q
 
-    pub turn-constant : (start : ℕ) → kind ≡ K.Constant start → NextTurn k at Nothing
-    unfolding kindRest
-    turn-constant start q = rw q
+  pub rest-unary : (op : UnaryOp) (a : ℕ) (r : Need) → kind ≡ K.Unary op a → unaryNeeds op e a lsb w ≡ needsOf r → (j i : ℕ) → kindRest s e lsb w kind j i ≡ drop j (needsOf r)
+  unfolding kindRest
+  rest-unary op a r q f j i = rw (q, f)
 
-    pub turn-unary : (op : UnaryOp) (a : ℕ) (r : Need) → kind ≡ K.Unary op a → unaryNeeds op e a lsb w ≡ needsOf r → NextTurn k at r
-    unfolding kindRest kindTurns
-    turn-unary op a r q f =
-        let u : k < 1 = rw q at h in
-        let z : k ≡ 0 = omega arith in
-        rw (q, z, f) (one r)
-      where
-        one : (r : Need) → needsOf r ≡ needsOf r ++ drop 1 (needsOf r)
-        one (Bit p b) = refl
-        one (Whole a) = refl
-        one (Range a l v) = refl
-        one Nothing = refl
+  pub rest-binary : (op : BinaryOp) (a b : ℕ) → kind ≡ K.Binary op a b → (j i : ℕ) → kindRest s e lsb w kind j i ≡ drop j (binaryNeeds op e a b lsb w)
+  unfolding kindRest
+  rest-binary op a b q j i = rw q
 
-    pub turn-binary : (op : BinaryOp) (a b : ℕ) (r : Need) → kind ≡ K.Binary op a b
-        → drop k (binaryNeeds op e a b lsb w) ≡ needsOf r ++ drop (k + 1) (binaryNeeds op e a b lsb w) → NextTurn k at r
-    unfolding kindRest
-    turn-binary op a b r q f = rw q f
+  pub rest-mux : (c t f : ℕ) → kind ≡ K.Mux c t f → (j i : ℕ) → kindRest s e lsb w kind j i ≡ drop j (muxRanges c t f lsb w)
+  unfolding kindRest
+  rest-mux c t f q j i = rw q
 
-    pub turn-mux : (c t f : ℕ) (r : Need) → kind ≡ K.Mux c t f → drop k (muxRanges c t f lsb w) ≡ needsOf r ++ drop (k + 1) (muxRanges c t f lsb w) → NextTurn k at r
-    unfolding kindRest
-    turn-mux c t f r q g = rw q g
+  pub rest-concat : (start n : ℕ) → kind ≡ K.Concat start n → (j i : ℕ) → kindRest s e lsb w kind j i ≡ piecesNeeds s start n lsb w j i
+  unfolding kindRest
+  rest-concat start n q j i = rw q
 
-    pub turn-concat : (start n p v : ℕ) (r : Need) → AskedRange s lsb w kind → kind ≡ K.Concat start n → p ≡ listWord s (start + (n - 1 - k)) → v ≡ exprWidth s p
-        → partNeeds lsb (lsb + w) at p v ≡ needsOf r → NextTurn k at r
-    unfolding kindRest kindTurns kindNext
-    turn-concat start n p v r a q f g m =
-        let u : k < n = rw q at h in
-        let x : p ≡ listWord s (start + (n - 1 - k)) = f in
-        let y : widthAt (exprsOf s) p ≡ v = ap (widthAt (exprsOf s)) f ∙ (rw q at a) .3 (n - 1 - k) (omega arith) ∙ ap (exprWidth s) (sym f) ∙ sym g in
-        let z : exprWidth s (listWord s (start + (n - 1 - k))) ≡ v = ap (exprWidth s) (sym f) ∙ sym g in
-        rw (q, z)
-        (ap (λ (l : List ℕ). stepNeeds (map pieceStep (pieces (exprsOf s) lsb (lsb + w) at l))) (low-next n (λ i. listWord s (start + i)) k u)
-        ∙ ap (λ (c : ℕ). stepNeeds (map pieceStep (pieces (exprsOf s) lsb (lsb + w) at (c ∷ drop (k + 1) (lowFirst s start n))))) (sym f)
-        ∙ piece-next (exprsOf s) lsb (lsb + w) at p v (drop (k + 1) (lowFirst s start n)) y
-        ∙ ap (λ (l : List M.Need). l ++ stepNeeds (map pieceStep (pieces (exprsOf s) lsb (lsb + w) (at + v) (drop (k + 1) (lowFirst s start n))))) m)
+  pub rest-slice : (a l : ℕ) → kind ≡ K.Slice a l → (j i : ℕ) → kindRest s e lsb w kind j i ≡ drop j (M.Range a (l + lsb) w ∷ [])
+  unfolding kindRest
+  rest-slice a l q j i = rw q
 
-    pub turn-slice : (a l : ℕ) → kind ≡ K.Slice a l → NextTurn k at (Range a (l + lsb) w)
-    unfolding kindRest kindTurns
-    turn-slice a l q =
-        let u : k < 1 = rw q at h in
-        let z : k ≡ 0 = omega arith in
-        rw (q, z)
+-- part k of a Concat, v wide
+module _ (s : List ℕ) (start n lsb w k p v : ℕ) (a : AskedParts s start n lsb w) (u : k < n) (f : p ≡ listWord s (start + (n - 1 - k))) (g : v ≡ exprWidth s p) where
+  pub part-most : v ≤ 1024
+  part-most = rw (g, f) (a .2 (n - 1 - k) (omega arith))
 
-    pub part-there : (start n : ℕ) → kind ≡ K.Concat start n → k < n
-    unfolding kindTurns
-    part-there start n q = rw q at h
+  pub piece-turn : (at : ℕ) (r : Need) → partNeeds lsb (lsb + w) at p v ≡ needsOf r → piecesNeeds s start n lsb w k at ≡ needsOf r ++ piecesNeeds s start n lsb w (k + 1) (at + v)
+  piece-turn at r m =
+      let y : widthAt (exprsOf s) p ≡ v = ap (widthAt (exprsOf s)) f ∙ a .3 (n - 1 - k) (omega arith) ∙ ap (exprWidth s) (sym f) ∙ sym g in
+      ap (λ (l : List ℕ). stepNeeds (map pieceStep (pieces (exprsOf s) lsb (lsb + w) at l))) (low-next n (λ i. listWord s (start + i)) k u)
+      ∙ ap (λ (c : ℕ). stepNeeds (map pieceStep (pieces (exprsOf s) lsb (lsb + w) at (c ∷ drop (k + 1) (lowFirst s start n))))) (sym f)
+      ∙ piece-next (exprsOf s) lsb (lsb + w) at p v (drop (k + 1) (lowFirst s start n)) y
+      ∙ ap (λ (l : List M.Need). l ++ piecesNeeds s start n lsb w (k + 1) (at + v)) m
 
--- a part's width
-pub part-most : (s : List ℕ) (lsb w : ℕ) (kind : ExprKind) (k start n p v : ℕ) → AskedRange s lsb w kind → kind ≡ K.Concat start n → k < n → p ≡ listWord s (start + (n - 1 - k)) → v ≡ exprWidth s p → v ≤ 1024
-part-most s lsb w kind k start n p v a q u f g = rw (g, f) ((rw q at a) .2 (n - 1 - k) (omega arith))
-
-pub next-most : (s : List ℕ) (k : ℕ) (kind : ExprKind) (start n p v : ℕ) → NextAsked s k kind → kind ≡ K.Concat start n → p ≡ listWord s (start + (n - 1 - k)) → v ≡ exprWidth s p → v ≤ 1024
-next-most s k kind start n p v a q f g =
-    let b = rw q at a in
-    let u : k < n = b .0 in
-    rw (g, f) (b .2 (n - 1 - k) (omega arith))
-
-pub next-concat : (s : List ℕ) (k at : ℕ) (kind : ExprKind) (start n p v : ℕ) → kind ≡ K.Concat start n → p ≡ listWord s (start + (n - 1 - k)) → v ≡ exprWidth s p → at + v ≡ kindNext s k at kind
-unfolding kindNext
-next-concat s k at kind start n p v q f g = rw (q, g, f)
+pub pieces-end : (s : List ℕ) (start n lsb w k at : ℕ) → n ≤ k → piecesNeeds s start n lsb w k at ≡ []
+unfolding pieces
+pieces-end s start n lsb w k at u = rw (none-left (lowFirst s start n) k (rw (low-length n (λ i. listWord s (start + i))) u))
 
 -- ---- the range's needs, at the loop's start and end ----
 
-begins : (s : List ℕ) (e lsb w v : ℕ) (k : ExprKind) → stepNeeds (M.kindRangeSteps (exprsOf s) e lsb w (kindMeans s v k)) ≡ kindRest s e lsb w 0 0 k
+begins : (s : List ℕ) (e lsb w v : ℕ) (k : ExprKind) → stepNeeds (M.kindRangeSteps (exprsOf s) e lsb w (kindMeans s v k)) ≡ kindRest s e lsb w k 0 0
 unfolding kindMeans kindRest concatPieces unaryNeeds binaryNeeds
 begins s e lsb w v (K.Signal p l) = refl
 begins s e lsb w v (K.Constant start) = refl
@@ -257,8 +219,7 @@ range-begins s g e lsb w h =
     let x = expressionOf s e in
     rw (kind-read s g e h x (decoded s e x refl)) (begins s e lsb w (x .width) (x .kind))
 
-none-left : {A : Type 0} (l : List A) (k : ℕ) → length l ≤ k → drop k l ≡ []
-none-left l k h = drop-of-length-le l h
+-- ---- no list is long ----
 
 one-wide : (op : UnaryOp) (e a lsb w : ℕ) → length (unaryNeeds op e a lsb w) ≡ 1
 unfolding unaryNeeds
@@ -275,15 +236,33 @@ two-wide op e a b lsb w = go (bitwise op) refl
     go true h = ap length (binary-yes e a b lsb w op h)
     go false h = ap length (binary-no e a b lsb w op h)
 
-ends : (s : List ℕ) (e lsb w k at : ℕ) (kind : ExprKind) → kindTurns w kind ≤ k → kindRest s e lsb w k at kind ≡ []
-unfolding kindTurns kindRest pieces
-ends s e lsb w k at (K.Signal p l) h = none-left _ k (rw (signal-length p (l + lsb) w) h)
-ends s e lsb w k at (K.Constant start) h = refl
-ends s e lsb w k at (K.Unary op a) h = none-left _ k (rw (one-wide op e a lsb w) h)
-ends s e lsb w k at (K.Binary op a b) h = none-left _ k (rw (two-wide op e a b lsb w) h)
-ends s e lsb w k at (K.Mux c t f) h = none-left _ k h
-ends s e lsb w k at (K.Concat start n) h = rw (none-left (lowFirst s start n) k (rw (low-length n (λ i. listWord s (start + i))) h))
-ends s e lsb w k at (K.Slice a l) h = none-left _ k h
+operands-most : (o : M.Operands) → length (operandNeeds o) ≤ 3
+operands-most o = go (o .carry)
+  where
+    go : (r : Option ℕ) → length (operandNeeds (record { lhs = o .lhs; rhs = o .rhs; carry = r })) ≤ 3
+    go none = omega arith
+    go (some c) = omega arith
 
-pub range-ends : (s : List ℕ) (e lsb w k at : ℕ) → rangeTurns s e w ≤ k → rangeRest s e lsb w k at ≡ []
-range-ends s e lsb w k at h = ends s e lsb w k at ((expressionOf s e) .kind) h
+pub needs-short : (s : List ℕ) (w : ℕ) (kind : ExprKind) → Asked s w kind → length (kindNeeds s w kind) ≤ 8192
+unfolding kindNeeds kindMeans
+needs-short s w (K.Signal p lsb) a = omega (arith, signal-length p lsb w, a .most)
+needs-short s w (K.Constant start) a = omega arith
+needs-short s w (K.Unary op x) a = omega arith
+needs-short s w (K.Binary op x y) a = omega (arith, operands-most (operandsOf (exprsOf s) (binaryMeans op) x y))
+needs-short s w (K.Mux c t f) a = omega arith
+needs-short s w (K.Concat start n) a = omega (arith, parts-length s start n 0, a)
+needs-short s w (K.Slice x lsb) a = omega arith
+
+pub rest-short : (s : List ℕ) (e lsb w k at : ℕ) (kind : ExprKind) → AskedRange s lsb w kind → 8192 ≤ k → kindRest s e lsb w kind k at ≡ []
+unfolding kindRest
+rest-short s e lsb w k at (K.Signal p l) a h = none-left _ k (omega (arith, signal-length p (l + lsb) w, a .most))
+rest-short s e lsb w k at (K.Constant start) a h = refl
+rest-short s e lsb w k at (K.Unary op x) a h = none-left _ k (omega (arith, one-wide op e x lsb w))
+rest-short s e lsb w k at (K.Binary op x y) a h = none-left _ k (two-short (bitwise op) (two-wide op e x y lsb w))
+  where
+    two-short : (t : Bool) → length (binaryNeeds op e x y lsb w) ≡ cond t 2 1 → length (binaryNeeds op e x y lsb w) ≤ k
+    two-short true q = omega arith
+    two-short false q = omega arith
+rest-short s e lsb w k at (K.Mux c t f) a h = none-left _ k (omega arith)
+rest-short s e lsb w k at (K.Concat start n) a h = pieces-end s start n lsb w k at (omega (arith, a .0))
+rest-short s e lsb w k at (K.Slice x l) a h = none-left _ k (omega arith)

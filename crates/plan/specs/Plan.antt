@@ -1,12 +1,12 @@
 -- The needs that the answers stand for, and the lists of needs of the lowering model by the code's kinds. Assumes nothing.
 use mathlib.Core.Path.{_≡_}
 use mathlib.Core.Bool.{Bool, cond}
-use mathlib.Core.List.{List, [], _∷_, map}
+use mathlib.Core.List.{List, [], _∷_, _++_, map}
 use mathlib.Core.Option.{none}
-use Prim.Native.Nat.{ℕ, _+_, _-_, _≤_, _<_, min, max}
+use Prim.Native.Nat.{ℕ, _+_, _*_, _-_, _≤_, _<_, min, max}
 use lib.Dec.{ltb}
 use lib.ListN.{drop}
-use Rattle.meaning.specs.Image.{exprWidth, listWord}
+use Rattle.meaning.specs.Image.{countAt, signalWidth, exprWidth, listWord}
 use Rattle.model.specs.Ranges.{widthAt, classOf}
 use Rattle.model.specs.Lowering as M
 use Rattle.model.specs.Lowering.{Step, Always, Piece, operandSteps, kindSteps, wholeSteps, backwards, pieces, isBitNot, gateOf, gateSteps}
@@ -20,6 +20,8 @@ use Rattle.fusion.specs.Fusion.{Inside, partsOf}
 use Rattle.walk_view.specs.Met.{stepNeed, isSome}
 use Rattle.plan.specs.declared.Need.{Need}
 use Rattle.plan.specs.declared.Need.the-variants.{Bit, Whole, Range, Nothing}
+use Rattle.plan.specs.declared.Turn.{Turn}
+use Rattle.plan.specs.declared.Turn.the-variants.{Lower, Last, Bits, Build}
 
 -- none or one
 abbrev pub needsOf : Need → List M.Need
@@ -31,6 +33,28 @@ needsOf Nothing = []
 abbrev pub stepNeeds : List Step → List M.Need
 stepNeeds ss = map stepNeed ss
 
+-- ---- turns ----
+
+-- bits of a signal, the first and how many
+abbrev pub bitsNeeds : ℕ → ℕ → ℕ → List M.Need
+bitsNeeds p b n = stepNeeds (M.signalSteps p b n)
+
+pub record BitsThere (s : List ℕ) (p b n : ℕ) : Type 0 where
+  pub signal : p < countAt s 0
+  pub room : b + n ≤ signalWidth s p
+  pub most : b + n ≤ 1024
+
+-- what turn k answers, where rest k at is left before it and at is where the part of a Concat that it takes begins
+abbrev pub TurnOf : List ℕ → (ℕ → ℕ → List M.Need) → ℕ → ℕ → Turn → Type 0
+TurnOf s rest k at (Lower n at₁) = (rest k at ≡ needsOf n ++ rest (k + 1) at₁) × (at₁ ≤ 1024 * (k + 1))
+TurnOf s rest k at (Last n) = rest k at ≡ needsOf n
+TurnOf s rest k at (Bits p b n) = BitsThere s p b n × ((j i : ℕ) → rest j i ≡ drop j (bitsNeeds p b n))
+TurnOf s rest k at Build = rest k at ≡ []
+
+-- where all of a list is lowered, one by one
+abbrev pub TurnIn : List ℕ → List M.Need → ℕ → Turn → Type 0
+TurnIn s all k r = TurnOf s (λ j i. drop j all) k 0 r
+
 -- ---- a whole expression ----
 
 abbrev pub operandNeeds : M.Operands → List M.Need
@@ -39,8 +63,18 @@ operandNeeds o = stepNeeds (operandSteps o)
 abbrev pub plainOf : ℕ → ℕ → M.Operands
 plainOf a b = record { lhs = a; rhs = b; carry = none }
 
-abbrev pub muxNeeds : ℕ → ℕ → ℕ → List M.Need
-muxNeeds c t f = M.Whole c ∷ M.Whole t ∷ M.Whole f ∷ []
+abbrev pub pairNeeds : ℕ → ℕ → List M.Need
+pairNeeds a b = M.Whole a ∷ M.Whole b ∷ []
+
+abbrev pub tripleNeeds : ℕ → ℕ → ℕ → List M.Need
+tripleNeeds a b c = M.Whole a ∷ M.Whole b ∷ M.Whole c ∷ []
+
+-- the parts of a Concat, the least significant first
+abbrev pub lowFirst : List ℕ → ℕ → ℕ → List ℕ
+lowFirst s start n = backwards (partsOf s start n) []
+
+abbrev pub partsNeeds : List ℕ → ℕ → ℕ → List M.Need
+partsNeeds s start n = stepNeeds (M.wholes (lowFirst s start n))
 
 -- an expression of image s, width w
 unfoldable pub kindNeeds : List ℕ → ℕ → ExprKind → List M.Need
@@ -51,7 +85,7 @@ wholeNeeds s e = stepNeeds (wholeSteps (exprsOf s) e)
 
 -- what is asked of a kind: numbers are small, operands are there
 abbrev pub Asked : List ℕ → ℕ → ExprKind → Type 0
-Asked s w (K.Signal p lsb) = lsb + w ≤ 1024
+Asked s w (K.Signal p lsb) = BitsThere s p lsb w
 Asked s w (K.Constant start) = Unit {0}
 Asked s w (K.Unary op a) = Unit {0}
 Asked s w (K.Binary op a b) = Inside s a b
@@ -80,66 +114,33 @@ pieceStep p = Always (M.Range (p .part) (p .lsb) (p .width))
 unfoldable pub partNeeds : ℕ → ℕ → ℕ → ℕ → ℕ → List M.Need
 partNeeds lsb end at p v = cond (ltb (max lsb at) (min end (at + v))) (M.Range p (max lsb at - at) (min end (at + v) - max lsb at) ∷ []) []
 
--- the parts, the least significant first
-abbrev pub lowFirst : List ℕ → ℕ → ℕ → List ℕ
-lowFirst s start n = backwards (partsOf s start n) []
+-- what is left of a Concat's parts before turn k, whose part begins at bit at
+abbrev pub piecesNeeds : List ℕ → ℕ → ℕ → ℕ → ℕ → ℕ → ℕ → List M.Need
+piecesNeeds s start n lsb w k at = stepNeeds (map pieceStep (pieces (exprsOf s) lsb (lsb + w) at (drop k (lowFirst s start n))))
 
--- how many turns a loop over the range's needs takes, and what is left before turn k, where part k of a Concat begins at bit at
-unfoldable pub kindTurns : ℕ → ExprKind → ℕ
-kindTurns w (K.Signal p l) = w
-kindTurns w (K.Constant start) = 0
-kindTurns w (K.Unary op a) = 1
-kindTurns w (K.Binary op a b) = cond (bitwise op) 2 1
-kindTurns w (K.Mux c t f) = 3
-kindTurns w (K.Concat start n) = n
-kindTurns w (K.Slice a l) = 1
+unfoldable pub kindRest : List ℕ → ℕ → ℕ → ℕ → ExprKind → ℕ → ℕ → List M.Need
+kindRest s e lsb w (K.Signal p l) k at = drop k (bitsNeeds p (l + lsb) w)
+kindRest s e lsb w (K.Constant start) k at = []
+kindRest s e lsb w (K.Unary op a) k at = drop k (unaryNeeds op e a lsb w)
+kindRest s e lsb w (K.Binary op a b) k at = drop k (binaryNeeds op e a b lsb w)
+kindRest s e lsb w (K.Mux c t f) k at = drop k (muxRanges c t f lsb w)
+kindRest s e lsb w (K.Concat start n) k at = piecesNeeds s start n lsb w k at
+kindRest s e lsb w (K.Slice a l) k at = drop k (M.Range a (l + lsb) w ∷ [])
 
-unfoldable pub kindRest : List ℕ → ℕ → ℕ → ℕ → ℕ → ℕ → ExprKind → List M.Need
-kindRest s e lsb w k at (K.Signal p l) = drop k (stepNeeds (M.signalSteps p (l + lsb) w))
-kindRest s e lsb w k at (K.Constant start) = []
-kindRest s e lsb w k at (K.Unary op a) = drop k (unaryNeeds op e a lsb w)
-kindRest s e lsb w k at (K.Binary op a b) = drop k (binaryNeeds op e a b lsb w)
-kindRest s e lsb w k at (K.Mux c t f) = drop k (muxRanges c t f lsb w)
-kindRest s e lsb w k at (K.Concat start n) = stepNeeds (map pieceStep (pieces (exprsOf s) lsb (lsb + w) at (drop k (lowFirst s start n))))
-kindRest s e lsb w k at (K.Slice a l) = drop k (M.Range a (l + lsb) w ∷ [])
-
--- where the part after part k begins
-unfoldable pub kindNext : List ℕ → ℕ → ℕ → ExprKind → ℕ
-kindNext s k at (K.Signal p l) = at
-kindNext s k at (K.Constant start) = at
-kindNext s k at (K.Unary op a) = at
-kindNext s k at (K.Binary op a b) = at
-kindNext s k at (K.Mux c t f) = at
-kindNext s k at (K.Concat start n) = at + exprWidth s (listWord s (start + (n - 1 - k)))
-kindNext s k at (K.Slice a l) = at
+abbrev pub AskedParts : List ℕ → ℕ → ℕ → ℕ → ℕ → Type 0
+AskedParts s start n lsb w =
+    (start + n ≤ 8192) × (lsb + w ≤ 1024) × ((i : ℕ) → i < n → exprWidth s (listWord s (start + i)) ≤ 1024)
+    × ((i : ℕ) → i < n → widthAt (exprsOf s) (listWord s (start + i)) ≡ exprWidth s (listWord s (start + i)))
 
 abbrev pub AskedRange : List ℕ → ℕ → ℕ → ExprKind → Type 0
-AskedRange s lsb w (K.Signal p l) = l + lsb + w ≤ 1024
+AskedRange s lsb w (K.Signal p l) = BitsThere s p (l + lsb) w
 AskedRange s lsb w (K.Constant start) = Unit {0}
 AskedRange s lsb w (K.Unary op a) = Unit {0}
 AskedRange s lsb w (K.Binary op a b) = Unit {0}
 AskedRange s lsb w (K.Mux c t f) = Unit {0}
-AskedRange s lsb w (K.Concat start n) =
-    (start + n ≤ 8192) × (lsb + w ≤ 1024) × ((i : ℕ) → i < n → exprWidth s (listWord s (start + i)) ≤ 1024)
-    × ((i : ℕ) → i < n → widthAt (exprsOf s) (listWord s (start + i)) ≡ exprWidth s (listWord s (start + i)))
+AskedRange s lsb w (K.Concat start n) = AskedParts s start n lsb w
 AskedRange s lsb w (K.Slice a l) = l + lsb ≤ 1024
 
--- part k of a Concat is there
-abbrev pub NextAsked : List ℕ → ℕ → ExprKind → Type 0
-NextAsked s k (K.Signal p l) = Unit {0}
-NextAsked s k (K.Constant start) = Unit {0}
-NextAsked s k (K.Unary op a) = Unit {0}
-NextAsked s k (K.Binary op a b) = Unit {0}
-NextAsked s k (K.Mux c t f) = Unit {0}
-NextAsked s k (K.Concat start n) = (k < n) × (start + n ≤ 8192) × ((i : ℕ) → i < n → exprWidth s (listWord s (start + i)) ≤ 1024)
-NextAsked s k (K.Slice a l) = Unit {0}
-
 -- of expression e
-abbrev pub rangeTurns : List ℕ → ℕ → ℕ → ℕ
-rangeTurns s e w = kindTurns w ((expressionOf s e) .kind)
-
 abbrev pub rangeRest : List ℕ → ℕ → ℕ → ℕ → ℕ → ℕ → List M.Need
-rangeRest s e lsb w k at = kindRest s e lsb w k at ((expressionOf s e) .kind)
-
-abbrev pub rangeNext : List ℕ → ℕ → ℕ → ℕ → ℕ
-rangeNext s e k at = kindNext s k at ((expressionOf s e) .kind)
+rangeRest s e lsb w k at = kindRest s e lsb w ((expressionOf s e) .kind) k at

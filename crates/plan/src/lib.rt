@@ -1,16 +1,14 @@
 // What is lowered before an expression, or before a range of it, one by one: pure functions of the image.
 ghost use mathlib.Core.Path.{_≡_};
-ghost use mathlib.Core.Bool.{cond};
-ghost use mathlib.Core.List.{_++_};
+ghost use mathlib.Core.List.{List};
 ghost use Prim.Native.Nat.{ℕ, _+_, _*_, _≤_, _<_, min, max};
-ghost use lib.ListN.{length, drop};
 ghost use Rattle.meaning.specs.Image.{countAt, exprWidth};
 ghost use Rattle.model.specs.Lowering as model;
 ghost use Rattle.checks.specs.Accepted.{Accepted};
-ghost use Rattle.records.specs.Expr.{binaryMeans, expressionOf};
+ghost use Rattle.records.specs.Expr.{binaryMeans};
 ghost use Rattle.expr_laws.specs.Exprs.{exprsOf};
 ghost use Rattle.fusion.specs.Fusion.{Inside, shown};
-ghost use Rattle.plan.specs.Plan.{needsOf, operandNeeds, plainOf, muxNeeds, kindNeeds, wholeNeeds, Asked, bitwise, unaryNeeds, binaryNeeds, muxRanges, partNeeds, kindTurns, kindRest, kindNext, AskedRange, NextAsked, rangeTurns, rangeRest, rangeNext};
+ghost use Rattle.plan.specs.Plan.{needsOf, TurnOf, TurnIn, operandNeeds, plainOf, pairNeeds, tripleNeeds, partsNeeds, kindNeeds, wholeNeeds, Asked, bitwise, unaryNeeds, binaryNeeds, muxRanges, partNeeds, piecesNeeds, kindRest, AskedParts, AskedRange, rangeRest};
 use fusion::Carry;
 use fusion::Operands;
 use op_class::OpClass;
@@ -24,6 +22,24 @@ pub enum Need {
     Whole(u32),
     Range(u32, u32, u32),
     Nothing,
+}
+
+// What turn k of a loop over what is lowered before an expression, or a range of it, takes: one need, and where the part of a Concat that
+// the next turn takes begins; the last need; the bits of a signal (the first, how many) from the k-th on; or nothing is left.
+pub enum Turn {
+    Lower(Need, u32),
+    Last(Need),
+    Bits(u32, u32, u32),
+    Build,
+}
+
+fn one(need: Need, k: u32) -> Turn
+    ensures { λ r. ⌜ ((s : List ℕ) → TurnIn s (needsOf need) k r) ⌝ }
+{
+    if k == 0 {
+        return Turn::Last(need);
+    }
+    Turn::Build
 }
 
 // ---- a whole expression ----
@@ -52,94 +68,76 @@ pub fn operands(image: &[u8], op: BinaryOp, lhs: u32, rhs: u32) -> Operands
     }
 }
 
-fn operand_count(o: Operands) -> u32
-    ensures { λ r. ⌜ r ≡ length (operandNeeds (shown o)) ⌝ }
-{
-    let carry = o.carry;
-    match carry {
-        Carry::Of(_) => 3,
-        Carry::Nothing => 2,
-    }
-}
-
-fn operand(o: Operands, k: u32) -> Need
-    requires { ⌜ k < length (operandNeeds (shown o)) ⌝ }
-    ensures { λ r. ⌜ drop k (operandNeeds (shown o)) ≡ needsOf r ++ drop (k + 1) (operandNeeds (shown o)) ⌝ }
+fn pair(a: u32, b: u32, k: u32) -> Turn
+    ensures { λ r. ⌜ ((s : List ℕ) → TurnIn s (pairNeeds a b) k r) ⌝ }
 {
     if k == 0 {
-        return Need::Whole(o.lhs);
+        return Turn::Lower(Need::Whole(a), 0);
     }
     if k == 1 {
-        return Need::Whole(o.rhs);
+        return Turn::Last(Need::Whole(b));
     }
+    Turn::Build
+}
+
+fn triple(a: u32, b: u32, c: u32, k: u32) -> Turn
+    ensures { λ r. ⌜ ((s : List ℕ) → TurnIn s (tripleNeeds a b c) k r) ⌝ }
+{
+    if k == 0 {
+        return Turn::Lower(Need::Whole(a), 0);
+    }
+    if k == 1 {
+        return Turn::Lower(Need::Whole(b), 0);
+    }
+    if k == 2 {
+        return Turn::Last(Need::Whole(c));
+    }
+    Turn::Build
+}
+
+fn operand(o: Operands, k: u32) -> Turn
+    ensures { λ r. ⌜ ((s : List ℕ) → TurnIn s (operandNeeds (shown o)) k r) ⌝ }
+{
     let carry = o.carry;
     let Carry::Of(c) = carry else {
-        return Need::Nothing;
+        return pair(o.lhs, o.rhs, k);
     };
-    Need::Whole(c)
+    triple(o.lhs, o.rhs, c, k)
 }
 
-fn mux_operand(c: u32, t: u32, f: u32, k: u32) -> Need
-    requires { ⌜ k < 3 ⌝ }
-    ensures { λ r. ⌜ drop k (muxNeeds c t f) ≡ needsOf r ++ drop (k + 1) (muxNeeds c t f) ⌝ }
+// The parts of a Concat, the least significant first.
+fn part(image: &[u8], start: u32, count: u32, k: u32) -> Turn
+    requires { ⌜ start + count ≤ 8192 ⌝ }
+    ensures { λ r. ⌜ ((s : List ℕ) → TurnIn s (partsNeeds (now (image .entry)) start count) k r) ⌝ }
 {
-    if k == 0 {
-        return Need::Whole(c);
+    if k < count {
+        return Turn::Lower(
+            Need::Whole(fields::list_word(image, start + (count - 1 - k))),
+            0,
+        );
     }
-    if k == 1 {
-        return Need::Whole(t);
-    }
-    Need::Whole(f)
+    Turn::Build
 }
 
-fn kind_count(image: &[u8], width: u32, kind: ExprKind) -> u32
+fn kind_need(image: &[u8], width: u32, kind: ExprKind, k: u32) -> Turn
     requires { ⌜ Asked (now image) width kind ⌝ }
-    ensures { λ r. ⌜ r ≡ length (kindNeeds (now (image .entry)) width kind) ⌝ }
+    ensures { λ r. ⌜ TurnIn (now (image .entry)) (kindNeeds (now (image .entry)) width kind) k r ⌝ }
 {
     match kind {
-        ExprKind::Signal(_, _) => width,
-        ExprKind::Constant(_) => 0,
-        ExprKind::Unary(_, _) => 1,
-        ExprKind::Binary(op, a, b) => operand_count(operands(image, op, a, b)),
-        ExprKind::Mux(_, _, _) => 3,
-        ExprKind::Concat(_, count) => count,
-        ExprKind::Slice(_, _) => 1,
-    }
-}
-
-// How many things are lowered before expression e.
-pub fn whole_count(image: &[u8], e: u32) -> u32
-    requires { ⌜ (Accepted (now image)) × (e < countAt (now image) 1) ⌝ }
-    ensures { λ r. ⌜ r ≡ length (wholeNeeds (now (image .entry)) e) ⌝ }
-{
-    let x = records::expression_at(image, e);
-    let width = x.width;
-    let kind = x.kind;
-    kind_count(image, width, kind)
-}
-
-fn kind_need(image: &[u8], width: u32, kind: ExprKind, k: u32) -> Need
-    requires { ⌜ (Asked (now image) width kind) × (k < length (kindNeeds (now image) width kind)) ⌝ }
-    ensures { λ r. ⌜ drop k (kindNeeds (now (image .entry)) width kind) ≡ needsOf r ++ drop (k + 1) (kindNeeds (now (image .entry)) width kind) ⌝ }
-{
-    match kind {
-        ExprKind::Signal(p, lsb) => Need::Bit(p, lsb + k),
-        ExprKind::Constant(_) => Need::Nothing,
-        ExprKind::Unary(_, a) => Need::Whole(a),
+        ExprKind::Signal(p, lsb) => Turn::Bits(p, lsb, width),
+        ExprKind::Constant(_) => Turn::Build,
+        ExprKind::Unary(_, a) => one(Need::Whole(a), k),
         ExprKind::Binary(op, a, b) => operand(operands(image, op, a, b), k),
-        ExprKind::Mux(c, t, f) => mux_operand(c, t, f, k),
-        ExprKind::Concat(start, count) => Need::Whole(fields::list_word(
-            image,
-            start + (count - 1 - k),
-        )),
-        ExprKind::Slice(a, lsb) => Need::Range(a, lsb, width),
+        ExprKind::Mux(c, t, f) => triple(c, t, f, k),
+        ExprKind::Concat(start, count) => part(image, start, count, k),
+        ExprKind::Slice(a, lsb) => one(Need::Range(a, lsb, width), k),
     }
 }
 
-// The k-th of them.
-pub fn whole_need(image: &[u8], e: u32, k: u32) -> Need
-    requires { ⌜ (Accepted (now image)) × (e < countAt (now image) 1) × (k < length (wholeNeeds (now image) e)) ⌝ }
-    ensures { λ r. ⌜ drop k (wholeNeeds (now (image .entry)) e) ≡ needsOf r ++ drop (k + 1) (wholeNeeds (now (image .entry)) e) ⌝ }
+// Turn k before expression e.
+pub fn whole_turn(image: &[u8], e: u32, k: u32) -> Turn
+    requires { ⌜ (Accepted (now image)) × (e < countAt (now image) 1) ⌝ }
+    ensures { λ r. ⌜ TurnIn (now (image .entry)) (wholeNeeds (now (image .entry)) e) k r ⌝ }
 {
     let x = records::expression_at(image, e);
     let width = x.width;
@@ -173,30 +171,34 @@ pub fn is_bitwise(op: BinaryOp) -> bool
     }
 }
 
-fn binary_range(op: BinaryOp, e: u32, a: u32, b: u32, lsb: u32, w: u32, k: u32) -> Need
-    requires { ⌜ k < cond (bitwise op) 2 1 ⌝ }
-    ensures { λ r. ⌜ drop k (binaryNeeds op e a b lsb w) ≡ needsOf r ++ drop (k + 1) (binaryNeeds op e a b lsb w) ⌝ }
+fn binary_range(op: BinaryOp, e: u32, a: u32, b: u32, lsb: u32, w: u32, k: u32) -> Turn
+    ensures { λ r. ⌜ ((s : List ℕ) → TurnIn s (binaryNeeds op e a b lsb w) k r) ⌝ }
 {
-    if is_bitwise(op) {
-        if k == 0 {
-            return Need::Range(a, lsb, w);
-        }
-        return Need::Range(b, lsb, w);
+    if !is_bitwise(op) {
+        return one(Need::Whole(e), k);
     }
-    Need::Whole(e)
-}
-
-fn mux_range(c: u32, t: u32, f: u32, lsb: u32, w: u32, k: u32) -> Need
-    requires { ⌜ k < 3 ⌝ }
-    ensures { λ r. ⌜ drop k (muxRanges c t f lsb w) ≡ needsOf r ++ drop (k + 1) (muxRanges c t f lsb w) ⌝ }
-{
     if k == 0 {
-        return Need::Whole(c);
+        return Turn::Lower(Need::Range(a, lsb, w), 0);
     }
     if k == 1 {
-        return Need::Range(t, lsb, w);
+        return Turn::Last(Need::Range(b, lsb, w));
     }
-    Need::Range(f, lsb, w)
+    Turn::Build
+}
+
+fn mux_range(c: u32, t: u32, f: u32, lsb: u32, w: u32, k: u32) -> Turn
+    ensures { λ r. ⌜ ((s : List ℕ) → TurnIn s (muxRanges c t f lsb w) k r) ⌝ }
+{
+    if k == 0 {
+        return Turn::Lower(Need::Whole(c), 0);
+    }
+    if k == 1 {
+        return Turn::Lower(Need::Range(t, lsb, w), 0);
+    }
+    if k == 2 {
+        return Turn::Last(Need::Range(f, lsb, w));
+    }
+    Turn::Build
 }
 
 fn larger(a: u32, b: u32) -> u32
@@ -224,86 +226,40 @@ fn part_range(lsb: u32, end: u32, at: u32, p: u32, v: u32) -> Need
     Need::Nothing
 }
 
-fn kind_turns(w: u32, kind: ExprKind) -> u32
-    ensures { λ r. ⌜ r ≡ kindTurns w kind ⌝ }
+// Of a Concat's part k, which begins at bit at, what stands in the range.
+fn concat_range(image: &[u8], start: u32, count: u32, lsb: u32, w: u32, k: u32, at: u32) -> Turn
+    requires { ⌜ (AskedParts (now image) start count lsb w) × (at ≤ 1024 * k) ⌝ }
+    ensures { λ r. ⌜ TurnOf (now (image .entry)) (piecesNeeds (now (image .entry)) start count lsb w) k at r ⌝ }
 {
-    match kind {
-        ExprKind::Signal(_, _) => w,
-        ExprKind::Constant(_) => 0,
-        ExprKind::Unary(_, _) => 1,
-        ExprKind::Binary(op, _, _) => {
-            if is_bitwise(op) {
-                return 2;
-            }
-            1
-        }
-        ExprKind::Mux(_, _, _) => 3,
-        ExprKind::Concat(_, count) => count,
-        ExprKind::Slice(_, _) => 1,
+    if k < count {
+        let part = fields::list_word(image, start + (count - 1 - k));
+        let v = fields::expr_width(image, part);
+        return Turn::Lower(part_range(lsb, lsb + w, at, part, v), at + v);
     }
+    Turn::Build
 }
 
-// How many turns a loop over what is lowered before a range, w wide, of expression e takes.
-pub fn range_turns(image: &[u8], e: u32, w: u32) -> u32
-    ensures { λ r. ⌜ r ≡ rangeTurns (now (image .entry)) e w ⌝ }
-{
-    let x = records::expression_at(image, e);
-    let kind = x.kind;
-    kind_turns(w, kind)
-}
-
-fn kind_range(image: &[u8], e: u32, lsb: u32, w: u32, kind: ExprKind, k: u32, at: u32) -> Need
-    requires { ⌜ (AskedRange (now image) lsb w kind) × (k < kindTurns w kind) × (at ≤ 1024 * k) ⌝ }
-    ensures { λ r. ⌜ kindRest (now (image .entry)) e lsb w k at kind ≡ needsOf r ++ kindRest (now (image .entry)) e lsb w (k + 1) (kindNext (now (image .entry)) k at kind) kind ⌝ }
+fn kind_range(image: &[u8], e: u32, lsb: u32, w: u32, kind: ExprKind, k: u32, at: u32) -> Turn
+    requires { ⌜ (AskedRange (now image) lsb w kind) × (at ≤ 1024 * k) ⌝ }
+    ensures { λ r. ⌜ TurnOf (now (image .entry)) (kindRest (now (image .entry)) e lsb w kind) k at r ⌝ }
 {
     match kind {
-        ExprKind::Signal(p, l) => Need::Bit(p, l + lsb + k),
-        ExprKind::Constant(_) => Need::Nothing,
-        ExprKind::Unary(op, a) => unary_range(op, e, a, lsb, w),
+        ExprKind::Signal(p, l) => Turn::Bits(p, l + lsb, w),
+        ExprKind::Constant(_) => Turn::Build,
+        ExprKind::Unary(op, a) => one(unary_range(op, e, a, lsb, w), k),
         ExprKind::Binary(op, a, b) => binary_range(op, e, a, b, lsb, w, k),
         ExprKind::Mux(c, t, f) => mux_range(c, t, f, lsb, w, k),
-        ExprKind::Concat(start, count) => {
-            let part = fields::list_word(image, start + (count - 1 - k));
-            part_range(lsb, lsb + w, at, part, fields::expr_width(image, part))
-        }
-        ExprKind::Slice(a, l) => Need::Range(a, l + lsb, w),
+        ExprKind::Concat(start, count) => concat_range(image, start, count, lsb, w, k, at),
+        ExprKind::Slice(a, l) => one(Need::Range(a, l + lsb, w), k),
     }
 }
 
-// What is lowered in turn k, in which the part of a Concat begins at bit at.
-pub fn range_need(image: &[u8], e: u32, lsb: u32, w: u32, k: u32, at: u32) -> Need
-    requires { ⌜ (Accepted (now image)) × (e < countAt (now image) 1) × (lsb + w ≤ exprWidth (now image) e) × (k < rangeTurns (now image) e w) × (at ≤ 1024 * k) ⌝ }
-    ensures { λ r. ⌜ rangeRest (now (image .entry)) e lsb w k at ≡ needsOf r ++ rangeRest (now (image .entry)) e lsb w (k + 1) (rangeNext (now (image .entry)) e k at) ⌝ }
+// Turn k before a range of expression e; the part of a Concat that it takes begins at bit at.
+pub fn range_turn(image: &[u8], e: u32, lsb: u32, w: u32, k: u32, at: u32) -> Turn
+    requires { ⌜ (Accepted (now image)) × (e < countAt (now image) 1) × (lsb + w ≤ exprWidth (now image) e) × (at ≤ 1024 * k) ⌝ }
+    ensures { λ r. ⌜ TurnOf (now (image .entry)) (rangeRest (now (image .entry)) e lsb w) k at r ⌝ }
 {
     let x = records::expression_at(image, e);
     let kind = x.kind;
     kind_range(image, e, lsb, w, kind, k, at)
-}
-
-fn kind_next(image: &[u8], kind: ExprKind, k: u32, at: u32) -> u32
-    requires { ⌜ (NextAsked (now image) k kind) × (at ≤ 1024 * k) ⌝ }
-    ensures { λ r. ⌜ (r ≡ kindNext (now (image .entry)) k at kind) × (r ≤ 1024 * (k + 1)) ⌝ }
-{
-    match kind {
-        ExprKind::Concat(start, count) => {
-            let part = fields::list_word(image, start + (count - 1 - k));
-            at + fields::expr_width(image, part)
-        }
-        ExprKind::Signal(_, _) => at,
-        ExprKind::Constant(_) => at,
-        ExprKind::Unary(_, _) => at,
-        ExprKind::Binary(_, _, _) => at,
-        ExprKind::Mux(_, _, _) => at,
-        ExprKind::Slice(_, _) => at,
-    }
-}
-
-// Where the part of the next turn begins.
-pub fn range_next(image: &[u8], e: u32, k: u32, at: u32) -> u32
-    requires { ⌜ (NextAsked (now image) k ((expressionOf (now image) e) .kind)) × (at ≤ 1024 * k) ⌝ }
-    ensures { λ r. ⌜ (r ≡ rangeNext (now (image .entry)) e k at) × (r ≤ 1024 * (k + 1)) ⌝ }
-{
-    let x = records::expression_at(image, e);
-    let kind = x.kind;
-    kind_next(image, kind, k, at)
 }

@@ -1,3 +1,4 @@
 -- Laws that the proofs of the walk cite.
 pub mod Steps
+pub mod Lefts
 pub mod Ways

@@ -29,13 +29,14 @@ use Rattle.walk_view.specs.View.{walkState, Ready, Sure, There, outOf, Builds, 
 use Rattle.sure_laws.specs.Sure.{sure-done, sure-marks}
 use Rattle.plan.specs.declared.Need.{Need}
 use Rattle.plan.specs.declared.Need.the-variants.{Bit, Whole, Range, Nothing}
-use Rattle.plan.specs.Plan.{needsOf, stepNeeds, wholeNeeds, rangeTurns, rangeRest}
+use Rattle.plan.specs.Plan.{needsOf, stepNeeds, wholeNeeds, rangeRest}
 use Rattle.plan.specs.Kinds.{range-begins}
 use Rattle.plan.specs.Fits.{AllFit, whole-fits, range-fits}
 use Rattle.walk.specs.declared.Part.{Part}
 use Rattle.walk.specs.declared.Part.the-variants as P
+use Rattle.walk.specs.declared.Left.the-variants as F
 use Rattle.walk.specs.Needs.{lowerNeeds, NeedsMet}
-use Rattle.walk.specs.Walk.{ThereNeed, GivesNeed, costNeed, LoopAt, WholeLoop, RangeLoop, needOf, At, Below, FirstTurn, driven, Keeps}
+use Rattle.walk.specs.Walk.{ThereNeed, GivesNeed, costNeed, Skips, LeftOf, wholeRest, LoopAt, WholeLoop, RangeLoop, needOf, At, Below, FirstTurn, driven, Keeps}
 use Rattle.sure_laws.specs.Stores.{no-store, stored-ready, stored-kept, stored-state, stored-grows, kept-same, kept-then}
 use Rattle.walk_steps.specs.Answers.{Refused, out, not-done}
 use Rattle.walk.proofs.Steps.{needs-none, needs-on, needs-out, all-needs, need-suc, whole-there, whole-open, range-there, range-open, bit-there, bit-undriven, bit-loop, bit-driven}
@@ -289,6 +290,29 @@ module _ (s net w : List ℕ) (p b : ℕ) (r : Ready s net w) (hp : p < countAt 
               met-now : (y : Lowered) → y ≡ Done → met (driven y p b e o (walkState s net₂ w₂)) (M.Bit p b) ≡ true
               met-now y q = rw q (bit-met s net₂ w₂ p b hp hb (wholeNet (walkState s net₂ w₂) e o))
 
+-- ---- needs that are met are passed over ----
+
+met-gives : (s net w : List ℕ) (n : M.Need) → Ready s net w → There s n → met (walkState s net w) n ≡ true → Gives s net w n Done net w
+unfolding met
+met-gives s net w (M.Bit p b) r h m = go (signalBit (walkState s net w) p b) refl
+  where
+    go : (o : Option ℕ) → signalBit (walkState s net w) p b ≡ o → Gives s net w (M.Bit p b) Done net w
+    go none e = absurd (true≢false (sym m ∙ ap isSome e))
+    go (some n) e = bit-known s net w p b r (h .0) (h .1) n e
+met-gives s net w (M.Whole e) r h m = whole-known s net w e r h (met-whole s net w e r h m)
+met-gives s net w (M.Range e lsb k) r h m = range-known s net w e lsb k r m
+
+module _ (s net₀ w₀ : List ℕ) (n₀ : M.Need) (all : List Step) (cont : State → Out State) (net w : List ℕ) where
+  pass : (ms rest rest₁ : List M.Need) → LoopAt s net₀ w₀ n₀ all cont rest net w → rest ≡ ms ++ rest₁ → NeedsMet (walkState s net w) ms
+      → LoopAt s net₀ w₀ n₀ all cont rest₁ net w
+  pass [] rest rest₁ h e m = subst (λ (l : List M.Need). LoopAt s net₀ w₀ n₀ all cont l net w) e h
+  pass (x ∷ ms) rest rest₁ h e m =
+      let there-it = (subst (AllFit s (rankOf n₀)) e (h .fits)) .0 .0 in
+      pass ms (ms ++ rest₁) rest₁ (turn-one s net₀ w₀ n₀ all cont rest (ms ++ rest₁) net w net w h x Done e (met-gives s net w x (h .ready) there-it (m .0)) refl) refl (m .1)
+
+  pub loop-pass : (rest rest₁ : List M.Need) → LoopAt s net₀ w₀ n₀ all cont rest net w → Skips s w rest rest₁ → LoopAt s net₀ w₀ n₀ all cont rest₁ net w
+  loop-pass rest rest₁ h k = pass (k .skipped) rest rest₁ h (k .split) (k .known _)
+
 -- ---- the loops' starts ----
 
 module _ (s net w : List ℕ) (e : ℕ) (r : Ready s net w) (i : Sure s net w) (h : e < countAt s 1) where
@@ -325,20 +349,21 @@ module _ (s net₀ w₀ : List ℕ) (e k at : ℕ) (net w : List ℕ) (h : At s 
       go zero z = rw (h .first z .0, h .first z .1, z) (whole-start s net w e (h .ready) (h .sure) (h .there) (sym (f .0 z) ∙ t))
       go (suc j) z = h .later (omega arith)
 
-pub whole-below : (s net₀ w₀ : List ℕ) (e k : ℕ) (net w : List ℕ) (n : Need) → WholeLoop s net₀ w₀ e (drop k (wholeNeeds s e)) net w
-    → drop k (wholeNeeds s e) ≡ needsOf n ++ drop (k + 1) (wholeNeeds s e) → k < length (wholeNeeds s e) → k + 1 < 4294967296
-    → Below s net₀ w₀ (P.Whole e) k n 0 net w
-whole-below s net₀ w₀ e k net w n h split more small = record {
-  ready = h .ready;
-  sure = h .sure;
-  there = need-there s net₀ w₀ (M.Whole e) _ _ _ _ net w net w h n split;
-  place = omega arith;
-  turn = more;
-  small = small;
-  less = need-less s net₀ w₀ (M.Whole e) _ _ _ _ net w net w h n (omega arith) split;
-  on = λ x net₁ w₁ g d. loop-turn s net₀ w₀ (M.Whole e) _ _ _ _ net w net₁ w₁ h n x split g d;
-  out = λ x net₁ w₁ g q. loop-out s net₀ w₀ (M.Whole e) _ _ _ _ net w net₁ w₁ h n x split g q;
-}
+pub whole-below : (s net₀ w₀ : List ℕ) (e k : ℕ) (net w : List ℕ) (n : Need) (k₁ at₁ : ℕ) → WholeLoop s net₀ w₀ e (drop k (wholeNeeds s e)) net w
+    → LeftOf s w (wholeRest s e) k 0 (F.Lower n k₁ at₁) → Below s net₀ w₀ (P.Whole e) k n k₁ at₁ net w
+whole-below s net₀ w₀ e k net w n k₁ at₁ l left =
+    let h = loop-pass s net₀ w₀ (M.Whole e) _ _ net w _ _ l (left .0) in
+    record {
+      ready = h .ready;
+      sure = h .sure;
+      there = need-there s net₀ w₀ (M.Whole e) _ _ _ _ net w net w h n refl;
+      place = left .3;
+      further = left .1;
+      small = left .2;
+      less = need-less s net₀ w₀ (M.Whole e) _ _ _ _ net w net w h n (omega arith) refl;
+      on = λ x net₁ w₁ g d. loop-turn s net₀ w₀ (M.Whole e) _ _ _ _ net w net₁ w₁ h n x refl g d;
+      out = λ x net₁ w₁ g q. loop-out s net₀ w₀ (M.Whole e) _ _ _ (drop k₁ (wholeNeeds s e)) net w net₁ w₁ h n x refl g q;
+    }
 
 module _ (s net₀ w₀ : List ℕ) (e lsb n k at : ℕ) (net w : List ℕ) (h : At s net₀ w₀ (P.Range e lsb n) k at net w) (r : Bool)
     (f : FirstTurn k r (rangeKnown (walkState s net w) e lsb n)) where
@@ -359,20 +384,21 @@ module _ (s net₀ w₀ : List ℕ) (e lsb n k at : ℕ) (net w : List ℕ) (h :
           (rw (h .first z .0, h .first z .1, z, a) (range-start s net w e (h .ready) (h .sure) (h .there .0) lsb n (h .there .1) u), range-some (walkState s net w) e lsb n u)
       go (suc j) z = h .later (omega arith)
 
-pub range-below : (s net₀ w₀ : List ℕ) (e lsb m k at : ℕ) (net w : List ℕ) (n : Need) (at₁ : ℕ) → RangeLoop s net₀ w₀ e lsb m (rangeRest s e lsb m k at) net w × (1 ≤ m)
-    → rangeRest s e lsb m k at ≡ needsOf n ++ rangeRest s e lsb m (k + 1) at₁ → k < rangeTurns s e m → k + 1 < 4294967296 → at₁ ≤ 1024 * (k + 1)
-    → Below s net₀ w₀ (P.Range e lsb m) k n at₁ net w
-range-below s net₀ w₀ e lsb m k at net w n at₁ h split more small place = record {
-  ready = h .0 .ready;
-  sure = h .0 .sure;
-  there = need-there s net₀ w₀ (M.Range e lsb m) _ _ _ _ net w net w (h .0) n split;
-  place = place;
-  turn = more;
-  small = small;
-  less = need-less s net₀ w₀ (M.Range e lsb m) _ _ _ _ net w net w (h .0) n (omega arith) split;
-  on = λ x net₁ w₁ g d. (loop-turn s net₀ w₀ (M.Range e lsb m) _ _ _ _ net w net₁ w₁ (h .0) n x split g d, h .1);
-  out = λ x net₁ w₁ g q. loop-out s net₀ w₀ (M.Range e lsb m) _ _ _ _ net w net₁ w₁ (h .0) n x split g q;
-}
+pub range-below : (s net₀ w₀ : List ℕ) (e lsb m k at : ℕ) (net w : List ℕ) (n : Need) (k₁ at₁ : ℕ) → RangeLoop s net₀ w₀ e lsb m (rangeRest s e lsb m k at) net w × (1 ≤ m)
+    → LeftOf s w (rangeRest s e lsb m) k at (F.Lower n k₁ at₁) → Below s net₀ w₀ (P.Range e lsb m) k n k₁ at₁ net w
+range-below s net₀ w₀ e lsb m k at net w n k₁ at₁ l left =
+    let h = loop-pass s net₀ w₀ (M.Range e lsb m) _ _ net w _ _ (l .0) (left .0) in
+    record {
+      ready = h .ready;
+      sure = h .sure;
+      there = need-there s net₀ w₀ (M.Range e lsb m) _ _ _ _ net w net w h n refl;
+      place = left .3;
+      further = left .1;
+      small = left .2;
+      less = need-less s net₀ w₀ (M.Range e lsb m) _ _ _ _ net w net w h n (omega arith) refl;
+      on = λ x net₁ w₁ g d. (loop-turn s net₀ w₀ (M.Range e lsb m) _ _ _ _ net w net₁ w₁ h n x refl g d, l .1);
+      out = λ x net₁ w₁ g q. loop-out s net₀ w₀ (M.Range e lsb m) _ _ _ (rangeRest s e lsb m k₁ at₁) net w net₁ w₁ h n x refl g q;
+    }
 
 -- where a part begins plays no part
 pub whole-at : (s net₀ w₀ : List ℕ) (e k at : ℕ) (net w : List ℕ) → At s net₀ w₀ (P.Whole e) k at net w → At s net₀ w₀ (P.Whole e) k 0 net w
@@ -412,17 +438,17 @@ need-sure s net w (Whole e) x net₁ w₁ r i h g d = sure-done s net w net₁ w
 need-sure s net w (Range e lsb k) x net₁ w₁ r i h g d = sure-done s net w net₁ w₁ (M.Range e lsb k) x d (r .accepted) i h g
 need-sure s net w Nothing x net₁ w₁ r i h g d = rw (g .1, g .2) i
 
-pub turn-next : (s net₀ w₀ : List ℕ) (part : Part) (k : ℕ) (n : Need) (at : ℕ) (net w : List ℕ) → There s (needOf part) → Below s net₀ w₀ part k n at net w
+pub turn-next : (s net₀ w₀ : List ℕ) (part : Part) (k : ℕ) (n : Need) (k₁ at : ℕ) (net w : List ℕ) → There s (needOf part) → Below s net₀ w₀ part k n k₁ at net w
     → (x : Lowered) (net₁ w₁ : List ℕ) → GivesNeed s net w n x net₁ w₁ → x ≡ Done → length net₁ ≡ length net₀ → length w₁ ≡ length w₀
-    → At s net₀ w₀ part (k + 1) at net₁ w₁
-turn-next s net₀ w₀ part k n at net w t h x net₁ w₁ g d netLong long = record {
+    → At s net₀ w₀ part k₁ at net₁ w₁
+turn-next s net₀ w₀ part k n k₁ at net w t h x net₁ w₁ g d netLong long = record {
   ready = need-ready s net w n x net₁ w₁ (h .ready) g;
   sure = need-sure s net w n x net₁ w₁ (h .ready) (h .sure) (h .there) g d;
   there = t;
   netLong = netLong;
   long = long;
   place = h .place;
-  first = λ z. absurd (omega arith);
+  first = λ z. absurd (omega (arith, h .further));
   later = λ z. h .on x net₁ w₁ g d;
 }
 

@@ -1,16 +1,18 @@
--- What a call for a need gives; of a part, what stands before turn k (`At`) and after it (`After`); what keeping a driven bit's net writes.
+-- What a call for a need gives; what is left to lower (`LeftOf`); of a part, what stands before turn k (`At`) and after it (`After`); what
+-- keeping a driven bit's net writes.
 -- Assumes nothing.
 use mathlib.Core.Path.{_≡_}
 use mathlib.Core.Bool.{Bool, false}
-use mathlib.Core.List.{List}
-use Prim.Native.Nat.{ℕ, suc, _+_, _*_, _≤_, _<_}
+use mathlib.Core.List.{List, [], _++_}
+use Prim.Native.Nat.{ℕ, suc, _*_, _≤_, _<_}
 use lib.ListN.{length, drop}
 use Rattle.meaning.specs.Image.{decode}
+use Rattle.model.specs.Words.{Netlist}
 use Rattle.model.specs.Builder.{Out, andThen}
 use Rattle.model.specs.Lowering as M
 use Rattle.model.specs.Lowering.{State, Step, lowerNeed, setSignalBit, wholeNet, wholeSteps, rangeSteps, keepWhole, keepRange, buildWhole, buildRange}
 use Rattle.expr_laws.specs.Exprs.{exprsOf}
-use Rattle.table_view.specs.View.{Writes}
+use Rattle.table_view.specs.View.{stateOf, Writes}
 use Rattle.walk_view.specs.declared.Lowered.{Lowered}
 use Rattle.walk_view.specs.declared.Lowered.the-variants.{Done, Undriven, Loop, Reset, TooManyNets, ListFull}
 use Rattle.walk_view.specs.Met.{AllMet, Grows}
@@ -18,10 +20,14 @@ use Rattle.walk_view.specs.View.{walkState, Ready, Sure, Kept, There, rankOf, c
 use Rattle.walk_steps.specs.Answers.{Refused}
 use Rattle.plan.specs.declared.Need.{Need}
 use Rattle.plan.specs.declared.Need.the-variants.{Bit, Whole, Range, Nothing}
-use Rattle.plan.specs.Plan.{wholeNeeds, rangeTurns, rangeRest}
+use Rattle.plan.specs.declared.Turn.{Turn}
+use Rattle.plan.specs.declared.Turn.the-variants as T
+use Rattle.plan.specs.Plan.{needsOf, BitsThere, TurnOf, wholeNeeds, rangeRest}
 use Rattle.plan.specs.Fits.{AllFit}
 use Rattle.walk.specs.declared.Part.{Part}
 use Rattle.walk.specs.declared.Part.the-variants as P
+use Rattle.walk.specs.declared.Left.{Left}
+use Rattle.walk.specs.declared.Left.the-variants as F
 use Rattle.walk.specs.declared.Next.{Next}
 use Rattle.walk.specs.declared.Next.the-variants.{Lower, Over}
 use Rattle.walk.specs.Needs.{lowerNeeds, NeedsMet}
@@ -45,6 +51,36 @@ costNeed s w (Bit p b) = costOf s w (M.Bit p b)
 costNeed s w (Whole e) = costOf s w (M.Whole e)
 costNeed s w (Range e lsb k) = costOf s w (M.Range e lsb k)
 costNeed s w Nothing = 0
+
+-- ---- what is left to lower ----
+
+-- rest is needs that the tables have met, followed by rest₁
+pub record Skips (s w : List ℕ) (rest rest₁ : List M.Need) : Type 0 where
+  pub skipped : List M.Need
+  pub split : rest ≡ skipped ++ rest₁
+  pub known : (l : Netlist) → NeedsMet (stateOf s l w) skipped
+
+-- where rest k at is left before turn k
+abbrev pub LeftOf : List ℕ → List ℕ → (ℕ → ℕ → List M.Need) → ℕ → ℕ → Left → Type 0
+LeftOf s w rest k at (F.Lower n k₁ at₁) = Skips s w (rest k at) (needsOf n ++ rest k₁ at₁) × (k < k₁) × (k₁ < 4294967296) × (at₁ ≤ 1024 * k₁)
+LeftOf s w rest k at F.Build = Skips s w (rest k at) []
+
+abbrev pub LeftIn : List ℕ → List ℕ → List M.Need → ℕ → Left → Type 0
+LeftIn s w all k r = LeftOf s w (λ j i. drop j all) k 0 r
+
+abbrev pub wholeRest : List ℕ → ℕ → ℕ → ℕ → List M.Need
+wholeRest s e k at = drop k (wholeNeeds s e)
+
+-- the bits that a turn takes are in the image
+abbrev pub TurnThere : List ℕ → Turn → Type 0
+TurnThere s (T.Lower n at) = Unit {0}
+TurnThere s (T.Last n) = Unit {0}
+TurnThere s (T.Bits p b n) = BitsThere s p b n
+TurnThere s T.Build = Unit {0}
+
+-- no list has as many needs as the number of the turn after the last one
+abbrev pub LeavesTurn : List ℕ → List ℕ → Turn → ℕ → Left → Type 0
+LeavesTurn s w turn k r = (rest : ℕ → ℕ → List M.Need) (at : ℕ) → rest 4294967295 0 ≡ [] → TurnOf s rest k at turn → LeftOf s w rest k at r
 
 -- ---- between two calls: the need n₀ was asked for at net₀, w₀; at net, w there is rest left to lower, and cont after that ----
 
@@ -71,10 +107,6 @@ abbrev pub needOf : Part → M.Need
 needOf (P.Whole e) = M.Whole e
 needOf (P.Range e lsb n) = M.Range e lsb n
 
-abbrev pub turnsOf : List ℕ → Part → ℕ
-turnsOf s (P.Whole e) = length (wholeNeeds s e)
-turnsOf s (P.Range e lsb n) = rangeTurns s e n
-
 -- what is left after the first k turns, 0 < k
 abbrev pub Open : List ℕ → List ℕ → List ℕ → Part → ℕ → ℕ → List ℕ → List ℕ → Type 0
 Open s net₀ w₀ (P.Whole e) k at net w = WholeLoop s net₀ w₀ e (drop k (wholeNeeds s e)) net w
@@ -90,20 +122,20 @@ pub record At (s net₀ w₀ : List ℕ) (part : Part) (k at : ℕ) (net w : Lis
   pub first : k ≡ 0 → (net₀ ≡ net) × (w₀ ≡ w)
   pub later : 0 < k → Open s net₀ w₀ part k at net w
 
--- turn k answered that n is to be lowered: that costs less; done, it leads to the next turn, and a refusal is the part's
-pub record Below (s net₀ w₀ : List ℕ) (part : Part) (k : ℕ) (n : Need) (at : ℕ) (net w : List ℕ) : Type 0 where
+-- turn k answered that n is to be lowered, and then turn k₁ follows: that costs less; done, it leads to that turn, and a refusal is the part's
+pub record Below (s net₀ w₀ : List ℕ) (part : Part) (k : ℕ) (n : Need) (k₁ at : ℕ) (net w : List ℕ) : Type 0 where
   pub ready : Ready s net w
   pub sure : Sure s net w
   pub there : ThereNeed s n
-  pub place : at ≤ 1024 * (k + 1)
-  pub turn : k < turnsOf s part
-  pub small : k + 1 < 4294967296
+  pub place : at ≤ 1024 * k₁
+  pub further : k < k₁
+  pub small : k₁ < 4294967296
   pub less : costNeed s w n < costOf s w₀ (needOf part)
-  pub on : (x : Lowered) (net₁ w₁ : List ℕ) → GivesNeed s net w n x net₁ w₁ → x ≡ Done → Open s net₀ w₀ part (k + 1) at net₁ w₁
+  pub on : (x : Lowered) (net₁ w₁ : List ℕ) → GivesNeed s net w n x net₁ w₁ → x ≡ Done → Open s net₀ w₀ part k₁ at net₁ w₁
   pub out : (x : Lowered) (net₁ w₁ : List ℕ) → GivesNeed s net w n x net₁ w₁ → Refused x → Gives s net₀ w₀ (needOf part) x net₁ w₁
 
 abbrev pub After : List ℕ → List ℕ → List ℕ → Part → ℕ → Next → List ℕ → List ℕ → Type 0
-After s net₀ w₀ part k (Lower n at) net w = Below s net₀ w₀ part k n at net w
+After s net₀ w₀ part k (Lower n k₁ at) net w = Below s net₀ w₀ part k n k₁ at net w
 After s net₀ w₀ part k (Over x) net w = Gives s net₀ w₀ (needOf part) x net w
 
 -- contracts of a turn: wherever the call began, what stood before turn k is followed by what stands after it

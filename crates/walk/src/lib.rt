@@ -3,17 +3,20 @@
 // stack: what an expression does between two calls is a turn, outside of the recursion.
 ghost use mathlib.Core.Path.{_≡_};
 ghost use mathlib.Core.Bool.{true};
-ghost use Prim.Native.Nat.{ℕ, _+_, _≤_, _<_};
+ghost use Prim.Native.Nat.{ℕ, _+_, _*_, _≤_, _<_};
 ghost use Rattle.meaning.specs.Image.{countAt, signalWidth, exprWidth};
 ghost use Rattle.model.specs.Words.{Netlist};
 ghost use Rattle.model.specs.Lowering as model;
+ghost use Rattle.checks.specs.Accepted.{Accepted};
 ghost use Rattle.table_view.specs.View.{limitOf, isWhole, stateOf, Laid};
 ghost use Rattle.walk_view.specs.View.{Ready, Sure, Gives};
 ghost use Rattle.walk_steps.specs.Steps.{GivesAll};
 ghost use Rattle.walk_view.specs.declared.Lowered.the-variants as L;
 ghost use Rattle.walk.specs.declared.Part.the-variants as P;
-ghost use Rattle.walk.specs.Walk.{ThereNeed, GivesNeed, FirstTurn, Keeps, Begun, Turns};
+ghost use Rattle.plan.specs.Plan.{bitsNeeds, BitsThere, rangeRest};
+ghost use Rattle.walk.specs.Walk.{ThereNeed, GivesNeed, LeftOf, LeftIn, wholeRest, TurnThere, LeavesTurn, FirstTurn, Keeps, Begun, Turns};
 use plan::Need;
+use plan::Turn;
 use tables::Driver;
 use tables::Known;
 use walk_view::Lowered;
@@ -24,10 +27,69 @@ pub enum Part {
     Range(u32, u32, u32),
 }
 
-// What a turn answers: what is to be lowered before the next one, and where the part of a Concat that the next one takes begins; or the end.
+// What is left to lower before an expression: a need, the turn after it, and where the part of a Concat that this turn takes begins; or
+// nothing.
+pub enum Left {
+    Lower(Need, u32, u32),
+    Build,
+}
+
+// What a turn answers: as above, or the end.
 pub enum Next {
-    Lower(Need, u32),
+    Lower(Need, u32, u32),
     Over(Lowered),
+}
+
+// ---- what is left ----
+
+// The turn after the last need.
+const LAST: u32 = 4294967295;
+
+// Of n bits of a signal, from the k-th on, the first that has no net yet.
+fn next_bit(image: &[u8], scr: &[u32], p: u32, first: u32, n: u32, from: u32) -> Left
+    requires { ⌜ (Laid (now image) (now scr)) × BitsThere (now image) p first n ⌝ }
+    ensures { λ r. ⌜ LeftIn (now (image .entry)) (now (scr .entry)) (bitsNeeds p first n) from r ⌝ }
+{
+    let mut k = from;
+    while k < n {
+        let Known::Net(_) = tables::signal_net(image, scr, p, first + k) else {
+            return Left::Lower(Need::Bit(p, first + k), k + 1, 0);
+        };
+        k += 1;
+    }
+    Left::Build
+}
+
+fn left_by(image: &[u8], scr: &[u32], turn: Turn, k: u32) -> Left
+    requires { ⌜ (Laid (now image) (now scr)) × TurnThere (now image) turn × (k < 4294967295) ⌝ }
+    ensures { λ r. ⌜ LeavesTurn (now (image .entry)) (now (scr .entry)) turn k r ⌝ }
+{
+    match turn {
+        Turn::Lower(need, at) => Left::Lower(need, k + 1, at),
+        Turn::Last(need) => Left::Lower(need, LAST, 0),
+        Turn::Bits(p, first, n) => next_bit(image, scr, p, first, n, k),
+        Turn::Build => Left::Build,
+    }
+}
+
+fn whole_left(image: &[u8], scr: &[u32], e: u32, k: u32) -> Left
+    requires { ⌜ (Laid (now image) (now scr)) × (Accepted (now image)) × (e < countAt (now image) 1) ⌝ }
+    ensures { λ r. ⌜ LeftOf (now (image .entry)) (now (scr .entry)) (wholeRest (now (image .entry)) e) k 0 r ⌝ }
+{
+    if k == LAST {
+        return Left::Build;
+    }
+    left_by(image, scr, plan::whole_turn(image, e, k), k)
+}
+
+fn range_left(image: &[u8], scr: &[u32], e: u32, lsb: u32, w: u32, k: u32, at: u32) -> Left
+    requires { ⌜ (Laid (now image) (now scr)) × (Accepted (now image)) × (e < countAt (now image) 1) × (lsb + w ≤ exprWidth (now image) e) × (at ≤ 1024 * k) ⌝ }
+    ensures { λ r. ⌜ LeftOf (now (image .entry)) (now (scr .entry)) (rangeRest (now (image .entry)) e lsb w) k at r ⌝ }
+{
+    if k == LAST {
+        return Left::Build;
+    }
+    left_by(image, scr, plan::range_turn(image, e, lsb, w, k, at), k)
 }
 
 // ---- turns ----
@@ -50,10 +112,10 @@ fn turn_whole(image: &[u8], net: &mut [u32], scr: &mut [u32], e: u32, k: u32) ->
     if whole_known(image, scr, e, k) {
         return Next::Over(Lowered::Done);
     }
-    if k < plan::whole_count(image, e) {
-        return Next::Lower(plan::whole_need(image, e, k), 0);
+    match whole_left(image, scr, e, k) {
+        Left::Lower(need, next, at) => Next::Lower(need, next, at),
+        Left::Build => Next::Over(build::build_whole(image, net, scr, e)),
     }
-    Next::Over(build::build_whole(image, net, scr, e))
 }
 
 fn range_known(image: &[u8], scr: &[u32], e: u32, lsb: u32, w: u32, k: u32) -> bool
@@ -82,11 +144,10 @@ fn turn_range(
     if range_known(image, scr, e, lsb, w, k) {
         return Next::Over(Lowered::Done);
     }
-    if k < plan::range_turns(image, e, w) {
-        let need = plan::range_need(image, e, lsb, w, k, at);
-        return Next::Lower(need, plan::range_next(image, e, k, at));
+    match range_left(image, scr, e, lsb, w, k, at) {
+        Left::Lower(need, next, begin) => Next::Lower(need, next, begin),
+        Left::Build => Next::Over(build::build_range(image, net, scr, e, lsb, w)),
     }
-    Next::Over(build::build_range(image, net, scr, e, lsb, w))
 }
 
 // Turn k of an expression or a range; the part of a Concat that it takes begins at bit at. Two functions call it, so the compiler keeps it
@@ -145,12 +206,12 @@ pub fn lower_expression(image: &[u8], net: &mut [u32], scr: &mut [u32], e: u32) 
     loop {
         match turn(image, net, scr, part, k, 0) {
             Next::Over(x) => return x,
-            Next::Lower(need, _) => {
+            Next::Lower(need, next, _) => {
                 let x = lower_need(image, net, scr, need);
                 let Lowered::Done = x else {
                     return x;
                 };
-                k += 1;
+                k = next;
             }
         }
     }
@@ -173,13 +234,13 @@ pub fn lower_expression_range(
     loop {
         match turn(image, net, scr, part, k, at) {
             Next::Over(x) => return x,
-            Next::Lower(need, next) => {
+            Next::Lower(need, next, begin) => {
                 let x = lower_need(image, net, scr, need);
                 let Lowered::Done = x else {
                     return x;
                 };
-                at = next;
-                k += 1;
+                k = next;
+                at = begin;
             }
         }
     }

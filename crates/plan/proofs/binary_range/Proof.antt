@@ -4,36 +4,43 @@ use Rattle.plan.proofs.binary_range.Statement.{statement}
 use Rattle.plan.proofs.binary_range.Tie as tie
 use mathlib.Core.Path.{_≡_, sym, _∙_}
 use mathlib.Core.Bool.{true, false}
-use Prim.Native.Nat.{_<_}
+use Prim.Native.Nat.{_≤_}
 use native.Mathlib.Omega.{arith}
 use Rattle.plan.specs.Plan.{bitwise}
-use Rattle.plan.specs.Kinds.{binary-yes, binary-no}
+use Rattle.plan.specs.Kinds.{none-left, binary-yes, binary-no, turn-for}
+use Rattle.fusion.specs.Fusion.{not-true, not-false}
 
 is-bitwise-requires : tie.Need-is-bitwise-requires
 is-bitwise-requires c κs = search needs
 
+one-requires : tie.Need-one-requires
+one-requires c κs = search needs
+
 returns : tie.Need-returns
-returns c =
+returns c = λ s.
     let a = c .before .before .before .args in
-    let b : bitwise (a .op) ≡ true = sym (c .before .before .is-bitwise .ensures) ∙ c .before .if1 .taken in
-    rw (binary-yes (a .e) (a .a) (a .b) (a .lsb) (a .w) (a .op) b, c .if2 .taken)
+    let b : bitwise (a .op) ≡ false = sym (c .before .before .is-bitwise .ensures) ∙ not-true _ (c .before .if1 .taken) in
+    turn-for s _ _ (a .k) (c .one .result) (binary-no (a .e) (a .a) (a .b) (a .lsb) (a .w) (a .op) b) (c .one .ensures s)
 
 returns-2 : tie.Need-returns-2
-returns-2 c =
+returns-2 c = λ s.
     let a = c .before .before .before .args in
-    let pre = c .before .before .before .pre in
-    let b : bitwise (a .op) ≡ true = sym (c .before .before .is-bitwise .ensures) ∙ c .before .if1 .taken in
-    let u : a .k < 2 = rw b at pre in
-    let z : a .k ≡ 1 = omega (arith, c .if2 .left) in
-    rw (binary-yes (a .e) (a .a) (a .b) (a .lsb) (a .w) (a .op) b, z)
+    let b : bitwise (a .op) ≡ true = sym (c .before .before .is-bitwise .ensures) ∙ not-false _ (c .before .if1 .left) in
+    (rw (binary-yes (a .e) (a .a) (a .b) (a .lsb) (a .w) (a .op) b, c .if2 .taken), omega arith)
 
 returns-3 : tie.Need-returns-3
-returns-3 c =
-    let a = c .before .before .args in
-    let b : bitwise (a .op) ≡ false = sym (c .before .is-bitwise .ensures) ∙ c .if1 .left in
-    let u : a .k < 1 = rw b at (c .before .before .pre) in
-    let z : a .k ≡ 0 = omega arith in
-    rw (binary-no (a .e) (a .a) (a .b) (a .lsb) (a .w) (a .op) b, z)
+returns-3 c = λ s.
+    let a = c .before .before .before .before .args in
+    let b : bitwise (a .op) ≡ true = sym (c .before .before .before .is-bitwise .ensures) ∙ not-false _ (c .before .before .if1 .left) in
+    rw (binary-yes (a .e) (a .a) (a .b) (a .lsb) (a .w) (a .op) b, c .if3 .taken)
+
+returns-4 : tie.Need-returns-4
+returns-4 c = λ s.
+    let a = c .before .before .before .before .args in
+    let b : bitwise (a .op) ≡ true = sym (c .before .before .before .is-bitwise .ensures) ∙ not-false _ (c .before .before .if1 .left) in
+    let z : 2 ≤ a .k = omega (arith, c .before .if2 .left, c .if3 .left) in
+    rw (binary-yes (a .e) (a .a) (a .b) (a .lsb) (a .w) (a .op) b) (none-left _ (a .k) (omega arith))
 
 pub binary-range-spec : {M : Type 1} → statement M
-binary-range-spec = tie.close (tie.spec is-bitwise-requires returns returns-2 returns-3)
+binary-range-spec =
+    tie.close (tie.spec is-bitwise-requires one-requires returns returns-2 returns-3 returns-4)

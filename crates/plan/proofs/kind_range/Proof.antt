@@ -3,23 +3,16 @@ use borrow.Author.Needs.{needs}
 use Rattle.plan.proofs.kind_range.Statement.{statement}
 use Rattle.plan.proofs.kind_range.Tie as tie
 use native.Mathlib.Omega.{arith}
-use Rattle.plan.specs.Plan.{kindTurns}
-use Rattle.plan.specs.Kinds.{part-there, part-most, turn-signal, turn-constant, turn-unary, turn-binary, turn-mux, turn-concat, turn-slice}
+use Rattle.plan.specs.Kinds.{turn-list, turn-as, rest-signal, rest-constant, rest-unary, rest-binary, rest-mux, rest-concat, rest-slice}
 
 enum-known-kind : tie.Need-enum-known-kind
 enum-known-kind c = search needs
 
-add-t24 : tie.Need-add-t24
-unfolding kindTurns
-add-t24 c =
+add-t23 : tie.Need-add-t23
+add-t23 c =
     let pre = c .before .before .before .before .pre in
-    let a = rw (c .before .kind .given .1) at (pre .0) in omega arith
-
-add-t25 : tie.Need-add-t25
-unfolding kindTurns
-add-t25 c =
-    let pre = c .before .before .before .before .pre in
-    let a = rw (c .before .kind .given .1) at (pre .0) in let b = rw (c .before .kind .given .1) at (pre .1) in omega arith
+    let there = rw (c .before .kind .given .1) at (pre .0) in
+    omega (arith, there .most)
 
 enum-told : tie.Need-enum-told
 enum-told c = search needs
@@ -30,141 +23,97 @@ enum-known-kind-2 c = search needs
 unary-range-requires : tie.Need-unary-range-requires
 unary-range-requires c κs = search needs
 
+one-requires : tie.Need-one-requires
+one-requires c κs = search needs
+
 enum-known-kind-3 : tie.Need-enum-known-kind-3
 enum-known-kind-3 c = search needs
 
 binary-range-requires : tie.Need-binary-range-requires
-unfolding kindTurns
-binary-range-requires c κs =
-    let pre = c .before .before .before .before .pre in
-    rw (c .before .kind3 .given .1) at (pre .1)
+binary-range-requires c κs = search needs
 
 enum-known-kind-4 : tie.Need-enum-known-kind-4
 enum-known-kind-4 c = search needs
 
 mux-range-requires : tie.Need-mux-range-requires
-unfolding kindTurns
-mux-range-requires c κs =
-    let pre = c .before .before .before .before .pre in
-    rw (c .before .kind4 .given .1) at (pre .1)
+mux-range-requires c κs = search needs
 
 enum-known-kind-5 : tie.Need-enum-known-kind-5
 enum-known-kind-5 c = search needs
 
-sub-list-word : tie.Need-sub-list-word
-sub-list-word c =
-    let args = c .before .before .before .before .args in
+concat-range-requires : tie.Need-concat-range-requires
+concat-range-requires c κs =
     let pre = c .before .before .before .before .pre in
-    let a = args in omega (arith, part-there (a .image .now) (a .e) (a .lsb) (a .w) (a .kind) (a .k) (a .at) (pre .1) _ _ (c .before .kind5 .given .1))
-
-sub-list-word-2 : tie.Need-sub-list-word-2
-sub-list-word-2 c =
-    let args = c .before .before .before .before .args in
-    let pre = c .before .before .before .before .pre in
-    let a = args in omega (arith, part-there (a .image .now) (a .e) (a .lsb) (a .w) (a .kind) (a .k) (a .at) (pre .1) _ _ (c .before .kind5 .given .1))
-
-add-list-word : tie.Need-add-list-word
-add-list-word c =
-    let args = c .before .before .before .before .args in
-    let pre = c .before .before .before .before .pre in
-    let a = args in let b = rw (c .before .kind5 .given .1) at (pre .0) in omega (arith, b .0, part-there (a .image .now) (a .e) (a .lsb) (a .w) (a .kind) (a .k) (a .at) (pre .1) _ _ (c .before .kind5 .given .1))
-
-list-word-requires : tie.Need-list-word-requires
-list-word-requires c κs = search needs
-
-add-part-range : tie.Need-add-part-range
-add-part-range c =
-    let pre = c .before .before .before .before .before .pre in
-    let b = rw (c .before .before .kind5 .given .1) at (pre .0) in omega (arith, b .1)
-
-expr-width-requires : tie.Need-expr-width-requires
-expr-width-requires c κs = search needs
-
-part-range-requires : tie.Need-part-range-requires
-part-range-requires c κs =
-    let kind5 = c .before .before .before .kind5 in
-    let a = c .before .before .before .before .before .before .args in
-    let pre = c .before .before .before .before .before .before .pre in
-    let b = rw (kind5 .given .1) at (pre .0) in
-    let l = part-there (a .image .now) (a .e) (a .lsb) (a .w) (a .kind) (a .k) (a .at) (pre .1) _ _ (kind5 .given .1) in
-    let v = part-most (a .image .now) (a .lsb) (a .w) (a .kind) (a .k) _ _ _ _ (pre .0) (kind5 .given .1) l (c .before .list-word .ensures) (c .expr-width .ensures) in
-    omega (arith, b .0, pre .2)
+    (rw (c .before .kind5 .given .1) at (pre .0), pre .1)
 
 enum-known-kind-6 : tie.Need-enum-known-kind-6
 enum-known-kind-6 c = search needs
 
-add-t29 : tie.Need-add-t29
-add-t29 c =
+add-t25 : tie.Need-add-t25
+add-t25 c =
     let pre = c .before .before .before .before .pre in
-    let a = rw (c .before .kind6 .given .1) at (pre .0) in omega arith
+    let a = rw (c .before .kind6 .given .1) at (pre .0) in
+    omega arith
+
+one-requires-2 : tie.Need-one-requires-2
+one-requires-2 c κs = search needs
 
 returns : tie.Need-returns
 returns c =
-    let args = c .before .before .before .before .args in
+    let a = c .before .before .before .before .args in
     let pre = c .before .before .before .before .pre in
-    let a = args in turn-signal (a .image .now) (a .e) (a .lsb) (a .w) (a .kind) (a .k) (a .at) (pre .1) _ _ (c .before .kind .given .1)
+    let there = rw (c .before .kind .given .1) at (pre .0) in
+    (there, λ j i. rest-signal (a .image .now) (a .e) (a .lsb) (a .w) (a .kind) _ _ (c .before .kind .given .1) j i)
 
 returns-2 : tie.Need-returns-2
 returns-2 c =
-    let args = c .before .before .before .args in
-    let pre = c .before .before .before .pre in
-    let a = args in turn-constant (a .image .now) (a .e) (a .lsb) (a .w) (a .kind) (a .k) (a .at) (pre .1) _ (c .enum-told .given .1)
+    let a = c .before .before .before .args in
+    rest-constant (a .image .now) (a .e) (a .lsb) (a .w) (a .kind) _ (c .enum-told .given .1) (a .k) (a .at)
 
 returns-3 : tie.Need-returns-3
 returns-3 c =
-    let args = c .before .before .before .before .before .args in
-    let pre = c .before .before .before .before .before .pre in
-    let a = args in turn-unary (a .image .now) (a .e) (a .lsb) (a .w) (a .kind) (a .k) (a .at) (pre .1) _ _ (c .unary-range .result) (c .before .before .kind2 .given .1) (c .unary-range .ensures)
+    let a = c .before .before .before .before .before .before .args in
+    turn-list (a .image .now) _ _ (a .k) (a .at) (c .one .result) (rest-unary (a .image .now) (a .e) (a .lsb) (a .w) (a .kind) _ _ (c .before .unary-range .result) (c .before .before .before .kind2 .given .1) (c .before .unary-range .ensures)) (c .one .ensures (a .image .now))
 
 returns-4 : tie.Need-returns-4
 returns-4 c =
-    let args = c .before .before .before .before .before .args in
-    let pre = c .before .before .before .before .before .pre in
-    let a = args in turn-binary (a .image .now) (a .e) (a .lsb) (a .w) (a .kind) (a .k) (a .at) (pre .1) _ _ _ (c .binary-range .result) (c .before .before .kind3 .given .1) (c .binary-range .ensures)
+    let a = c .before .before .before .before .before .args in
+    turn-list (a .image .now) _ _ (a .k) (a .at) (c .binary-range .result) (rest-binary (a .image .now) (a .e) (a .lsb) (a .w) (a .kind) _ _ _ (c .before .before .kind3 .given .1)) (c .binary-range .ensures (a .image .now))
 
 returns-5 : tie.Need-returns-5
 returns-5 c =
-    let args = c .before .before .before .before .before .args in
-    let pre = c .before .before .before .before .before .pre in
-    let a = args in turn-mux (a .image .now) (a .e) (a .lsb) (a .w) (a .kind) (a .k) (a .at) (pre .1) _ _ _ (c .mux-range .result) (c .before .before .kind4 .given .1) (c .mux-range .ensures)
+    let a = c .before .before .before .before .before .args in
+    turn-list (a .image .now) _ _ (a .k) (a .at) (c .mux-range .result) (rest-mux (a .image .now) (a .e) (a .lsb) (a .w) (a .kind) _ _ _ (c .before .before .kind4 .given .1)) (c .mux-range .ensures (a .image .now))
 
 returns-6 : tie.Need-returns-6
 returns-6 c =
-    let kind5 = c .before .before .before .before .kind5 in
-    let args = c .before .before .before .before .before .before .before .args in
-    let pre = c .before .before .before .before .before .before .before .pre in
-    let a = args in turn-concat (a .image .now) (a .e) (a .lsb) (a .w) (a .kind) (a .k) (a .at) (pre .1) _ _ _ _ (c .part-range .result) (pre .0) (kind5 .given .1) (c .before .before .list-word .ensures) (c .before .expr-width .ensures) (c .part-range .ensures)
+    let a = c .before .before .before .before .before .args in
+    turn-as (a .image .now) _ _ (a .k) (a .at) (c .concat-range .result) (rest-concat (a .image .now) (a .e) (a .lsb) (a .w) (a .kind) _ _ (c .before .before .kind5 .given .1)) (c .concat-range .ensures)
 
 returns-7 : tie.Need-returns-7
 returns-7 c =
-    let args = c .before .before .before .before .args in
-    let pre = c .before .before .before .before .pre in
-    let a = args in turn-slice (a .image .now) (a .e) (a .lsb) (a .w) (a .kind) (a .k) (a .at) (pre .1) _ _ (c .before .kind6 .given .1)
+    let a = c .before .before .before .before .before .args in
+    turn-list (a .image .now) _ _ (a .k) (a .at) (c .one2 .result) (rest-slice (a .image .now) (a .e) (a .lsb) (a .w) (a .kind) _ _ (c .before .before .kind6 .given .1)) (c .one2 .ensures (a .image .now))
 
 pub kind-range-spec : {M : Type 1} → statement M
 kind-range-spec =
     tie.close
     (tie.spec
     enum-known-kind
-    add-t24
-    add-t25
+    add-t23
     enum-told
     enum-known-kind-2
     unary-range-requires
+    one-requires
     enum-known-kind-3
     binary-range-requires
     enum-known-kind-4
     mux-range-requires
     enum-known-kind-5
-    sub-list-word
-    sub-list-word-2
-    add-list-word
-    list-word-requires
-    add-part-range
-    expr-width-requires
-    part-range-requires
+    concat-range-requires
     enum-known-kind-6
-    add-t29
+    add-t25
+    one-requires-2
     returns
     returns-2
     returns-3

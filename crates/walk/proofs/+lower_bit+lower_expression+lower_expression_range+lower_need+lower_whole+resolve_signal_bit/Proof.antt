@@ -42,7 +42,7 @@ use Rattle.tables.specs.Answers.{knownOf, drivenBy}
 use Rattle.walk_view.specs.View.{walkState, costOf, There}
 use Rattle.walk_steps.specs.Answers.{not-done-tag}
 use Rattle.walk.specs.declared.Part.the-variants as P
-use Rattle.walk.specs.Walk.{costNeed, turnsOf, At}
+use Rattle.walk.specs.Walk.{costNeed, At}
 use Rattle.walk.proofs.Ways.{turn-start, turn-next, whole-at, met-whole, bit-known, bit-none, bit-marked, driver-there, marked-ready, marked-sure, marked-less, bit-lowered}
 
 abbrev μ-lower-bit : Measures 3 lower-bit-kinds.ps ℕ
@@ -173,7 +173,7 @@ abbrev lower-expression-Inv-loop : lower-expression-lts.InvT-loop
 lower-expression-Inv-loop image net₀ scr₀ e part k₀ net scr k = At image net₀ scr₀ (P.Whole e) k 0 net scr
 
 abbrev lower-expression-μ-loop : lower-expression-lts.MeasureT-loop
-lower-expression-μ-loop image net₀ scr₀ e part k₀ net scr k = turnsOf image (P.Whole e) - k
+lower-expression-μ-loop image net₀ scr₀ e part k₀ net scr k = 4294967295 - k
 
 lower-expression-loop-holds : (t : ℕ) → lower-expression-lts.Need-loop-holds (calls-lower-expression t) (lower-expression-at t) lower-expression.Post lower-expression-Inv-loop lower-expression-μ-loop
 lower-expression-loop-holds t c =
@@ -232,21 +232,13 @@ lower-expression-returns-2 t c =
     let x = c .before .before .before .before .before .lower-need in
     below .out (x .result) _ _ (x .ensures) (not-done-tag (x .result) (c .match2 .keys2))
 
-lower-expression-add-k : (t : ℕ) → lower-expression-lts.Need-add-k (calls-lower-expression t) (lower-expression-at t) lower-expression.Post lower-expression-Inv-loop lower-expression-μ-loop
-lower-expression-add-k t c =
-    let q = c .before .before .before .before .before .before .before .before .before .before .before .before .before .before .before .before .before .before .before .loop in
-    let a = c .before .before .before .before .before .before .before .before .before .before .before .before .before .before .before .before .before .before .before .before .before .before .before .args in
-    let after = c .before .before .before .before .before .before .before .before .before .before .before .before .before .before .before .before .turn .ensures (a .net .now) (a .scr .now) (q .inv) in
-    let below = rw (c .before .before .before .before .before .before .before .before .before .before .need .given .1) at after in
-    omega (arith, below .small)
-
 lower-expression-loop-less : (t : ℕ) → lower-expression-lts.Need-loop-less (calls-lower-expression t) (lower-expression-at t) lower-expression.Post lower-expression-Inv-loop lower-expression-μ-loop
 lower-expression-loop-less t c =
     let q = c .before .before .before .before .before .before .before .before .before .before .before .before .before .before .before .before .before .before .before .loop in
     let a = c .before .before .before .before .before .before .before .before .before .before .before .before .before .before .before .before .before .before .before .before .before .before .before .args in
     let after = c .before .before .before .before .before .before .before .before .before .before .before .before .before .before .before .before .turn .ensures (a .net .now) (a .scr .now) (q .inv) in
     let below = rw (c .before .before .before .before .before .before .before .before .before .before .need .given .1) at after in
-    omega (arith, below .turn)
+    omega (arith, below .further, below .small)
 
 lower-expression-loop-again : (t : ℕ) → lower-expression-lts.Need-loop-again (calls-lower-expression t) (lower-expression-at t) lower-expression.Post lower-expression-Inv-loop lower-expression-μ-loop
 lower-expression-loop-again t c =
@@ -257,14 +249,14 @@ lower-expression-loop-again t c =
     let below = rw (c .before .before .before .before .before .before .before .before .before .before .need .given .1) at after in
     let turn = c .before .before .before .before .before .before .before .before .before .before .before .before .before .before .before .before .turn in
     let x = c .before .before .before .before .before .before .lower-need in
-    whole-at (a .image .now) (a .net .now) (a .scr .now) (a .e) _ _ _ _ (turn-next (a .image .now) (a .net .now) (a .scr .now) (P.Whole (a .e)) (q .k) _ _ _ _ (pre .1 .2) below (x .result) _ _ (x .ensures) (c .enum-told .given .1)
+    whole-at (a .image .now) (a .net .now) (a .scr .now) (a .e) _ _ _ _ (turn-next (a .image .now) (a .net .now) (a .scr .now) (P.Whole (a .e)) (q .k) _ _ _ _ _ (pre .1 .2) below (x .result) _ _ (x .ensures) (c .enum-told .given .1)
     (x .kept .1 .0 ∙ turn .kept .1 .0 ∙ q .inv .netLong) (x .kept .1 .1 .0 ∙ turn .kept .1 .1 .0 ∙ q .inv .long))
 
 abbrev lower-expression-range-Inv-loop : lower-expression-range-lts.InvT-loop
 lower-expression-range-Inv-loop image net₀ scr₀ e lsb w part k₀ at₀ net scr k at = At image net₀ scr₀ (P.Range e lsb w) k at net scr
 
 abbrev lower-expression-range-μ-loop : lower-expression-range-lts.MeasureT-loop
-lower-expression-range-μ-loop image net₀ scr₀ e lsb w part k₀ at₀ net scr k at = turnsOf image (P.Range e lsb w) - k
+lower-expression-range-μ-loop image net₀ scr₀ e lsb w part k₀ at₀ net scr k at = 4294967295 - k
 
 lower-expression-range-loop-holds : (t : ℕ) → lower-expression-range-lts.Need-loop-holds (calls-lower-expression-range t) (lower-expression-range-at t) lower-expression-range.Post lower-expression-range-Inv-loop lower-expression-range-μ-loop
 lower-expression-range-loop-holds t c =
@@ -323,21 +315,13 @@ lower-expression-range-returns-2 t c =
     let x = c .before .before .before .before .before .lower-need in
     below .out (x .result) _ _ (x .ensures) (not-done-tag (x .result) (c .match2 .keys2))
 
-lower-expression-range-add-k : (t : ℕ) → lower-expression-range-lts.Need-add-k (calls-lower-expression-range t) (lower-expression-range-at t) lower-expression-range.Post lower-expression-range-Inv-loop lower-expression-range-μ-loop
-lower-expression-range-add-k t c =
-    let q = c .before .before .before .before .before .before .before .before .before .before .before .before .before .before .before .before .before .before .before .loop in
-    let a = c .before .before .before .before .before .before .before .before .before .before .before .before .before .before .before .before .before .before .before .before .before .before .before .args in
-    let after = c .before .before .before .before .before .before .before .before .before .before .before .before .before .before .before .before .turn .ensures (a .net .now) (a .scr .now) (q .inv) in
-    let below = rw (c .before .before .before .before .before .before .before .before .before .before .need .given .1) at after in
-    omega (arith, below .small)
-
 lower-expression-range-loop-less : (t : ℕ) → lower-expression-range-lts.Need-loop-less (calls-lower-expression-range t) (lower-expression-range-at t) lower-expression-range.Post lower-expression-range-Inv-loop lower-expression-range-μ-loop
 lower-expression-range-loop-less t c =
     let q = c .before .before .before .before .before .before .before .before .before .before .before .before .before .before .before .before .before .before .before .loop in
     let a = c .before .before .before .before .before .before .before .before .before .before .before .before .before .before .before .before .before .before .before .before .before .before .before .args in
     let after = c .before .before .before .before .before .before .before .before .before .before .before .before .before .before .before .before .turn .ensures (a .net .now) (a .scr .now) (q .inv) in
     let below = rw (c .before .before .before .before .before .before .before .before .before .before .need .given .1) at after in
-    omega (arith, below .turn)
+    omega (arith, below .further, below .small)
 
 lower-expression-range-loop-again : (t : ℕ) → lower-expression-range-lts.Need-loop-again (calls-lower-expression-range t) (lower-expression-range-at t) lower-expression-range.Post lower-expression-range-Inv-loop lower-expression-range-μ-loop
 lower-expression-range-loop-again t c =
@@ -348,7 +332,7 @@ lower-expression-range-loop-again t c =
     let below = rw (c .before .before .before .before .before .before .before .before .before .before .need .given .1) at after in
     let turn = c .before .before .before .before .before .before .before .before .before .before .before .before .before .before .before .before .turn in
     let x = c .before .before .before .before .before .before .lower-need in
-    turn-next (a .image .now) (a .net .now) (a .scr .now) (P.Range (a .e) (a .lsb) (a .w)) (q .k) _ _ _ _ (pre .1 .2, pre .1 .3) below (x .result) _ _ (x .ensures) (c .enum-told .given .1)
+    turn-next (a .image .now) (a .net .now) (a .scr .now) (P.Range (a .e) (a .lsb) (a .w)) (q .k) _ _ _ _ _ (pre .1 .2, pre .1 .3) below (x .result) _ _ (x .ensures) (c .enum-told .given .1)
     (x .kept .1 .0 ∙ turn .kept .1 .0 ∙ q .inv .netLong) (x .kept .1 .1 .0 ∙ turn .kept .1 .1 .0 ∙ q .inv .long)
 
 lower-need-enum-known-need : (t : ℕ) → lower-need-lts.Need-enum-known-need (calls-lower-need t) (lower-need-at t) lower-need.Post
@@ -633,7 +617,6 @@ pub +lower-bit+lower-expression+lower-expression-range+lower-need+lower-whole+re
     (lower-expression-same-length-3 t)
     (lower-expression-same-length-4 t)
     (lower-expression-returns-2 t)
-    (lower-expression-add-k t)
     (lower-expression-loop-less t)
     (lower-expression-loop-again t))
     (λ t. lower-expression-range-lts.spec (calls-lower-expression-range t)
@@ -653,7 +636,6 @@ pub +lower-bit+lower-expression+lower-expression-range+lower-need+lower-whole+re
     (lower-expression-range-same-length-3 t)
     (lower-expression-range-same-length-4 t)
     (lower-expression-range-returns-2 t)
-    (lower-expression-range-add-k t)
     (lower-expression-range-loop-less t)
     (lower-expression-range-loop-again t))
     (λ t. lower-need-lts.spec (calls-lower-need t) (lower-need-at t) lower-need.Post
