@@ -64,17 +64,16 @@ module _ (s : List ℕ) where
   pub turn-for : (all all₁ : List M.Need) (k : ℕ) (r : Turn) → all₁ ≡ all → TurnIn s all k r → TurnIn s all₁ k r
   turn-for all all₁ k r e t = rw e t
 
-  pub turn-list : (rest : ℕ → ℕ → List M.Need) (all : List M.Need) (k at : ℕ) (r : Turn) → ((j i : ℕ) → rest j i ≡ drop j all) → TurnIn s all k r → TurnOf s rest k at r
-  turn-list rest all k at (Lower n b) e t = (e k at ∙ t .0 ∙ ap (λ (l : List M.Need). needsOf n ++ l) (sym (e (k + 1) b)), t .1)
-  turn-list rest all k at (Last n) e t = e k at ∙ t
-  turn-list rest all k at (Bits p b n) e t = (t .0, λ j i. e j i ∙ t .1 j i)
-  turn-list rest all k at Build e t = e k at ∙ t
+  -- what is left is the same
+  pub turn-as : (rest rest₁ : ℕ → ℕ → List M.Need) (k at at₁ : ℕ) (r : Turn) → rest₁ k at₁ ≡ rest k at → ((j i : ℕ) → rest₁ j i ≡ rest j i) → TurnOf s rest k at r
+      → TurnOf s rest₁ k at₁ r
+  turn-as rest rest₁ k at at₁ (Lower n b) h e t = (h ∙ t .0 ∙ ap (λ (l : List M.Need). needsOf n ++ l) (sym (e (k + 1) b)), t .1)
+  turn-as rest rest₁ k at at₁ (Last n) h e t = h ∙ t
+  turn-as rest rest₁ k at at₁ (Bits p b n) h e t = (t .0, λ j i. e j i ∙ t .1 j i)
+  turn-as rest rest₁ k at at₁ Build h e t = h ∙ t
 
-  pub turn-as : (rest rest₁ : ℕ → ℕ → List M.Need) (k at : ℕ) (r : Turn) → ((j i : ℕ) → rest₁ j i ≡ rest j i) → TurnOf s rest k at r → TurnOf s rest₁ k at r
-  turn-as rest rest₁ k at (Lower n b) e t = (e k at ∙ t .0 ∙ ap (λ (l : List M.Need). needsOf n ++ l) (sym (e (k + 1) b)), t .1)
-  turn-as rest rest₁ k at (Last n) e t = e k at ∙ t
-  turn-as rest rest₁ k at (Bits p b n) e t = (t .0, λ j i. e j i ∙ t .1 j i)
-  turn-as rest rest₁ k at Build e t = e k at ∙ t
+  pub turn-list : (rest : ℕ → ℕ → List M.Need) (all : List M.Need) (k at : ℕ) (r : Turn) → ((j i : ℕ) → rest j i ≡ drop j all) → TurnIn s all k r → TurnOf s rest k at r
+  turn-list rest all k at r e t = turn-as (λ j i. drop j all) rest k 0 at r (e k at) e t
 
 -- ---- a whole expression: the list of its needs ----
 

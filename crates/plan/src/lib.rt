@@ -25,7 +25,7 @@ pub enum Need {
 }
 
 // What turn k of a loop over what is lowered before an expression, or a range of it, takes: one need, and where the part of a Concat that
-// the next turn takes begins; the last need; the bits of a signal (the first, how many) from the k-th on; or nothing is left.
+// the next turn takes begins; the last need; of some bits of a signal (signal, first bit, how many) those from the k-th on; or nothing.
 pub enum Turn {
     Lower(Need, u32),
     Last(Need),

@@ -30,7 +30,7 @@ met-append st [] ns a b = b
 met-append st (m ∷ ms) ns a b = (a .0, met-append st ms ns (a .1) b)
 
 module _ (s w : List ℕ) where
-  pub skips-none : (rest rest₁ : List M.Need) → rest ≡ rest₁ → Skips s w rest rest₁
+  skips-none : (rest rest₁ : List M.Need) → rest ≡ rest₁ → Skips s w rest rest₁
   skips-none rest rest₁ e = record { skipped = []; split = e; known = λ l. tt }
 
   skips-to : (rest rest₁ rest₂ : List M.Need) → rest₁ ≡ rest₂ → Skips s w rest rest₁ → Skips s w rest rest₂
@@ -90,9 +90,6 @@ module _ (s w : List ℕ) where
       l .3,
     )
     left-bits p b n F.Build t l = record { skipped = l .skipped; split = t .1 k at ∙ l .split; known = l .known }
-
-    pub left-build : TurnOf s rest k at T.Build → LeftOf s w rest k at F.Build
-    left-build t = skips-none _ _ t
 
     pub left-ends : rest k at ≡ [] → LeftOf s w rest k at F.Build
     left-ends e = skips-none _ _ e

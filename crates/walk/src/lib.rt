@@ -43,9 +43,9 @@ pub enum Next {
 // ---- what is left ----
 
 // The turn after the last need.
-const LAST: u32 = 4294967295;
+const END: u32 = 4294967295;
 
-// Of n bits of a signal, from the k-th on, the first that has no net yet.
+// Of n bits of signal p, which begin at bit first: the first that has no net yet, of those from the number from on.
 fn next_bit(image: &[u8], scr: &[u32], p: u32, first: u32, n: u32, from: u32) -> Left
     requires { ⌜ (Laid (now image) (now scr)) × BitsThere (now image) p first n ⌝ }
     ensures { λ r. ⌜ LeftIn (now (image .entry)) (now (scr .entry)) (bitsNeeds p first n) from r ⌝ }
@@ -60,33 +60,36 @@ fn next_bit(image: &[u8], scr: &[u32], p: u32, first: u32, n: u32, from: u32) ->
     Left::Build
 }
 
+// What is left, where the plan says of turn k what it takes.
 fn left_by(image: &[u8], scr: &[u32], turn: Turn, k: u32) -> Left
     requires { ⌜ (Laid (now image) (now scr)) × TurnThere (now image) turn × (k < 4294967295) ⌝ }
     ensures { λ r. ⌜ LeavesTurn (now (image .entry)) (now (scr .entry)) turn k r ⌝ }
 {
     match turn {
         Turn::Lower(need, at) => Left::Lower(need, k + 1, at),
-        Turn::Last(need) => Left::Lower(need, LAST, 0),
+        Turn::Last(need) => Left::Lower(need, END, 0),
         Turn::Bits(p, first, n) => next_bit(image, scr, p, first, n, k),
         Turn::Build => Left::Build,
     }
 }
 
+// What is left before expression e.
 fn whole_left(image: &[u8], scr: &[u32], e: u32, k: u32) -> Left
     requires { ⌜ (Laid (now image) (now scr)) × (Accepted (now image)) × (e < countAt (now image) 1) ⌝ }
     ensures { λ r. ⌜ LeftOf (now (image .entry)) (now (scr .entry)) (wholeRest (now (image .entry)) e) k 0 r ⌝ }
 {
-    if k == LAST {
+    if k == END {
         return Left::Build;
     }
     left_by(image, scr, plan::whole_turn(image, e, k), k)
 }
 
+// What is left before a range of it.
 fn range_left(image: &[u8], scr: &[u32], e: u32, lsb: u32, w: u32, k: u32, at: u32) -> Left
     requires { ⌜ (Laid (now image) (now scr)) × (Accepted (now image)) × (e < countAt (now image) 1) × (lsb + w ≤ exprWidth (now image) e) × (at ≤ 1024 * k) ⌝ }
     ensures { λ r. ⌜ LeftOf (now (image .entry)) (now (scr .entry)) (rangeRest (now (image .entry)) e lsb w) k at r ⌝ }
 {
-    if k == LAST {
+    if k == END {
         return Left::Build;
     }
     left_by(image, scr, plan::range_turn(image, e, lsb, w, k, at), k)

@@ -88,7 +88,8 @@ returns-5 c =
 returns-6 : tie.Need-returns-6
 returns-6 c =
     let a = c .before .before .before .before .before .args in
-    turn-as (a .image .now) _ _ (a .k) (a .at) (c .concat-range .result) (rest-concat (a .image .now) (a .e) (a .lsb) (a .w) (a .kind) _ _ (c .before .before .kind5 .given .1)) (c .concat-range .ensures)
+    let same = rest-concat (a .image .now) (a .e) (a .lsb) (a .w) (a .kind) _ _ (c .before .before .kind5 .given .1) in
+    turn-as (a .image .now) _ _ (a .k) (a .at) (a .at) (c .concat-range .result) (same (a .k) (a .at)) same (c .concat-range .ensures)
 
 returns-7 : tie.Need-returns-7
 returns-7 c =

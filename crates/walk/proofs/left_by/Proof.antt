@@ -2,7 +2,7 @@
 use borrow.Author.Needs.{needs}
 use Rattle.walk.proofs.left_by.Statement.{statement}
 use Rattle.walk.proofs.left_by.Tie as tie
-use Rattle.walk.proofs.Lefts.{left-lower, left-last, left-bits, left-build}
+use Rattle.walk.proofs.Lefts.{left-lower, left-last, left-bits, left-ends}
 
 enum-known-turn : tie.Need-enum-known-turn
 enum-known-turn c = search needs
@@ -44,7 +44,7 @@ returns-3 c =
 returns-4 : tie.Need-returns-4
 returns-4 c =
     let a = c .before .before .before .before .args in
-    λ rest at e t. left-build (a .image .now) (a .scr .now) (a .k) rest at (rw (c .enum-told .given .1) at t)
+    λ rest at e t. left-ends (a .image .now) (a .scr .now) (a .k) rest at (rw (c .enum-told .given .1) at t)
 
 pub left-by-spec : {M : Type 1} → statement M
 left-by-spec =

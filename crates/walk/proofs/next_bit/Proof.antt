@@ -56,10 +56,9 @@ loop-again : tie.Need-loop-again Inv-loop μ-loop
 loop-again c =
     let a = c .before .before .before .before .before .before .before .args in
     let q = c .before .before .before .before .loop in
-    let net = c .before .before .signal-net in
-    (
+    let net = c .before .before .signal-net in (
       bits-on (a .image .now) (a .scr .now) (a .p) (a .first) (a .n) (a .from) (q .k) (q .inv .0) (c .before .before .before .loop-test .taken)
-      (bit-met (a .image .now) (a .scr .now) (a .p) _ (net .result) _ (net .ensures) (c .enum-told .given .1)),
+          (bit-met (a .image .now) (a .scr .now) (a .p) _ (net .result) _ (net .ensures) (c .enum-told .given .1)),
       omega (arith, q .inv .1),
     )
 
