@@ -19,7 +19,7 @@ mod text;
 pub use assemble::{assemble, AsmError};
 pub use borders::{borders, Border};
 pub use builder::{Builder, Control, Expr, Memory, Port, Register, Reset, Signal};
-pub use chain::deepest;
+pub use chain::{deepest, deepest_behind};
 pub use disassemble::disassemble;
 pub use format::*;
 pub use generate::{generate, Size};

@@ -11,8 +11,20 @@ const USAGE: &str = "bench-stack
     For each of the deepest images: whether 8 MB are enough, and the least
     stack that is, to 16 KB.";
 
-/// Width of the signal, and inversions between two of its bits.
-const CHAINS: [(u32, u32); 5] = [(32, 1000), (128, 250), (16, 2000), (512, 60), (1, 2000)];
+/// A signal's width, the inversions between two of its bits, and the muxes
+/// before it, each the condition of the next.
+#[derive(Clone, Copy)]
+struct Chain(u32, u32, u32);
+
+const CHAINS: [Chain; 7] = [
+    Chain(32, 1000, 0),
+    Chain(128, 250, 0),
+    Chain(16, 2000, 0),
+    Chain(512, 60, 0),
+    Chain(1, 2000, 0),
+    Chain(512, 59, 1450),
+    Chain(1, 0, 2040),
+];
 const UNIT: usize = 16 << 10;
 const USUAL: usize = 8 << 20;
 const MOST: usize = 512 << 20;
@@ -25,7 +37,10 @@ fn main() {
     let words: Vec<String> = std::env::args().skip(1).collect();
     match words.iter().map(String::as_str).collect::<Vec<_>>()[..] {
         [] => report(),
-        ["child", width, length, bytes] => child(number(width) as u32, number(length) as u32, number(bytes)),
+        ["child", width, length, conditions, bytes] => {
+            let [width, length, conditions] = [width, length, conditions].map(|word| number(word) as u32);
+            child(Chain(width, length, conditions), number(bytes))
+        }
         _ => println!("{USAGE}"),
     }
 }
@@ -35,25 +50,31 @@ fn number(word: &str) -> usize {
 }
 
 fn report() {
-    println!("{:<16} {:>8} {:>12} {:>10} {:>14}", "image", "bytes", "levels", "8 MB", "least stack KB");
-    for (width, length) in CHAINS {
-        let bytes = image::deepest(width, length).encode().len();
-        let usual = if passes(width, length, USUAL) { "passes" } else { "overflows" };
-        let least = least_stack(width, length).map_or("none".to_string(), |stack| (stack >> 10).to_string());
-        let levels = width * (length + 3);
-        println!("{:<16} {bytes:>8} {levels:>12} {usual:>10} {least:>14}", format!("{width} x {length}"));
+    println!("{:<22} {:>8} {:>12} {:>10} {:>14}", "image", "bytes", "levels", "8 MB", "least stack KB");
+    for chain in CHAINS {
+        let Chain(width, length, conditions) = chain;
+        let bytes = encoded(chain).len();
+        let usual = if passes(chain, USUAL) { "passes" } else { "overflows" };
+        let least = least_stack(chain).map_or("none".to_string(), |stack| (stack >> 10).to_string());
+        let levels = width * (length + 3) + conditions;
+        let name = format!("{width} x {length} + {conditions}");
+        println!("{name:<22} {bytes:>8} {levels:>12} {usual:>10} {least:>14}");
     }
 }
 
+fn encoded(Chain(width, length, conditions): Chain) -> Vec<u8> {
+    image::deepest_behind(width, length, conditions).encode()
+}
+
 /// The least multiple of 16 KB that serves; more than what serves does too.
-fn least_stack(width: u32, length: u32) -> Option<usize> {
-    if !passes(width, length, MOST) {
+fn least_stack(chain: Chain) -> Option<usize> {
+    if !passes(chain, MOST) {
         return None;
     }
     let (mut low, mut high) = (0, MOST / UNIT);
     while low + 1 < high {
         let middle = (low + high) / 2;
-        if passes(width, length, middle * UNIT) {
+        if passes(chain, middle * UNIT) {
             high = middle;
         } else {
             low = middle;
@@ -63,17 +84,17 @@ fn least_stack(width: u32, length: u32) -> Option<usize> {
 }
 
 /// Whether a child process lowers the image in a thread with so many bytes.
-fn passes(width: u32, length: u32, stack: usize) -> bool {
+fn passes(Chain(width, length, conditions): Chain, stack: usize) -> bool {
     let program = std::env::current_exe().expect("this program has a path");
-    let words = [width as usize, length as usize, stack].map(|word| word.to_string());
+    let words = [width as usize, length as usize, conditions as usize, stack].map(|word| word.to_string());
     let mut command = Command::new(program);
     command.arg("child").args(words).stdout(Stdio::null()).stderr(Stdio::null());
     command.status().expect("a child process").success()
 }
 
-fn child(width: u32, length: u32, stack: usize) {
-    const LIMIT: u32 = 1024;
-    let image = image::deepest(width, length).encode();
+fn child(chain: Chain, stack: usize) {
+    const LIMIT: u32 = 4096;
+    let image = encoded(chain);
     let mut netlist = vec![0; reference::netlist_words(LIMIT, LIMIT)];
     let mut scratch = vec![0; reference::scratch_words(&image, LIMIT).expect("a checked image")];
     let lowering = move || Library.lower(&image, LIMIT, LIMIT, &mut netlist, &mut scratch);

@@ -8,14 +8,15 @@ use std::process::ExitCode;
 
 const HELP: &str = "usage: gen SEED SIZE -o IMAGE
        gen mutate SEED IMAGE -o IMAGE
-       gen deepest WIDTH LENGTH -o IMAGE
+       gen deepest WIDTH LENGTH [CONDITIONS] -o IMAGE
        gen borders -o DIRECTORY
 
 SEED SIZE writes the random valid image of that seed; SIZE is tiny, small,
 medium or large. mutate damages an image. deepest writes a signal of WIDTH
-bits, each hanging on the one below through LENGTH inversions. borders writes
-one file for each border case and a table cases.txt: file, net limit, list
-limit, netlist words, scratch words, description.";
+bits, each hanging on the one below through LENGTH inversions, behind so many
+muxes, each the condition of the next. borders writes one file for each border
+case and a table cases.txt: file, net limit, list limit, netlist words, scratch
+words, description.";
 
 fn main() -> ExitCode {
     let arguments: Vec<String> = std::env::args().skip(1).collect();
@@ -40,7 +41,10 @@ fn run(words: &[&str]) -> Result<(), String> {
             write(target, &image::mutate(number(seed)?, &bytes))
         }
         ["deepest", width, length, "-o", target] => {
-            write(target, &deepest(number(width)?, number(length)?)?.encode())
+            write(target, &deepest(number(width)?, number(length)?, 0)?.encode())
+        }
+        ["deepest", width, length, conditions, "-o", target] => {
+            write(target, &deepest(number(width)?, number(length)?, number(conditions)?)?.encode())
         }
         ["borders", "-o", directory] => write_borders(Path::new(directory)),
         [seed, size, "-o", target] => {
@@ -56,11 +60,11 @@ fn number(text: &str) -> Result<u64, String> {
         .map_err(|_| format!("'{text}' is not a number"))
 }
 
-fn deepest(width: u64, length: u64) -> Result<Image, String> {
-    if (1..=1024).contains(&width) && length <= 2046 {
-        Ok(image::deepest(width as u32, length as u32))
+fn deepest(width: u64, length: u64, conditions: u64) -> Result<Image, String> {
+    if (1..=1024).contains(&width) && length <= 2046 && conditions <= 2046 {
+        Ok(image::deepest_behind(width as u32, length as u32, conditions as u32))
     } else {
-        Err("WIDTH is 1 to 1024, LENGTH at most 2046".to_string())
+        Err("WIDTH is 1 to 1024, LENGTH and CONDITIONS at most 2046".to_string())
     }
 }
 
