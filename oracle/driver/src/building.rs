@@ -96,7 +96,5 @@ fn image_of_ports(netlist: &Netlist) -> ModuleImage {
 
 /// One word for several.
 pub fn digest(words: impl IntoIterator<Item = u32>) -> u32 {
-    words.into_iter().fold(0, |hash, word| {
-        ((u64::from(hash) * 2_654_435_761 + u64::from(word)) % 4_294_967_291) as u32
-    })
+    words.into_iter().fold(0u32, |hash, word| hash.wrapping_mul(2_654_435_761).wrapping_add(word))
 }
