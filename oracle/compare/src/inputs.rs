@@ -2,7 +2,7 @@
 //! list words, 8,192 words of scratch, 32,768 bytes.
 
 use crate::expect::netlist_use;
-use image::{Builder, Control, Expr, Image, Memory, Port, Random, Register, Signal};
+use image::{Builder, Control, Image, Memory, Port, Random, Register};
 
 /// Inputs at each limit and just beyond it, by name.
 pub fn at_the_limits() -> Vec<(&'static str, Vec<u8>)> {
@@ -129,22 +129,10 @@ fn with_names(bytes: usize, width: u32) -> Vec<u8> {
     let [address, data, other] = [clock, word, first].map(|signal| builder.read(signal));
     let less = builder.less_signed(data, other);
     builder.register(&name("r"), Register::new(stored, less, clock));
-    let port = |read_data| port(address, read_data, data, clock);
+    let enable = Control { signal: clock, low: true };
+    let port = |read_data| Port { write_enable: enable, ..image::port(address, read_data, data, clock) };
     builder.memory(&name("m"), Memory { depth: 4, style: 1, first: port(first), second: Some(port(second)) });
     let sum = builder.add(data, other);
     builder.assign(output, sum);
     builder.finish().encode()
-}
-
-fn port(address: Expr, read_data: Signal, write_data: Expr, clock: Signal) -> Port {
-    Port {
-        read_address: address,
-        read_data,
-        read_enable: None,
-        write_address: address,
-        write_data,
-        write_enable: Control { signal: clock, low: true },
-        clock,
-        falling: false,
-    }
 }

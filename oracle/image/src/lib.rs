@@ -17,7 +17,7 @@ mod tables;
 mod text;
 
 pub use assemble::{assemble, AsmError};
-pub use borders::{borders, Border};
+pub use borders::{borders, port, Border};
 pub use builder::{Builder, Control, Expr, Memory, Port, Register, Reset, Signal};
 pub use chain::{deepest, deepest_behind};
 pub use disassemble::disassemble;

@@ -7,49 +7,38 @@ use mathlib.Core.Path.{refl, sym, ap, _∙_}
 use Rattle.fusion.specs.Fusion.{fusionOf, operands-are}
 use Rattle.operands.proofs.Ways.{lhs-in, rhs-in, lhs-wide, rhs-wide, sides-in, carry-in, carry-net, plain-read, carried-read, narrow-word}
 
--- src/lib.rt:122:22
 shared-slice-read-narrow : tie.Need-shared-slice-read-narrow
 shared-slice-read-narrow c = search needs
 
--- src/lib.rt:122:22
 cast-narrow : tie.Need-cast-narrow
 cast-narrow c = search needs
 
--- src/lib.rt:122:40
 mul-narrow : tie.Need-mul-narrow
 mul-narrow c = search needs
 
--- src/lib.rt:122:22
 add-narrow : tie.Need-add-narrow
 add-narrow c = search needs
 
--- src/lib.rt:122:22
 add-narrow-2 : tie.Need-add-narrow-2
 add-narrow-2 c = search needs
 
--- src/lib.rt:122:18
 mul-narrow-2 : tie.Need-mul-narrow-2
 mul-narrow-2 c = search needs
 
--- src/lib.rt:122:18
 shared-slice-read-narrow-2 : tie.Need-shared-slice-read-narrow-2
 shared-slice-read-narrow-2 c = search needs
 
--- src/lib.rt:123:9
 fusion-test-requires : tie.Need-fusion-test-requires
 fusion-test-requires c κs =
     let i = c .before .before .before .before .before .before .pre .0 in
     record { readable = i .readable; left = sides-in _ _ _ _ _ i .0; right = sides-in _ _ _ _ _ i .1 }
 
--- src/lib.rt:124:25
 enum-known-answer : tie.Need-enum-known-answer
 enum-known-answer c = search needs
 
--- src/lib.rt:125:43
 enum-told : tie.Need-enum-told
 enum-told c = search needs
 
--- src/lib.rt:125:13
 copy-whole-requires : tie.Need-copy-whole-requires
 copy-whole-requires c κs =
     let i = c .before .before .before .before .before .before .before .before .before .before .pre .0 in
@@ -57,7 +46,6 @@ copy-whole-requires c κs =
     let h = lhs-in _ _ _ _ _ i _ _ _ q in
     (i .laid, h, omega (arith, lhs-wide _ _ _ _ _ i _ _ _ q, c .before .before .before .before .before .before .before .before .before .before .pre .1))
 
--- src/lib.rt:126:9
 copy-whole-requires-2 : tie.Need-copy-whole-requires-2
 copy-whole-requires-2 c κs =
     let i = c .before .before .before .before .before .before .before .before .before .before .before .before .before .before .pre .0 in
@@ -65,26 +53,21 @@ copy-whole-requires-2 c κs =
     let h = rhs-in _ _ _ _ _ i _ _ _ q in
     (i .laid, h, omega (arith, rhs-wide _ _ _ _ _ i _ _ _ q, c .before .before .before .before .before .before .before .before .before .before .before .before .before .before .pre .1, c .before .before .before .before .before .before .before .before .before .before .before .before .before .before .pre .2))
 
--- src/lib.rt:127:13
 cut-requires : tie.Need-cut-requires
 cut-requires c κs = search needs
 
--- src/lib.rt:128:9
 same-length : tie.Need-same-length
 same-length c = search needs
 
--- src/lib.rt:128:9
 same-length-2 : tie.Need-same-length-2
 same-length-2 c = search needs
 
--- src/lib.rt:128:9
 returns : tie.Need-returns
 returns c =
     let i = c .before .before .before .before .before .before .before .before .before .before .before .before .before .before .before .before .before .before .pre .0 in
     let q = rw (sym (c .before .before .before .before .before .before .before .before .before .before .before .fusion-test .ensures) ∙ ap fusionOf (c .before .before .before .before .before .before .before .before .before .enum-told .given .1)) at (operands-are (c .before .before .before .before .before .before .before .before .before .before .before .before .before .before .before .before .before .before .args .image .now) (c .before .before .before .before .before .before .before .before .before .before .before .before .before .before .before .before .before .before .args .a) (c .before .before .before .before .before .before .before .before .before .before .before .before .before .before .before .before .before .before .args .b)) in
     plain-read _ _ _ _ _ i _ _ _ q _ _ _ _ _ _ _ _ (narrow-word _ _ _ _ _ i) (c .before .before .before .before .before .before .before .copy-whole .ensures) (c .before .before .before .copy-whole2 .ensures) (c .cut .ensures) _ (c .before .before .before .before .before .before .before .before .before .before .before .before .before .before .before .before .before .before .pre .1) refl
 
--- src/lib.rt:133:9
 copy-whole-requires-3 : tie.Need-copy-whole-requires-3
 copy-whole-requires-3 c κs =
     let i = c .before .before .before .before .before .before .before .before .before .before .before .pre .0 in
@@ -92,7 +75,6 @@ copy-whole-requires-3 c κs =
     let h = lhs-in _ _ _ _ _ i _ _ _ q in
     (i .laid, h, omega (arith, lhs-wide _ _ _ _ _ i _ _ _ q, c .before .before .before .before .before .before .before .before .before .before .before .pre .1))
 
--- src/lib.rt:134:5
 copy-whole-requires-4 : tie.Need-copy-whole-requires-4
 copy-whole-requires-4 c κs =
     let i = c .before .before .before .before .before .before .before .before .before .before .before .before .before .before .before .pre .0 in
@@ -100,11 +82,9 @@ copy-whole-requires-4 c κs =
     let h = rhs-in _ _ _ _ _ i _ _ _ q in
     (i .laid, h, omega (arith, rhs-wide _ _ _ _ _ i _ _ _ q, c .before .before .before .before .before .before .before .before .before .before .before .before .before .before .before .pre .1, c .before .before .before .before .before .before .before .before .before .before .before .before .before .before .before .pre .2))
 
--- src/lib.rt:135:9
 cut-requires-2 : tie.Need-cut-requires-2
 cut-requires-2 c κs = search needs
 
--- src/lib.rt:137:32
 expr-net-requires : tie.Need-expr-net-requires
 expr-net-requires c κs =
     let i = c .before .before .before .before .before .before .before .before .before .before .before .before .before .before .before .before .before .before .before .pre .0 in
@@ -112,15 +92,12 @@ expr-net-requires c κs =
     let h = carry-in _ _ _ _ _ i _ _ _ q in
     (i .laid, h .there, i .laid .image .exprSome _ (h .there))
 
--- src/lib.rt:110:1
 same-length-3 : tie.Need-same-length-3
 same-length-3 c = search needs
 
--- src/lib.rt:110:1
 same-length-4 : tie.Need-same-length-4
 same-length-4 c = search needs
 
--- src/lib.rt:110:1
 returns-2 : tie.Need-returns-2
 returns-2 c =
     let i = c .before .before .before .before .before .before .before .before .before .before .before .before .before .before .before .before .before .before .before .before .pre .0 in

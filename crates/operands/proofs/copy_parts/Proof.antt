@@ -11,47 +11,36 @@ Inv-loop image scr start count out₀ at₀ i₀ out at i = PartsAt image scr st
 abbrev μ-loop : tie.MeasureT-loop
 μ-loop image scr start count out₀ at₀ i₀ out at i = i
 
--- src/lib.rt:32:5
 loop-holds : tie.Need-loop-holds Inv-loop μ-loop
 loop-holds c = parts-begin _ _ _ _ _
 
--- src/lib.rt:33:9
 sub-i : tie.Need-sub-i Inv-loop μ-loop
 sub-i c = omega arith
 
--- src/lib.rt:34:63
 add-list-word : tie.Need-add-list-word Inv-loop μ-loop
 add-list-word c = omega (arith, c .before .before .before .before .before .pre .1 .room, c .before .loop .inv .below)
 
--- src/lib.rt:34:38
 list-word-requires : tie.Need-list-word-requires Inv-loop μ-loop
 list-word-requires c κs = search needs
 
--- src/lib.rt:34:80
 cast-copy-whole : tie.Need-cast-copy-whole Inv-loop μ-loop
 cast-copy-whole c = search needs
 
--- src/lib.rt:34:15
 copy-whole-requires : tie.Need-copy-whole-requires Inv-loop μ-loop
 copy-whole-requires c κs = (c .before .before .before .before .before .before .before .pre .0, rw (c .before .list-word .ensures) (c .before .before .before .before .before .before .before .pre .1 .whole _ (omega (arith, c .before .before .before .loop .inv .below))), rw (c .before .list-word .ensures) (omega (arith, parts-room _ _ _ _ _ _ _ _ (omega arith) (c .before .before .before .loop .inv), c .before .before .before .loop .inv .long, c .before .before .before .before .before .before .before .pre .2)))
 
--- src/lib.rt:34:9
 add-at : tie.Need-add-at Inv-loop μ-loop
 add-at c = omega (arith, rw (c .before .before .before .before .list-word .ensures) at (c .before .before .copy-whole .ensures .width), parts-room _ _ _ _ _ _ _ _ (omega arith) (c .before .before .before .before .before .before .loop .inv), c .before .before .before .before .before .before .before .before .before .before .pre .3)
 
--- src/lib.rt:32:5
 loop-less : tie.Need-loop-less Inv-loop μ-loop
 loop-less c = omega arith
 
--- src/lib.rt:32:5
 loop-again : tie.Need-loop-again Inv-loop μ-loop
 loop-again c = parts-turn _ _ _ _ _ _ _ _ _ _ (omega arith) (c .before .before .before .before .before .before .loop .inv) (c .before .before .copy-whole .kept .1 .1 .1 .0) (rw (c .before .before .before .before .list-word .ensures) at (c .before .before .copy-whole .ensures))
 
--- src/lib.rt:26:1
 same-length : tie.Need-same-length Inv-loop μ-loop
 same-length c = c .before .loop .inv .long
 
--- src/lib.rt:26:1
 returns : tie.Need-returns Inv-loop μ-loop
 returns c = parts-end _ _ _ _ _ _ _ _ (omega arith) (c .before .loop .inv)
 

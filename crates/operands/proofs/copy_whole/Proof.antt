@@ -4,19 +4,15 @@ use Rattle.operands.proofs.copy_whole.Statement.{statement}
 use Rattle.operands.proofs.copy_whole.Tie as tie
 use Rattle.operands.proofs.Ways.{whole-copied}
 
--- src/lib.rt:20:9
 expr-width-requires : tie.Need-expr-width-requires
 expr-width-requires c κs = search needs
 
--- src/lib.rt:21:5
 copy-range-requires : tie.Need-copy-range-requires
 copy-range-requires c κs = search needs
 
--- src/lib.rt:16:1
 same-length : tie.Need-same-length
 same-length c = search needs
 
--- src/lib.rt:16:1
 returns : tie.Need-returns
 returns c =
     let s = c .before .before .before .before .before .before .before .before in

@@ -3,11 +3,9 @@ use Rattle.operands.proofs.cut.Statement.{statement}
 use Rattle.operands.proofs.cut.Tie as tie
 use Rattle.operands.proofs.Ways.{cut-none, cut-some}
 
--- src/lib.rt:103:1
 returns : tie.Need-returns
 returns c = cut-none _ _ (c .if1 .taken)
 
--- src/lib.rt:103:1
 returns-2 : tie.Need-returns-2
 returns-2 c = cut-some _ _ (c .if1 .left)
 

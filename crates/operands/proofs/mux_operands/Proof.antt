@@ -5,27 +5,21 @@ use Rattle.operands.proofs.mux_operands.Tie as tie
 use native.Mathlib.Omega.{arith}
 use Rattle.operands.proofs.Ways.{mux-read}
 
--- src/lib.rt:71:9
 expr-net-requires : tie.Need-expr-net-requires
 expr-net-requires c κs = (c .before .before .before .before .pre .0, c .before .before .before .before .pre .1 .condition .there, c .before .before .before .before .pre .0 .image .exprSome _ (c .before .before .before .before .pre .1 .condition .there))
 
--- src/lib.rt:72:5
 copy-whole-requires : tie.Need-copy-whole-requires
 copy-whole-requires c κs = (c .before .before .before .before .before .before .pre .0, c .before .before .before .before .before .before .pre .1 .left, omega (arith, c .before .before .before .before .before .before .pre .1 .left-wide, c .before .before .before .before .before .before .pre .3))
 
--- src/lib.rt:73:5
 copy-whole-requires-2 : tie.Need-copy-whole-requires-2
 copy-whole-requires-2 c κs = (c .before .before .before .before .before .before .before .before .before .before .pre .0, c .before .before .before .before .before .before .before .before .before .before .pre .1 .right, omega (arith, c .before .before .before .before .before .before .before .before .before .before .pre .1 .right-wide, c .before .before .before .before .before .before .before .before .before .before .pre .3, c .before .before .before .before .before .before .before .before .before .before .pre .4))
 
--- src/lib.rt:58:1
 same-length : tie.Need-same-length
 same-length c = search needs
 
--- src/lib.rt:58:1
 same-length-2 : tie.Need-same-length-2
 same-length-2 c = search needs
 
--- src/lib.rt:58:1
 returns : tie.Need-returns
 returns c = mux-read _ _ (c .before .before .before .before .before .before .before .before .before .before .before .before .before .pre .0) _ _ _ _ _ _ _ _ _ _ _ _ (c .before .before .before .before .before .before .before .before .before .before .before .before .before .pre .1) (c .before .before .before .before .before .before .before .before .before .before .before .before .before .pre .2) (c .before .before .before .before .before .before .before .before .before .before .before .before .before .pre .3) (c .before .before .before .before .before .before .before .before .expr-net .ensures .whole) (c .before .before .before .before .before .before .copy-whole .ensures) (c .before .before .copy-whole2 .ensures)
 

@@ -5,15 +5,12 @@ use Rattle.operands.proofs.unary_operand.Tie as tie
 use native.Mathlib.Omega.{arith}
 use Rattle.operands.proofs.Ways.{unary-read}
 
--- src/lib.rt:51:9
 copy-whole-requires : tie.Need-copy-whole-requires
 copy-whole-requires c κs = (c .before .before .before .before .pre .0, c .before .before .before .before .pre .1, omega (arith, c .before .before .before .before .pre .5))
 
--- src/lib.rt:47:1
 same-length : tie.Need-same-length
 same-length c = search needs
 
--- src/lib.rt:47:1
 returns : tie.Need-returns
 returns c = unary-read _ _ (c .before .before .before .before .before .before .before .pre .0) _ _ _ _ _ _ _ (c .before .before .before .before .before .before .before .pre .1) (c .before .before .before .before .before .before .before .pre .2) (c .before .before .before .before .before .before .before .pre .3) (c .before .before .before .before .before .before .before .pre .4) (c .before .before .before .before .before .before .before .pre .5) (c .before .before .copy-whole .ensures)
 

@@ -11,27 +11,21 @@ Inv-loop image scr start count lsb n out₀ end at₀ to₀ i₀ out at to i = P
 abbrev μ-loop : tie.MeasureT-loop
 μ-loop image scr start count lsb n out₀ end at₀ to₀ i₀ out at to i = i
 
--- src/lib.rt:144:15
 add-end : tie.Need-add-end Inv-loop μ-loop
 add-end c = omega (arith, c .before .before .before .pre .2, c .before .before .before .pre .3)
 
--- src/lib.rt:148:5
 loop-holds : tie.Need-loop-holds Inv-loop μ-loop
 loop-holds c = pieces-begin _ _ _ _ _ _ _
 
--- src/lib.rt:149:9
 sub-i : tie.Need-sub-i Inv-loop μ-loop
 sub-i c = omega arith
 
--- src/lib.rt:150:42
 add-list-word : tie.Need-add-list-word Inv-loop μ-loop
 add-list-word c = omega (arith, c .before .before .before .before .before .pre .1 .room, c .before .loop .inv .below)
 
--- src/lib.rt:150:13
 list-word-requires : tie.Need-list-word-requires Inv-loop μ-loop
 list-word-requires c κs = search needs
 
--- src/lib.rt:151:15
 copy-piece-requires : tie.Need-copy-piece-requires Inv-loop μ-loop
 copy-piece-requires c κs =
     let some = c .before .before .loop-test .taken in
@@ -43,33 +37,26 @@ copy-piece-requires c κs =
       rw (c .before .list-word .ensures) (omega (arith, piece-room _ _ _ _ _ _ _ _ _ _ _ some (c .before .before .before .loop .inv) (omega (arith, c .before .before .before .before .before .before .before .pre .2, c .before .before .before .before .before .before .before .pre .3)), c .before .before .before .loop .inv .long, c .before .before .before .before .before .before .before .pre .4, c .before .before .before .before .before .before .before .pre .2, c .before .before .before .before .before .before .before .pre .3)),
     )
 
--- src/lib.rt:151:9
 add-to : tie.Need-add-to Inv-loop μ-loop
 add-to c =
     let r = piece-room _ _ _ _ _ _ _ _ _ _ _ (c .before .before .before .before .before .loop-test .taken) (c .before .before .before .before .before .before .loop .inv) (omega (arith, c .before .before .before .before .before .before .before .before .before .before .pre .2, c .before .before .before .before .before .before .before .before .before .before .pre .3)) in
     omega (arith, r, rw (c .before .before .before .before .list-word .ensures) at (c .before .before .copy-piece .ensures .width), c .before .before .before .before .before .before .before .before .before .before .pre .2, c .before .before .before .before .before .before .before .before .before .before .pre .3)
 
--- src/lib.rt:152:15
 expr-width-requires : tie.Need-expr-width-requires Inv-loop μ-loop
 expr-width-requires c κs = search needs
 
--- src/lib.rt:152:9
 add-at : tie.Need-add-at Inv-loop μ-loop
 add-at c = omega (arith, rw (c .before .before .before .before .before .list-word .ensures) at (c .expr-width .ensures), piece-place _ _ _ _ _ _ _ _ _ _ _ (c .before .before .before .before .before .before .loop-test .taken) (c .before .before .before .before .before .before .before .loop .inv) .1, c .before .before .before .before .before .before .before .before .before .before .before .pre .3)
 
--- src/lib.rt:148:5
 loop-less : tie.Need-loop-less Inv-loop μ-loop
 loop-less c = omega arith
 
--- src/lib.rt:148:5
 loop-again : tie.Need-loop-again Inv-loop μ-loop
 loop-again c = pieces-turn _ _ _ _ _ _ _ _ _ _ _ (c .before .before .before .before .before .before .loop-test .taken) (c .before .before .before .before .before .before .before .loop .inv) _ _ _ (c .before .before .before .before .before .before .before .before .before .before .before .pre .1) (c .before .before .before .copy-piece .kept .1 .1 .1 .1 .1 .1 .0) (rw (c .before .before .before .before .before .list-word .ensures) at (c .expr-width .ensures)) (rw (c .before .before .before .before .before .list-word .ensures) at (c .before .before .before .copy-piece .ensures))
 
--- src/lib.rt:140:1
 same-length : tie.Need-same-length Inv-loop μ-loop
 same-length c = c .before .loop .inv .long
 
--- src/lib.rt:140:1
 returns : tie.Need-returns Inv-loop μ-loop
 returns c = pieces-end _ _ _ _ _ _ _ _ _ _ _ (omega arith) (c .before .before .before .before .before .pre .2) (c .before .loop .inv)
 

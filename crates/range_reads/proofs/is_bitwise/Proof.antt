@@ -6,34 +6,27 @@ use Rattle.range_reads.specs.Asked.{isBitwise}
 use Rattle.range_reads.proofs.Ways.{not-bitwise}
 use mathlib.Core.Path.{sym}
 
--- src/lib.rt:53:26
 enum-told : tie.Need-enum-told
 enum-told c = search needs
 
--- src/lib.rt:54:25
 enum-told-2 : tie.Need-enum-told-2
 enum-told-2 c = search needs
 
--- src/lib.rt:55:26
 enum-told-3 : tie.Need-enum-told-3
 enum-told-3 c = search needs
 
--- src/lib.rt:49:1
 returns : tie.Need-returns
 unfolding isBitwise
 returns c = rw (c .enum-told .given .1)
 
--- src/lib.rt:49:1
 returns-2 : tie.Need-returns-2
 unfolding isBitwise
 returns-2 c = rw (c .enum-told2 .given .1)
 
--- src/lib.rt:49:1
 returns-3 : tie.Need-returns-3
 unfolding isBitwise
 returns-3 c = rw (c .enum-told3 .given .1)
 
--- src/lib.rt:49:1
 returns-4 : tie.Need-returns-4
 returns-4 c = sym (not-bitwise (c .before .args .op) (c .match .keys4))
 

@@ -5,27 +5,21 @@ use Rattle.range_reads.proofs.range_mux.Tie as tie
 use native.Mathlib.Omega.{arith}
 use Rattle.range_reads.proofs.Ways.{mux-read}
 
--- src/lib.rt:106:9
 expr-net-requires : tie.Need-expr-net-requires
 expr-net-requires c κs = (c .before .before .before .before .pre .0, c .before .before .before .before .pre .1 .there, c .before .before .before .before .pre .0 .image .exprSome _ (c .before .before .before .before .pre .1 .there))
 
--- src/lib.rt:107:5
 copy-range-requires : tie.Need-copy-range-requires
 copy-range-requires c κs = (c .before .before .before .before .before .before .pre .0, c .before .before .before .before .before .before .pre .2 .there, c .before .before .before .before .before .before .pre .2 .inside, omega (arith, c .before .before .before .before .before .before .pre .5))
 
--- src/lib.rt:108:5
 copy-range-requires-2 : tie.Need-copy-range-requires-2
 copy-range-requires-2 c κs = (c .before .before .before .before .before .before .before .before .before .before .pre .0, c .before .before .before .before .before .before .before .before .before .before .pre .3 .there, c .before .before .before .before .before .before .before .before .before .before .pre .3 .inside, omega (arith, c .before .before .before .before .before .before .before .before .before .before .pre .5, c .before .before .before .before .before .before .before .before .before .before .pre .6))
 
--- src/lib.rt:92:1
 same-length : tie.Need-same-length
 same-length c = search needs
 
--- src/lib.rt:92:1
 same-length-2 : tie.Need-same-length-2
 same-length-2 c = search needs
 
--- src/lib.rt:92:1
 returns : tie.Need-returns
 returns c = mux-read _ (c .before .before .before .before .before .before .before .before .before .before .before .before .before .args .scr .now) _ _ _ _ _ _ _ _ _ _ (c .before .before .before .before .before .before .before .before .before .before .before .before .before .pre .2) (c .before .before .before .before .before .before .before .before .before .before .before .before .before .pre .3) (c .before .before .before .before .before .before .before .before .before .before .before .before .before .pre .4) (c .before .before .before .before .before .before .before .before .before .before .before .before .before .pre .5) (λ l. c .before .before .before .before .before .before .before .before .expr-net .ensures .whole l (c .before .before .before .before .before .before .before .before .before .before .before .before .before .pre .1 .whole)) (c .before .before .before .before .before .before .copy-range .ensures) (c .before .before .copy-range2 .ensures)
 

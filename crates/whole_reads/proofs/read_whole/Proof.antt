@@ -5,15 +5,12 @@ use Rattle.whole_reads.proofs.read_whole.Tie as tie
 use native.Mathlib.Omega.{arith}
 use Rattle.whole_reads.proofs.Ways.{least, most, fit, signal-in, signal-read, slice-in, slice-read, constant-read, unary-in, unary-fit, unary-width, unary-made, binary-in, binary-fit, binary-made, mux-in, mux-made, parts-in, parts-wide, parts-read}
 
--- src/lib.rt:57:9
 expression-at-requires : tie.Need-expression-at-requires
 expression-at-requires c κs = search needs
 
--- src/lib.rt:61:26
 enum-known-kind : tie.Need-enum-known-kind
 enum-known-kind c = search needs
 
--- src/lib.rt:62:13
 copy-signal-requires : tie.Need-copy-signal-requires
 copy-signal-requires c κs =
     let h = c .before .before .before .before .before .before .before .before .before .pre .0 in
@@ -21,30 +18,24 @@ copy-signal-requires c κs =
     let i = signal-in _ _ _ h _ d _ _ (c .before .before .kind .given .1) in
     (h .tabled .laid, i .0, i .1, omega (arith, fit _ _ _ h _ d (c .before .before .before .before .before .before .before .before .before .pre .1)))
 
--- src/lib.rt:63:13
 copied-requires : tie.Need-copied-requires
 copied-requires c κs = search needs
 
--- src/lib.rt:65:28
 enum-known-kind-2 : tie.Need-enum-known-kind-2
 enum-known-kind-2 c = search needs
 
--- src/lib.rt:69:25
 enum-known-kind-3 : tie.Need-enum-known-kind-3
 enum-known-kind-3 c = search needs
 
--- src/lib.rt:69:35
 unary-operand-requires : tie.Need-unary-operand-requires
 unary-operand-requires c κs =
     let h = c .before .before .before .before .before .before .before .before .before .pre .0 in
     let d = c .before .before .before .before .expression-at .ensures in
     (h .tabled .laid, unary-in _ _ _ h _ d _ _ (c .before .before .kind3 .given .1), unary-width _ _ _ h _ d _ _ (c .before .before .kind3 .given .1), least _ _ _ h _ d, fit _ _ _ h _ d (c .before .before .before .before .before .before .before .before .before .pre .1), unary-fit _ _ _ h _ d _ _ (c .before .before .kind3 .given .1) (c .before .before .before .before .before .before .before .before .before .pre .1))
 
--- src/lib.rt:70:26
 enum-known-kind-4 : tie.Need-enum-known-kind-4
 enum-known-kind-4 c = search needs
 
--- src/lib.rt:70:39
 two-operands-requires : tie.Need-two-operands-requires
 two-operands-requires c κs =
     let h = c .before .before .before .before .before .before .before .before .before .before .pre .0 in
@@ -53,22 +44,18 @@ two-operands-requires c κs =
     let i = binary-fit _ _ _ h _ d _ _ _ q (c .before .before .before .before .before .before .before .before .before .before .pre .1) in
     (binary-in _ _ _ h _ d _ _ _ q, c .before .before .before .before .before .before .before .before .before .before .pre .1 .most, i .0, i .1, c .before .before .before .before .before .before .before .before .before .before .pre .2)
 
--- src/lib.rt:71:23
 enum-known-kind-5 : tie.Need-enum-known-kind-5
 enum-known-kind-5 c = search needs
 
--- src/lib.rt:71:35
 mux-operands-requires : tie.Need-mux-operands-requires
 mux-operands-requires c κs =
     let h = c .before .before .before .before .before .before .before .before .before .before .pre .0 in
     let d = c .before .before .before .before .before .expression-at .ensures in
     (h .tabled .laid, mux-in _ _ _ h _ d _ _ _ (c .before .before .before .kind5 .given .1), least _ _ _ h _ d, fit _ _ _ h _ d (c .before .before .before .before .before .before .before .before .before .before .pre .1), c .before .before .before .before .before .before .before .before .before .before .pre .2)
 
--- src/lib.rt:72:26
 enum-known-kind-6 : tie.Need-enum-known-kind-6
 enum-known-kind-6 c = search needs
 
--- src/lib.rt:73:13
 copy-parts-requires : tie.Need-copy-parts-requires
 copy-parts-requires c κs =
     let h = c .before .before .before .before .before .before .before .before .before .pre .0 in
@@ -76,15 +63,12 @@ copy-parts-requires c κs =
     let i = parts-wide _ _ _ h _ d _ _ (c .before .before .kind6 .given .1) in
     (h .tabled .laid, parts-in _ _ _ h _ d _ _ (c .before .before .kind6 .given .1), omega (arith, i, fit _ _ _ h _ d (c .before .before .before .before .before .before .before .before .before .pre .1)), omega (arith, i, most _ _ _ h _ d))
 
--- src/lib.rt:74:13
 copied-requires-2 : tie.Need-copied-requires-2
 copied-requires-2 c κs = search needs
 
--- src/lib.rt:76:25
 enum-known-kind-7 : tie.Need-enum-known-kind-7
 enum-known-kind-7 c = search needs
 
--- src/lib.rt:77:13
 copy-range-requires : tie.Need-copy-range-requires
 copy-range-requires c κs =
     let h = c .before .before .before .before .before .before .before .before .before .pre .0 in
@@ -92,67 +76,51 @@ copy-range-requires c κs =
     let i = slice-in _ _ _ h _ d _ _ (c .before .before .kind7 .given .1) in
     (h .tabled .laid, i .0, i .1, omega (arith, fit _ _ _ h _ d (c .before .before .before .before .before .before .before .before .before .pre .1)))
 
--- src/lib.rt:78:13
 copied-requires-3 : tie.Need-copied-requires-3
 copied-requires-3 c κs = search needs
 
--- src/lib.rt:53:1
 same-length : tie.Need-same-length
 same-length c = search needs
 
--- src/lib.rt:53:1
 returns : tie.Need-returns
 returns c = signal-read _ _ _ (c .before .before .before .before .before .before .before .before .before .before .before .before .before .pre .0) _ (c .before .before .before .before .before .before .before .before .expression-at .ensures) _ _ (c .before .before .before .before .before .before .kind .given .1) (c .before .before .before .before .before .before .before .before .before .before .before .before .before .pre .1) _ _ _ _ (c .before .before .before .copy-signal .ensures) (c .copied .ensures)
 
--- src/lib.rt:53:1
 returns-2 : tie.Need-returns-2
 returns-2 c = constant-read _ _ _ (c .before .before .before .before .before .before .before .before .pre .0) _ (c .before .before .before .expression-at .ensures) _ (c .before .kind2 .given .1) (c .before .before .before .before .before .before .before .before .pre .1) _ _
 
--- src/lib.rt:53:1
 same-length-2 : tie.Need-same-length-2
 same-length-2 c = search needs
 
--- src/lib.rt:53:1
 returns-3 : tie.Need-returns-3
 returns-3 c = unary-made _ _ _ (c .before .before .before .before .before .before .before .before .before .before .before .before .pre .0) _ (c .before .before .before .before .before .before .before .expression-at .ensures) _ _ (c .before .before .before .before .before .kind3 .given .1) _ _ _ (c .before .before .unary-operand .ensures _)
 
--- src/lib.rt:53:1
 same-length-3 : tie.Need-same-length-3
 same-length-3 c = search needs
 
--- src/lib.rt:53:1
 same-length-4 : tie.Need-same-length-4
 same-length-4 c = search needs
 
--- src/lib.rt:53:1
 returns-4 : tie.Need-returns-4
 returns-4 c = binary-made _ _ _ (c .before .before .before .before .before .before .before .before .before .before .before .before .before .before .before .pre .0) _ (c .before .before .before .before .before .before .before .before .before .before .expression-at .ensures) _ _ _ (c .before .before .before .before .before .before .before .before .kind4 .given .1) _ _ _ (c .before .before .before .before .two-operands .ensures)
 
--- src/lib.rt:53:1
 same-length-5 : tie.Need-same-length-5
 same-length-5 c = search needs
 
--- src/lib.rt:53:1
 same-length-6 : tie.Need-same-length-6
 same-length-6 c = search needs
 
--- src/lib.rt:53:1
 returns-5 : tie.Need-returns-5
 returns-5 c = mux-made _ _ _ (c .before .before .before .before .before .before .before .before .before .before .before .before .before .before .before .pre .0) _ (c .before .before .before .before .before .before .before .before .before .before .expression-at .ensures) _ _ _ (c .before .before .before .before .before .before .before .before .kind5 .given .1) _ _ _ (c .before .before .before .before .mux-operands .ensures)
 
--- src/lib.rt:53:1
 same-length-7 : tie.Need-same-length-7
 same-length-7 c = search needs
 
--- src/lib.rt:53:1
 returns-6 : tie.Need-returns-6
 returns-6 c = parts-read _ _ _ (c .before .before .before .before .before .before .before .before .before .before .before .before .before .pre .0) _ (c .before .before .before .before .before .before .before .before .expression-at .ensures) _ _ (c .before .before .before .before .before .before .kind6 .given .1) (c .before .before .before .before .before .before .before .before .before .before .before .before .before .pre .1) _ _ _ (c .before .before .before .copy-parts .ensures) (c .copied2 .ensures)
 
--- src/lib.rt:53:1
 same-length-8 : tie.Need-same-length-8
 same-length-8 c = search needs
 
--- src/lib.rt:53:1
 returns-7 : tie.Need-returns-7
 returns-7 c = slice-read _ _ _ (c .before .before .before .before .before .before .before .before .before .before .before .before .before .pre .0) _ (c .before .before .before .before .before .before .before .before .expression-at .ensures) _ _ (c .before .before .before .before .before .before .kind7 .given .1) (c .before .before .before .before .before .before .before .before .before .before .before .before .before .pre .1) _ _ _ _ (c .before .before .before .copy-range .ensures) (c .copied3 .ensures)
 

@@ -5,23 +5,18 @@ use Rattle.whole_reads.proofs.two_operands.Tie as tie
 use Rattle.expr_laws.specs.Exprs.{width-least}
 use Rattle.whole_reads.proofs.Ways.{add-in, add-made, no-add, not-adds, plain-sides, plain-width, plain-made}
 
--- src/lib.rt:34:11
 op-class-requires : tie.Need-op-class-requires
 op-class-requires c κs = search needs
 
--- src/lib.rt:35:70
 enum-told : tie.Need-enum-told
 enum-told c = search needs
 
--- src/lib.rt:35:26
 add-operands-requires : tie.Need-add-operands-requires
 add-operands-requires c κs = (add-in _ _ _ _ _ _ (c .before .before .before .before .before .before .before .before .before .pre .0) _ (c .before .before .before .before .op-class .ensures) (c .before .before .enum-told .given .1), c .before .before .before .before .before .before .before .before .before .pre .1, c .before .before .before .before .before .before .before .before .before .pre .4)
 
--- src/lib.rt:37:17
 expr-width-requires : tie.Need-expr-width-requires
 expr-width-requires c κs = search needs
 
--- src/lib.rt:38:13
 binary-operands-requires : tie.Need-binary-operands-requires
 binary-operands-requires c κs =
     let h = c .before .before .before .before .before .before .before .before .before .pre .0 in
@@ -30,27 +25,21 @@ binary-operands-requires c κs =
     let v = c .before .before .expr-width .ensures in
     (t .laid, plain-sides _ _ _ _ _ _ h no .0, plain-sides _ _ _ _ _ _ h no .1, rw v (plain-width _ _ _ _ _ _ h no), rw v (width-least _ (t .readable) _ (t .inside)), rw v (c .before .before .before .before .before .before .before .before .before .pre .1), c .before .before .before .before .before .before .before .before .before .pre .2, c .before .before .before .before .before .before .before .before .before .pre .3, c .before .before .before .before .before .before .before .before .before .pre .4)
 
--- src/lib.rt:21:1
 same-length : tie.Need-same-length
 same-length c = search needs
 
--- src/lib.rt:21:1
 same-length-2 : tie.Need-same-length-2
 same-length-2 c = search needs
 
--- src/lib.rt:21:1
 returns : tie.Need-returns
 returns c = add-made _ _ _ _ _ _ (c .before .before .before .before .before .before .before .before .before .before .before .before .before .before .pre .0) _ _ _ _ (c .before .before .before .before .before .before .before .before .before .op-class .ensures) (c .before .before .before .before .before .before .before .enum-told .given .1) (c .before .before .before .before .add-operands .ensures)
 
--- src/lib.rt:21:1
 same-length-3 : tie.Need-same-length-3
 same-length-3 c = search needs
 
--- src/lib.rt:21:1
 same-length-4 : tie.Need-same-length-4
 same-length-4 c = search needs
 
--- src/lib.rt:21:1
 returns-2 : tie.Need-returns-2
 returns-2 c =
     let h = c .before .before .before .before .before .before .before .before .before .before .before .before .before .before .pre .0 in

@@ -11,6 +11,8 @@ mod memories;
 mod names;
 mod widths;
 
+pub use memories::port;
+
 use crate::format::{netlist_words, Image};
 
 /// A description, an image, net limit, list limit, netlist words, scratch words.
