@@ -1,5 +1,4 @@
 -- `cached::bucket` meets its contract. Assumes nothing.
-use borrow.Author.Needs.{needs}
 use Rattle.cached.proofs.bucket.Statement.{statement}
 use Rattle.cached.proofs.bucket.Tie as tie
 use Prim.Native.Nat.{ℕ, _*_, _/_, _≤_, _<_}
