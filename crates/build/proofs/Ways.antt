@@ -31,7 +31,7 @@ use Rattle.netlist_index.specs.Index.{Held}
 use Rattle.constant_fold.specs.Values.{filledOf, Fills}
 use Rattle.constant_fold.specs.declared.Filled.{Filled}
 use Rattle.constant_fold.specs.declared.Filled.the-variants as F
-use Rattle.table_view.specs.View.{limitOf, Laid, Writes}
+use Rattle.table_view.specs.View.{limitOf, Writes}
 use Rattle.table_view.specs.Bounds.{whole-told, expr-count, expr-width}
 use Rattle.tables.specs.Answers.{Small}
 use Rattle.tasks.specs.Tasks.{JobFits, Read, jobMade}
@@ -47,9 +47,10 @@ use Rattle.walk_view.specs.Met.{met, AllMet, Grows, grows-netlist, grows-whole,
 use Rattle.walk_view.specs.View.{indexOf, walkState, There, Ready, Sure, Builds, outOf}
 use Rattle.walk_view.specs.declared.Lowered.{Lowered}
 use Rattle.walk_view.specs.declared.Lowered.the-variants as L
-use Rattle.sure_laws.specs.Stores.{kept-then, no-store, stored-ready, stored-kept, stored-state, lent-stays, lent-ready, lent-kept, lent-state}
+use Rattle.sure_laws.specs.Stores.{kept-then, stored-ready, stored-kept, stored-state, lent-stays, lent-ready, lent-kept, lent-state}
 use Rattle.sure_laws.specs.Makes.{has, whole-there, range-there, makes-below}
-use Rattle.build.specs.Built.{Performed, loweredOf, storedBy, Keeps}
+use Rattle.build_keeps.specs.Keeps.{loweredOf, storedBy, Keeps}
+use Rattle.build.specs.Built.{Performed}
 
 -- ---- what the reads ask ----
 
@@ -161,18 +162,6 @@ small model s net w net′ w′ xs k r long m p e i v =
     let x = below-at (count l) (take k xs) i 0 (omega (arith, length-take-le k xs long)) b in
     let q = subst (λ (n : ℕ). Held n net′ (indexOf w′)) (p .limit) (p .ready .held) in
     omega (arith, getD-take k xs i 0 v, x, q .built .fit .few, q .built .nets)
-
--- ---- what is kept ----
-
-module _ (op : State → State) (s w : List ℕ) (made : Filled) where
-  pub keeps-done : (w′ : List ℕ) → made ≡ F.Done → Writes op s w w′ → Keeps op s w made L.Done w′
-  keeps-done w′ e h = subst (λ (x : Filled). Keeps op s w x L.Done w′) (sym e) (record { answers = refl; writes = h })
-
-  pub keeps-nets : made ≡ F.TooManyNets → Laid s w → Keeps op s w made L.TooManyNets w
-  keeps-nets e h = subst (λ (x : Filled). Keeps op s w x L.TooManyNets w) (sym e) (record { answers = refl; writes = no-store s w h })
-
-  pub keeps-list : made ≡ F.ListFull → Laid s w → Keeps op s w made L.ListFull w
-  keeps-list e h = subst (λ (x : Filled). Keeps op s w x L.ListFull w) (sym e) (record { answers = refl; writes = no-store s w h })
 
 -- ---- what is left at the end ----
 

@@ -9,14 +9,12 @@ ghost use Rattle.model.specs.Lowering as model;
 ghost use Rattle.expr_laws.specs.Exprs.{exprsOf};
 ghost use Rattle.netlist_view.specs.View.{netlistOf};
 ghost use Rattle.gates.specs.Nots.{PlainNots};
-ghost use Rattle.constant_fold.specs.declared.Filled.the-variants as F;
-ghost use Rattle.table_view.specs.View.{limitOf, Laid};
-ghost use Rattle.tables.specs.Answers.{Small};
+ghost use Rattle.table_view.specs.View.{limitOf};
 ghost use Rattle.tasks.specs.Tasks.{jobMade, JobFits};
 ghost use Rattle.whole_reads.specs.Asked.{Room};
 ghost use Rattle.walk_view.specs.Met.{AllMet};
 ghost use Rattle.walk_view.specs.View.{walkState, Ready, Sure, Builds};
-ghost use Rattle.build.specs.Built.{Performed, Keeps};
+ghost use Rattle.build.specs.Built.{Performed};
 use constant_fold::Filled;
 use tasks::Job;
 use walk_view::Lowered;
@@ -39,21 +37,6 @@ fn make(
     perform::perform(image, net, &mut scr[64..end], n, job, w, xs, ys)
 }
 
-// The nets made are those of the whole expression.
-fn keep_whole(image: &[u8], scr: &mut [u32], e: u32, nets: &[u32], w: u32, made: Filled) -> Lowered
-    requires { ⌜ (Laid (now image) (now scr)) × (e < countAt (now image) 1) × (w ≡ exprWidth (now image) e) × (w ≤ length (now nets)) × (made ≡ F.Done → Small w (now nets)) ⌝ }
-    ensures { λ r. ⌜ Keeps (λ st. model.setWhole st e (take w (now (nets .entry)))) (now (image .entry)) (now (scr .entry)) made r (now (scr .exit)) ⌝ }
-{
-    match made {
-        Filled::Done => {
-            tables::keep_whole(image, scr, e, nets, w);
-            Lowered::Done
-        }
-        Filled::TooManyNets => Lowered::TooManyNets,
-        Filled::ListFull => Lowered::ListFull,
-    }
-}
-
 // A whole expression, made in two lists.
 fn whole_in(
     image: &[u8],
@@ -69,7 +52,7 @@ fn whole_in(
     let w = fields::expr_width(image, e);
     let job = whole_reads::read_whole(image, scr, e, xs, ys);
     let made = make(image, net, scr, job, w, xs, ys);
-    keep_whole(image, scr, e, xs, w, made)
+    build_keeps::keep_whole(image, scr, e, xs, w, made)
 }
 
 // A narrow expression.
@@ -101,29 +84,6 @@ pub fn build_whole(image: &[u8], net: &mut [u32], scr: &mut [u32], e: u32) -> Lo
     whole_large(image, net, scr, e)
 }
 
-// The nets made are those of w bits of the expression, from lsb on.
-fn keep_range(
-    image: &[u8],
-    scr: &mut [u32],
-    e: u32,
-    lsb: u32,
-    nets: &[u32],
-    w: u32,
-    made: Filled,
-) -> Lowered
-    requires { ⌜ (Laid (now image) (now scr)) × (e < countAt (now image) 1) × (lsb + w ≤ exprWidth (now image) e) × (w ≤ length (now nets)) × (made ≡ F.Done → Small w (now nets)) ⌝ }
-    ensures { λ r. ⌜ Keeps (λ st. model.setRange st e lsb (take w (now (nets .entry)))) (now (image .entry)) (now (scr .entry)) made r (now (scr .exit)) ⌝ }
-{
-    match made {
-        Filled::Done => {
-            tables::keep_range(image, scr, e, lsb, nets, w);
-            Lowered::Done
-        }
-        Filled::TooManyNets => Lowered::TooManyNets,
-        Filled::ListFull => Lowered::ListFull,
-    }
-}
-
 // A range of an expression, made in two lists.
 fn range_in(
     image: &[u8],
@@ -140,7 +100,7 @@ fn range_in(
 {
     let job = range_reads::read_range(image, scr, e, lsb, w, xs, ys);
     let made = make(image, net, scr, job, w, xs, ys);
-    keep_range(image, scr, e, lsb, xs, w, made)
+    build_keeps::keep_range(image, scr, e, lsb, xs, w, made)
 }
 
 // A narrow range.

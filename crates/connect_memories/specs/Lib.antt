@@ -1,3 +1,2 @@
--- What connecting one memory is, and words put into a record.
-pub mod Puts
-pub mod Memories
+-- What connecting one memory is.
+pub mod Turns

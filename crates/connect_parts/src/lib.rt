@@ -4,13 +4,11 @@ ghost use Prim.Native.Nat.{_<_};
 ghost use lib.ListN.{getD};
 ghost use Rattle.meaning.specs.Image.{countAt, signalWidth};
 ghost use Rattle.model.specs.Words.{Netlist, lowWord, bitWord};
-ghost use Rattle.model.specs.Lowering as model;
 ghost use Rattle.model.specs.Lowering.{signalNet, pushRecord};
 ghost use Rattle.netlist_view.specs.View.{Formed};
 ghost use Rattle.table_view.specs.View.{stateOf, Laid};
 ghost use Rattle.records.specs.Others.{enableMeans};
 ghost use Rattle.walk_view.specs.View.{walkState, Ready, Sure};
-ghost use Rattle.walk_steps.specs.Steps.{GivesAll};
 ghost use Rattle.connect_parts.specs.Ran.{Ran};
 ghost use Rattle.connect_parts.specs.Parts.{ThereControl, IsControl};
 use lists::Pushed;
@@ -62,17 +60,6 @@ pub fn control_words(image: &[u8], scr: &[u32], e: Enable) -> ControlWords
             net: bit_net(image, scr, c.signal, 0),
             level: low_word(c.level),
         },
-    }
-}
-
-// A control that may be absent.
-pub fn lower_control(image: &[u8], net: &mut [u32], scr: &mut [u32], e: Enable) -> Lowered
-    requires { ⌜ (Ready (now image) (now net) (now scr)) × (Sure (now image) (now net) (now scr)) × (ThereControl (now image) (enableMeans e)) ⌝ }
-    ensures { λ r. ⌜ GivesAll (now (image .entry)) (now (net .entry)) (now (scr .entry)) (model.controlSteps (enableMeans e)) r (now (net .exit)) (now (scr .exit)) ⌝ }
-{
-    match e {
-        Enable::Absent => Lowered::Done,
-        Enable::Present(c) => walk::resolve_signal_bit(image, net, scr, c.signal, 0),
     }
 }
 

@@ -1,5 +1,5 @@
 -- What each way through the functions gives, from what their calls give. Assumes nothing.
-use mathlib.Core.Path.{_≡_, refl, sym, ap, _∙_, subst}
+use mathlib.Core.Path.{_≡_, refl, sym, ap, _∙_}
 use mathlib.Core.Bool.{Bool, true, false}
 use mathlib.Core.List.{List, [], _∷_, _++_}
 use mathlib.Core.Option.{Option, none, some}
@@ -8,17 +8,14 @@ use native.Mathlib.Omega.{arith}
 use Rattle.rtl.specs.Rtl as R
 use Rattle.rules.specs.Rules.{_≡?_, pick, each, listOf}
 use Rattle.rules.specs.Laws.{no-eq}
-use Rattle.meaning.specs.Image.{absent, countAt, field, signalWidth, exprWidth, controlOf, optional, registerOf, registerAt, decode}
+use Rattle.meaning.specs.Image.{absent, countAt, field, signalWidth, controlOf, optional, registerOf, registerAt, decode}
 use Rattle.registers.specs.Good.{GoodReset, GoodResetOf}
 use Rattle.checks.specs.Accepted.{Accepted}
-use Rattle.model.specs.Words.{lowWord, bitWord, controlWords, resetWords}
-use Rattle.model.specs.Builder.{refused, andThen, constantValue}
-use Rattle.model.specs.Lowering.{State, Whole, Bit, signalNet, wholeNet, optionControl, wholes, bitStep, controlSteps, resetSteps, registerSteps, lowerAll, pushRecord, resetBy, registerBit, registerBits, connectRegisters}
+use Rattle.model.specs.Builder.{andThen}
+use Rattle.model.specs.Lowering.{State, Whole, Bit, wholes, bitStep, controlSteps, resetSteps, registerSteps, lowerAll, connectRegisters}
 use Rattle.records.specs.declared.Register.{Register}
 use Rattle.records.specs.declared.Reset.{Reset}
-use Rattle.records.specs.declared.ResetOption.{ResetOption}
-use Rattle.records.specs.declared.ResetOption.the-variants as O
-use Rattle.records.specs.Others.{controlMeans, enableMeans, resetMeans, registerMeans}
+use Rattle.records.specs.Others.{enableMeans, resetMeans, registerMeans}
 use Rattle.walk_view.specs.Met.{AllMet, all-append}
 use Rattle.walk_view.specs.View.{walkState, Ready, Sure, Gives}
 use Rattle.walk_view.specs.declared.Lowered.{Lowered}
@@ -29,8 +26,8 @@ use Rattle.walk_view.specs.Turns.{inTurn}
 use Rattle.connect_parts.specs.Ran.{then-then}
 use Rattle.connect_parts.specs.Steps.{gives-then, gives-out}
 use Rattle.connect_parts.specs.Parts.{control-there, met-whole}
-use Rattle.connect_registers.specs.declared.ResetWords.{ResetWords}
-use Rattle.connect_registers.specs.Registers.{bitsTurn, registerTurn, resetOf, ThereReset, WideReset, There, WholeReset, Wholes, bitWords, fourWords, netReset}
+use Rattle.register_records.specs.Registers.{bitsTurn, ThereReset, WideReset, There, WholeReset, Wholes}
+use Rattle.connect_registers.specs.Turns.{registerTurn}
 
 -- ---- an accepted image's registers ----
 
@@ -69,34 +66,6 @@ module _ (s net w : List ℕ) where
 pub register-whole : {s net₀ w₀ net w : List ℕ} {r : R.Register} {x : Lowered} → There s r → GivesAll s net₀ w₀ (registerSteps r) x net w → x ≡ Done → Wholes s w r
 register-whole {s} {net₀} {w₀} {net} {w} {r} h g d = all-whole s net w r h (g .meets d)
 
--- ---- the code's reset ----
-
-pub absent-means : (o : ResetOption) → o ≡ O.Absent → resetMeans o ≡ none
-unfolding resetMeans
-absent-means o q = rw q
-
-pub present-means : (o : ResetOption) (x : Reset) → o ≡ O.Present x → resetMeans o ≡ some (resetOf x)
-unfolding resetMeans controlMeans
-present-means o x q = rw q
-
-module _ (x : Register) where
-  pub register-reset : registerMeans x .reset ≡ resetMeans (x .reset)
-  unfolding registerMeans
-  register-reset = refl
-
-module _ (x : Register) (y : Reset) (q : x .reset ≡ O.Present y) where
-  pub reset-is : registerMeans x .reset ≡ some (resetOf y)
-  reset-is = register-reset x ∙ present-means (x .reset) y q
-
-  pub there-reset : (s : List ℕ) → There s (registerMeans x) → ThereReset s (some (resetOf y))
-  there-reset s h = subst (ThereReset s) reset-is (h .reset)
-
-  pub wide-reset : (s : List ℕ) → There s (registerMeans x) → exprWidth s (y .value) ≡ signalWidth s (registerMeans x .target)
-  wide-reset s h = subst (WideReset s (signalWidth s (registerMeans x .target))) reset-is (h .wide)
-
-  pub whole-reset : (s w : List ℕ) → Wholes s w (registerMeans x) → WholeReset s w (some (resetOf y))
-  whole-reset s w h = subst (WholeReset s w) reset-is (h .reset)
-
 -- ---- the parts of a register, in turn: y, z, u are the answers ----
 
 module _ (s net w : List ℕ) (x : Register) (r : Ready s net w) (i : Sure s net w) (h : There s (registerMeans x)) (y : Lowered) (net₁ w₁ : List ℕ)
@@ -132,38 +101,11 @@ module _ (s net w : List ℕ) (x : Register) (r : Ready s net w) (i : Sure s net
       unfolding registerMeans
       reset-given d₃ v net₄ w₄ g₄ = gives-then (resetSteps (resetMeans (x .reset))) enable-given d₃ g₄
 
--- ---- a bit's record ----
-
-pub four-words : (st : State) (x : R.Reset) (v n l m : ℕ) → n ≡ signalNet st (x .control .signal) 0 → l ≡ lowWord (x .control .level) → m ≡ bitWord (x .asynchronous)
-    → resetWords (some (netReset st x v)) ≡ n ∷ l ∷ m ∷ v ∷ []
-four-words st x v n l m a b c = rw (a, b, c)
-
-pub bit-words : (st : State) (k b t n c e : ℕ) (r : R.Register) (p q : ℕ) (zs : List ℕ) → t ≡ signalNet st (r .target) b → n ≡ wholeNet st (r .next) b → c ≡ signalNet st (r .clock) 0
-    → e ≡ lowWord (r .rising) → controlWords (optionControl st (r .enable)) ≡ p ∷ q ∷ []
-    → 1 ∷ k ∷ b ∷ t ∷ n ∷ c ∷ e ∷ p ∷ q ∷ zs ≡ bitWords k r b st zs
-bit-words st k b t n c e r p q zs a₀ a₁ a₂ a₃ a₄ = rw (a₀, a₁, a₂, a₃, a₄)
-
-module _ (k b : ℕ) (r : R.Register) (st : State) (x : R.Reset) (n : ℕ) (is : n ≡ wholeNet st (x .value) b) where
-  at-value : (o : Option Bool) → constantValue (st .netlist) n ≡ o → registerBit (some x) k r b st ≡ resetBy o k r b st x
-  at-value o c = ap (λ (y : Option Bool). resetBy y k r b st x) (ap (constantValue (st .netlist)) (sym is) ∙ c)
-
-  pub bit-other : constantValue (st .netlist) n ≡ none → registerBit (some x) k r b st ≡ refused 8 k b
-  bit-other c = at-value none c
-
-  pub bit-constant : (v : Bool) (z : ResetWords) → constantValue (st .netlist) n ≡ some v → resetWords (some (netReset st x (bitWord v))) ≡ fourWords z
-      → registerBit (some x) k r b st ≡ pushRecord (bitWords k r b st (fourWords z)) st
-  bit-constant v z c e = at-value (some v) c ∙ ap (λ (zs : List ℕ). pushRecord (bitWords k r b st zs) st) e
-
--- ---- all bits, all registers ----
+-- ---- all registers ----
 
 pub turn-as : (s : List ℕ) (k : ℕ) (x : Register) (st : State) → registerMeans x ≡ registerAt s k
     → registerTurn s k st ≡ andThen (lowerAll (decode s) false (registerSteps (registerMeans x)) st) (λ st₁. bitsTurn s k (registerMeans x) st₁)
 turn-as s k x st e = ap (λ (r : R.Register). andThen (lowerAll (decode s) false (registerSteps r) st) (λ st₁. bitsTurn s k r st₁)) (sym e)
-
-pub bits-turns : (k : ℕ) (r : R.Register) (b n : ℕ) (st : State) → registerBits k r b n st ≡ inTurn (registerBit (r .reset) k r) b n st
-unfolding registerBits inTurn
-bits-turns k r b zero st = refl
-bits-turns k r b (suc n) st = ap (andThen (registerBit (r .reset) k r b st)) (λ i st₁. bits-turns k r (suc b) n st₁ i)
 
 registers-turns : (s : List ℕ) (i n : ℕ) (st : State) → connectRegisters (decode s) false i (each (registerAt s) i n) st ≡ inTurn (registerTurn s) i n st
 unfolding connectRegisters each inTurn

@@ -1,2 +1,2 @@
 -- What connecting one register is.
-pub mod Registers
+pub mod Turns

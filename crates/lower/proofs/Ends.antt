@@ -32,7 +32,8 @@ use Rattle.walk_view.specs.declared.Lowered.{Lowered}
 use Rattle.walk_view.specs.declared.Lowered.the-variants as L
 use Rattle.walk_view.specs.View.{walkState, outOf, Phase}
 use Rattle.walk_view.specs.Answers as answers
-use Rattle.lower.specs.Lower.{endOf, keptOf, wordsAfter, Lent, Prepared, Ended}
+use Rattle.outcome.specs.Answer.{endOf}
+use Rattle.lower.specs.Lower.{keptOf, wordsAfter, Lent, Prepared, Ended}
 use Rattle.lower.proofs.Stages.{limit-kept}
 
 -- ---- the netlist words after an answer ----

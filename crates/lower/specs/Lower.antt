@@ -1,10 +1,8 @@
--- The lowering call's answer as document 01's numbers, and what its steps ask and leave: the words lent to the walk, its start, its end.
--- Assumes nothing.
+-- What the steps of the lowering call ask and leave: the words lent to the walk, its start, its end. Assumes nothing.
 use mathlib.Core.Path.{_≡_}
 use mathlib.Core.List.{List}
 use Prim.Native.Nat.{ℕ, _+_, _*_, _≤_, _<_}
 use lib.ListN.{length, replicate}
-use Rattle.rules.specs.Rules.{Answer, Fine, Refused}
 use Rattle.meaning.specs.Image.{decode}
 use Rattle.meaning.specs.Checks.{netlistNeed, scratchNeed}
 use Rattle.model.specs.Words.{Netlist, words}
@@ -17,32 +15,7 @@ use Rattle.table_view.specs.View.{limitOf}
 use Rattle.walk_view.specs.View.{walkState, Ready}
 use Rattle.walk_view.specs.declared.Lowered.{Lowered}
 use Rattle.walk_view.specs.declared.Lowered.the-variants as L
-use Rattle.lower.specs.declared.Outcome.{Outcome}
-use Rattle.lower.specs.declared.Outcome.the-variants as O
-
--- ---- answers by number and places ----
-
-unfoldable pub answerOf : Outcome → Answer
-answerOf O.Fine = Fine
-answerOf O.Limits = Refused 1 0 0
-answerOf O.NetlistShort = Refused 2 0 0
-answerOf (O.Field f) = Refused 3 f 0
-answerOf (O.Record k r) = Refused 4 k r
-answerOf O.ScratchShort = Refused 5 0 0
-answerOf (O.Undriven p b) = Refused 6 p b
-answerOf (O.Loop p b) = Refused 7 p b
-answerOf (O.Reset r b) = Refused 8 r b
-answerOf O.TooManyNets = Refused 9 0 0
-answerOf O.ListFull = Refused 10 0 0
-
--- the walk's answer
-unfoldable pub endOf : Lowered → Answer
-endOf L.Done = Fine
-endOf (L.Undriven p b) = Refused 6 p b
-endOf (L.Loop p b) = Refused 7 p b
-endOf (L.Reset r b) = Refused 8 r b
-endOf L.TooManyNets = Refused 9 0 0
-endOf L.ListFull = Refused 10 0 0
+use Rattle.outcome.specs.Answer.{endOf}
 
 -- ---- the walk ----
 

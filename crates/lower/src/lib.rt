@@ -6,29 +6,15 @@ ghost use Rattle.meaning.specs.Image.{decode};
 ghost use Rattle.meaning.specs.Checks as rule;
 ghost use Rattle.model.specs.Lowering as model;
 ghost use Rattle.call.specs.Call as call;
-ghost use Rattle.checks.specs.Checked as checked;
 ghost use Rattle.checks.specs.Accepted.{Accepted};
 ghost use Rattle.netlist_view.specs.View.{room};
 ghost use Rattle.table_view.specs.View.{limitOf};
 ghost use Rattle.walk_view.specs.View.{Phase};
-ghost use Rattle.lower.specs.Lower.{answerOf, endOf, keptOf, Lent, Begun, Prepared, Ended};
+ghost use Rattle.outcome.specs.Answer.{answerOf};
+ghost use Rattle.lower.specs.Lower.{keptOf, Lent, Begun, Prepared, Ended};
 use checks::Checked;
+use outcome::Outcome;
 use walk_view::Lowered;
-
-// Accepted, or a refusal of document 01 with its place: 1 to 10 in this order.
-pub enum Outcome {
-    Fine,
-    Limits,
-    NetlistShort,
-    Field(u32),
-    Record(u32, u32),
-    ScratchShort,
-    Undriven(u32, u32),
-    Loop(u32, u32),
-    Reset(u32, u32),
-    TooManyNets,
-    ListFull,
-}
 
 // The start: the scratch laid out, the widths of narrowed adders, an empty netlist.
 fn prepare(image: &[u8], n: u32, net: &mut [u32], scr: &mut [u32])
@@ -93,34 +79,6 @@ fn scratch_need(image: &[u8], n: u32) -> usize
     need as usize
 }
 
-// A check's answer.
-fn of_check(c: Checked) -> Outcome
-    ensures { λ r. ⌜ answerOf r ≡ checked.answerOf c ⌝ }
-{
-    match c {
-        Checked::Fine => Outcome::Fine,
-        Checked::Limits => Outcome::Limits,
-        Checked::NetlistShort => Outcome::NetlistShort,
-        Checked::Field(f) => Outcome::Field(f),
-        Checked::Record(k, r) => Outcome::Record(k, r),
-        Checked::ScratchShort => Outcome::ScratchShort,
-    }
-}
-
-// The walk's answer.
-fn of_walk(r: Lowered) -> Outcome
-    ensures { λ x. ⌜ answerOf x ≡ endOf r ⌝ }
-{
-    match r {
-        Lowered::Done => Outcome::Fine,
-        Lowered::Undriven(p, b) => Outcome::Undriven(p, b),
-        Lowered::Loop(p, b) => Outcome::Loop(p, b),
-        Lowered::Reset(k, b) => Outcome::Reset(k, b),
-        Lowered::TooManyNets => Outcome::TooManyNets,
-        Lowered::ListFull => Outcome::ListFull,
-    }
-}
-
 // Lowers a module image for net limit n and list limit p. The required words of the two buffers are lent to the walk; a refusal by the
 // checks touches none.
 pub fn lower(image: &[u8], n: u32, p: u32, netlist: &mut [u32], scratch: &mut [u32]) -> Outcome
@@ -128,10 +86,10 @@ pub fn lower(image: &[u8], n: u32, p: u32, netlist: &mut [u32], scratch: &mut [u
 {
     let c = checks::check(image, n, p, netlist.len(), scratch.len());
     let Checked::Fine = c else {
-        return of_check(c);
+        return outcome::of_check(c);
     };
     let words = 16 + 6 * (n as usize) + (p as usize);
     let need = scratch_need(image, n);
     let r = lower_accepted(image, n, &mut netlist[..words], &mut scratch[..need]);
-    of_walk(r)
+    outcome::of_walk(r)
 }

@@ -4,7 +4,6 @@ use mathlib.Core.Bool.{false}
 use mathlib.Core.List.{List}
 use mathlib.Core.Option.{none}
 use Prim.Native.Nat.{ℕ}
-use Rattle.rtl.specs.Rtl as R
 use Rattle.model.specs.Words.{Netlist}
 use Rattle.model.specs.Builder.{Made, andThen, each, both, addNot}
 use Rattle.model.specs.Ranges.{OrGate}
@@ -16,15 +15,13 @@ use Rattle.records.specs.declared.UnaryOp.the-variants as U
 use Rattle.records.specs.declared.BinaryOp.{BinaryOp}
 use Rattle.records.specs.declared.BinaryOp.the-variants as B
 use Rattle.constant_fold.specs.Values.{opOf}
-use Rattle.constant_fold.specs.declared.ArithmeticOp.the-variants as A
 use Rattle.cells.specs.Cells.{compareOf}
 use Rattle.cells.specs.declared.ComparisonOp.the-variants.{LessThanUnsigned, LessOrEqualUnsigned, LessThanSigned, LessOrEqualSigned}
 use Rattle.bitops.specs.Kinds.{gateOf}
-use Rattle.bitops.specs.declared.Gate.the-variants as G
 use Rattle.shifts.specs.Kinds.{shiftOf}
-use Rattle.shifts.specs.declared.ShiftKind.the-variants as S
-use Rattle.operators.specs.declared.Class.{Class}
-use Rattle.operators.specs.declared.Class.the-variants.{Bitwise, Arithmetic, Equal, NotEqual, Compare, CompareBack, Shift}
+use Rattle.operator_class.specs.Class.{classOf}
+use Rattle.operator_class.specs.declared.Class.{Class}
+use Rattle.operator_class.specs.declared.Class.the-variants.{Bitwise, Arithmetic, Equal, NotEqual, Compare, CompareBack, Shift}
 
 -- how many nets the result has, of w in an operand
 abbrev pub unaryWidth : UnaryOp → ℕ → ℕ
@@ -39,27 +36,6 @@ logicNot xs l = andThen (reduceTree OrGate false xs l) (λ (r, l₁). each addNo
 
 abbrev pub notEqual : List ℕ → List ℕ → Netlist → Made (List ℕ)
 notEqual xs ys l = andThen (equalWords xs ys l) (λ (r, l₁). each addNot r l₁)
-
-unfoldable pub classOf : BinaryOp → Class
-classOf B.And = Bitwise G.And
-classOf B.Or = Bitwise G.Or
-classOf B.Xor = Bitwise G.Xor
-classOf B.Add = Arithmetic A.Add
-classOf B.Sub = Arithmetic A.Subtract
-classOf B.Mul = Arithmetic A.Multiply
-classOf B.Equal = Equal
-classOf B.NotEqual = NotEqual
-classOf B.LessThanUnsigned = Compare LessThanUnsigned
-classOf B.LessThanSigned = Compare LessThanSigned
-classOf B.LessOrEqualUnsigned = Compare LessOrEqualUnsigned
-classOf B.LessOrEqualSigned = Compare LessOrEqualSigned
-classOf B.GreaterThanUnsigned = CompareBack LessThanUnsigned
-classOf B.GreaterThanSigned = CompareBack LessThanSigned
-classOf B.GreaterOrEqualUnsigned = CompareBack LessOrEqualUnsigned
-classOf B.GreaterOrEqualSigned = CompareBack LessOrEqualSigned
-classOf B.ShiftLeft = Shift S.Left
-classOf B.ShiftRightLogical = Shift S.Right
-classOf B.ShiftRightArithmetic = Shift S.Arithmetic
 
 abbrev pub classWidth : Class → ℕ → ℕ
 classWidth (Bitwise g) w = w

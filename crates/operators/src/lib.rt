@@ -11,16 +11,17 @@ ghost use Rattle.records.specs.Expr.{unaryMeans, binaryMeans};
 ghost use Rattle.gates.specs.Nots.{PlainNots};
 ghost use Rattle.constant_fold.specs.Values.{opOf, Fills};
 ghost use Rattle.cells.specs.Cells.{compareOf};
-ghost use Rattle.operators.specs.Operators.{unaryWidth, classOf, classWidth, Fit, lowerClass, logicNot, notEqual};
+ghost use Rattle.operator_class.specs.Class.{classOf};
+ghost use Rattle.operators.specs.Operators.{unaryWidth, classWidth, Fit, lowerClass, logicNot, notEqual};
 use bitops::Gate;
 use cells::ComparisonOp;
 use constant_fold::ArithmeticOp;
 use constant_fold::Filled;
 use nodes::ABSENT;
 use nodes::Added;
+use operator_class::Class;
 use records::BinaryOp;
 use records::UnaryOp;
-use shifts::ShiftKind;
 
 fn logic_not(net: &mut [u32], idx: &mut [u32], n: u32, xs: &mut [u32]) -> Filled
     requires { ⌜ (Held n (now net) (now idx)) × (0 < length (now xs)) ⌝ }
@@ -110,43 +111,6 @@ fn lower_arithmetic(
     word_cells::arithmetic(net, idx, n, op, ABSENT, xs, ys)
 }
 
-// A binary operator by what makes it.
-pub enum Class {
-    Bitwise(Gate),
-    Arithmetic(ArithmeticOp),
-    Equal,
-    NotEqual,
-    Compare(ComparisonOp),
-    CompareBack(ComparisonOp),
-    Shift(ShiftKind),
-}
-
-pub fn class_of(op: BinaryOp) -> Class
-    ensures { λ r. ⌜ r ≡ classOf op ⌝ }
-{
-    match op {
-        BinaryOp::And => Class::Bitwise(Gate::And),
-        BinaryOp::Or => Class::Bitwise(Gate::Or),
-        BinaryOp::Xor => Class::Bitwise(Gate::Xor),
-        BinaryOp::Add => Class::Arithmetic(ArithmeticOp::Add),
-        BinaryOp::Sub => Class::Arithmetic(ArithmeticOp::Subtract),
-        BinaryOp::Mul => Class::Arithmetic(ArithmeticOp::Multiply),
-        BinaryOp::Equal => Class::Equal,
-        BinaryOp::NotEqual => Class::NotEqual,
-        BinaryOp::LessThanUnsigned => Class::Compare(ComparisonOp::LessThanUnsigned),
-        BinaryOp::LessThanSigned => Class::Compare(ComparisonOp::LessThanSigned),
-        BinaryOp::LessOrEqualUnsigned => Class::Compare(ComparisonOp::LessOrEqualUnsigned),
-        BinaryOp::LessOrEqualSigned => Class::Compare(ComparisonOp::LessOrEqualSigned),
-        BinaryOp::GreaterThanUnsigned => Class::CompareBack(ComparisonOp::LessThanUnsigned),
-        BinaryOp::GreaterThanSigned => Class::CompareBack(ComparisonOp::LessThanSigned),
-        BinaryOp::GreaterOrEqualUnsigned => Class::CompareBack(ComparisonOp::LessOrEqualUnsigned),
-        BinaryOp::GreaterOrEqualSigned => Class::CompareBack(ComparisonOp::LessOrEqualSigned),
-        BinaryOp::ShiftLeft => Class::Shift(ShiftKind::Left),
-        BinaryOp::ShiftRightLogical => Class::Shift(ShiftKind::Right),
-        BinaryOp::ShiftRightArithmetic => Class::Shift(ShiftKind::Arithmetic),
-    }
-}
-
 fn lower_class(
     net: &mut [u32],
     idx: &mut [u32],
@@ -180,5 +144,5 @@ pub fn lower_binary(
     requires { ⌜ (Held n (now net) (now idx)) × (0 < length (now xs)) × (length (now xs) ≤ 1024) × (Fit (classOf op) (length (now xs)) (length (now ys))) × (PlainNots (netlistOf n (now net))) ⌝ }
     ensures { λ r. ⌜ Fills (lowerBinary (binaryMeans op) (now (xs .entry)) (now (ys .entry)) (netlistOf n (now (net .entry)))) n r (take (classWidth (classOf op) (length (now (xs .entry)))) (now (xs .exit))) (now (net .exit)) (now (idx .exit)) ⌝ }
 {
-    lower_class(net, idx, n, class_of(op), xs, ys)
+    lower_class(net, idx, n, operator_class::class_of(op), xs, ys)
 }

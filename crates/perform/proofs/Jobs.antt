@@ -1,20 +1,14 @@
 -- A task's widths, and the two ways of a job. Assumes nothing.
-use mathlib.Core.Path.{_≡_, refl, sym, ap, _∙_}
-use mathlib.Core.Bool.{false}
-use mathlib.Core.List.{List, _++_}
+use mathlib.Core.Path.{_≡_, refl}
+use mathlib.Core.List.{List}
 use Prim.Native.Nat.{ℕ, zero, suc, _-_, _≤_}
 use native.Mathlib.Omega.{arith}
-use lib.ListN.{length, take, replicate}
-use lib.Seq.{length-take-le}
+use lib.ListN.{take}
 use Rattle.model.specs.Words.{Netlist}
-use Rattle.model.specs.Builder.{Made, done, andThen, addConstant}
+use Rattle.model.specs.Builder.{Made, andThen}
 use Rattle.model.specs.Lowering.{resized}
 use Rattle.netlist_view.specs.View.{netlistOf}
-use Rattle.nodes.specs.Gives.{Gives}
-use Rattle.nodes.specs.declared.Added.{Added}
-use Rattle.nodes.specs.declared.Added.the-variants as A
-use Rattle.ports.proofs.Laws.{Refusal}
-use Rattle.constant_fold.specs.Values.{refusalOf, Fills}
+use Rattle.constant_fold.specs.Values.{Fills}
 use Rattle.constant_fold.specs.declared.Filled.{Filled}
 use Rattle.constant_fold.specs.declared.Filled.the-variants.{Done}
 use Rattle.bitops.proofs.Laws.{NotDone, list-by, first-out, first-then}
@@ -22,7 +16,7 @@ use Rattle.tasks.specs.Tasks.{taskMade, narrowOf, jobMade, Fits, cutTo, JobFits
 use Rattle.tasks.specs.declared.Task.{Task}
 use Rattle.tasks.specs.declared.Task.the-variants.{Copied, Constant, Unary, Binary, Carried, Mux}
 use Rattle.tasks.specs.declared.Job.{Job}
-use Rattle.perform.specs.Widths.{madeWidth, extended}
+use Rattle.job_parts.specs.Widths.{madeWidth, extended}
 
 -- ---- widths ----
 
@@ -89,21 +83,3 @@ module _ (m w : ℕ) (j : Job) (f : JobFits m w j) where
     pub job-narrowed : (ns ms net idx net′ idx′ : List ℕ) → (j .narrow ≡ 0 → ⊥) → Fills (taskMade s w (j .task) xs ys l) n Done ns net idx
         → Fills (extended w ns (netlistOf n net)) n r ms net′ idx′ → Fills (jobMade s w j xs ys l) n r ms net′ idx′
     job-narrowed ns ms net idx net′ idx′ z g h = list-by _ _ _ _ _ _ _ (narrow-some (j .narrow) w (taskMade s w (j .task) xs ys l) z) (first-then _ (λ (ns, l). extended w ns l) n r ns ms net idx net′ idx′ g h)
-
--- ---- the rest of a narrowed job ----
-
-module _ (w m : ℕ) (xs : List ℕ) (l : Netlist) (n : ℕ) (net idx : List ℕ) where
-  pub extend-out : (x : Added) (ms : List ℕ) → Refusal x → Gives (addConstant false l) n x net idx → Fills (extended w (take m xs) l) n (refusalOf x) ms net idx
-  extend-out (A.Net k) ms q g = absurd q
-  extend-out A.TooManyNets ms q g = record { says = ap (λ (o : Made ℕ). andThen o (λ (z, l₁). done (take m xs ++ replicate (w - length (take m xs)) z, l₁))) (g .says); held = g .held }
-  extend-out A.ListFull ms q g = record { says = ap (λ (o : Made ℕ). andThen o (λ (z, l₁). done (take m xs ++ replicate (w - length (take m xs)) z, l₁))) (g .says); held = g .held }
-
-  pub extend-done : (z : ℕ) (ms : List ℕ) → m ≤ length xs → Gives (addConstant false l) n (A.Net z) net idx → ms ≡ take m xs ++ replicate (w - m) z
-      → Fills (extended w (take m xs) l) n Done ms net idx
-  extend-done z ms h g e =
-      let k = length-take-le m xs h in
-      record {
-        says = ap (λ (o : Made ℕ). andThen o (λ (z, l₁). done (take m xs ++ replicate (w - length (take m xs)) z, l₁))) (g .says)
-            ∙ λ i. done ((ap (λ (j : ℕ). take m xs ++ replicate (w - j) z) k ∙ sym e) i, netlistOf n net);
-        held = g .held;
-      }

@@ -1,10 +1,10 @@
--- Parts of a list lent and put back; widths of results. Assumes nothing.
+-- Parts of a list put back; widths of results. Assumes nothing.
 use mathlib.Core.Path.{_≡_, sym, _∙_}
 use mathlib.Core.List.{List, _++_}
 use Prim.Native.Nat.{ℕ, _≤_, _<_}
 use native.Mathlib.Omega.{arith}
 use lib.ListN.{length, take}
-use lib.Seq.{length-take-le, take-append-le, take-at}
+use lib.Seq.{length-take-le}
 use Rattle.model.specs.Builder.{Made}
 use Rattle.word_laws.specs.Widths.{UnWidth, BinWidth}
 use Rattle.constant_fold.specs.Values.{Fills}
@@ -14,18 +14,11 @@ use Rattle.records.specs.declared.UnaryOp.{UnaryOp}
 use Rattle.records.specs.declared.UnaryOp.the-variants as U
 use Rattle.records.specs.declared.BinaryOp.{BinaryOp}
 use Rattle.records.specs.declared.BinaryOp.the-variants as B
-use Rattle.operators.specs.Operators.{unaryWidth, classOf, classWidth, Fit}
-use Rattle.operators.specs.declared.Class.{Class}
-use Rattle.operators.specs.declared.Class.the-variants.{Bitwise, Arithmetic, Equal, NotEqual, Compare, CompareBack, Shift}
-
--- ---- a part that was lent, in the whole list again ----
-
-module _ (m : Made (List ℕ)) (n : ℕ) (r : Filled) (ns rest w idx : List ℕ) where
-  pub back-front : (k : ℕ) → k ≤ length ns → Fills m n r (take k ns) w idx → Fills m n r (take k (ns ++ rest)) w idx
-  back-front k h g = rw (take-append-le k ns rest h) g
-
-  pub back-whole : (k : ℕ) → length ns ≡ k → Fills m n r ns w idx → Fills m n r (take k (ns ++ rest)) w idx
-  back-whole k e g = rw (take-at ns rest k e) g
+use Rattle.job_parts.proofs.Lent.{back-front}
+use Rattle.operator_class.specs.Class.{classOf}
+use Rattle.operators.specs.Operators.{unaryWidth, classWidth, Fit}
+use Rattle.operator_class.specs.declared.Class.{Class}
+use Rattle.operator_class.specs.declared.Class.the-variants.{Bitwise, Arithmetic, Equal, NotEqual, Compare, CompareBack, Shift}
 
 -- the same width
 pub width-by : (m : Made (List ℕ)) (n : ℕ) (r : Filled) (k v : ℕ) (ns w idx : List ℕ) → k ≡ v → Fills m n r (take k ns) w idx → Fills m n r (take v ns) w idx

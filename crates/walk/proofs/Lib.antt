@@ -1,4 +1,3 @@
 -- Laws that the proofs of the walk cite.
 pub mod Steps
-pub mod Lefts
 pub mod Ways

@@ -13,7 +13,7 @@ use Rattle.walk_view.specs.declared.Lowered.{Lowered}
 use Rattle.walk_view.specs.View.{outOf}
 use Rattle.walk_steps.specs.Answers.{Refused, out}
 use Rattle.plan.specs.Plan.{stepNeeds}
-use Rattle.walk.specs.Needs.{lowerNeeds, NeedsMet}
+use Rattle.walk_left.specs.Needs.{lowerNeeds, NeedsMet}
 
 -- ---- needs ----
 

@@ -14,13 +14,9 @@ use Rattle.model.specs.Lowering as M
 use Rattle.model.specs.Lowering.{State, Step, lowerNeed, lowerBy, whole, knownBy, rangeKnown, signalBit, cell, driverOf, setSignalBit, wholeNet, wholeSteps, rangeSteps, keepWhole, keepRange, buildWhole, buildRange}
 use Rattle.expr_laws.specs.Exprs.{exprsOf}
 use Rattle.table_view.specs.Rows.{rows, row-at, length-listOf}
-use Rattle.table_view.specs.View.{limitOf, signalColumn, exprBit, bitAt, known, netWord, isWhole, stateOf, free, Laid, Writes, Marks}
-use Rattle.table_view.specs.Laws.{whole-none, whole-some, read-whole, netWord-some, expr-ends}
-use Rattle.table_view.specs.Reads.{whole-net}
+use Rattle.table_view.specs.View.{limitOf, signalColumn, bitAt, known, netWord, isWhole, free, Marks}
+use Rattle.table_view.specs.Laws.{whole-none, whole-some, read-whole}
 use Rattle.table_view.specs.Drivers.{driver-inside}
-use Rattle.meaning.specs.Checks.{exprBits}
-use Rattle.netlist_view.specs.View.{netlistOf}
-use Rattle.tables.specs.Answers.{ExprNet}
 use Rattle.accepted.specs.Formed.{readable}
 use Rattle.walk_view.specs.declared.Lowered.{Lowered}
 use Rattle.walk_view.specs.declared.Lowered.the-variants.{Done, Undriven, Loop, Reset, TooManyNets, ListFull}
@@ -34,10 +30,11 @@ use Rattle.plan.specs.Kinds.{range-begins}
 use Rattle.plan.specs.Fits.{AllFit, whole-fits, range-fits}
 use Rattle.walk.specs.declared.Part.{Part}
 use Rattle.walk.specs.declared.Part.the-variants as P
-use Rattle.walk.specs.declared.Left.the-variants as F
-use Rattle.walk.specs.Needs.{lowerNeeds, NeedsMet}
-use Rattle.walk.specs.Walk.{ThereNeed, GivesNeed, costNeed, Skips, LeftOf, wholeRest, LoopAt, WholeLoop, RangeLoop, needOf, At, Below, FirstTurn, driven, Keeps}
-use Rattle.sure_laws.specs.Stores.{no-store, stored-ready, stored-kept, stored-state, stored-grows, kept-same, kept-then}
+use Rattle.walk_left.specs.declared.Left.the-variants as F
+use Rattle.walk_left.specs.Needs.{lowerNeeds, NeedsMet}
+use Rattle.walk_left.specs.Left.{Skips, LeftOf, wholeRest, FirstTurn, driven, Keeps}
+use Rattle.walk.specs.Walk.{ThereNeed, GivesNeed, costNeed, LoopAt, WholeLoop, RangeLoop, needOf, At, Below}
+use Rattle.sure_laws.specs.Stores.{stored-ready, stored-kept, stored-state, stored-grows, kept-same, kept-then}
 use Rattle.walk_steps.specs.Answers.{Refused, out, not-done}
 use Rattle.walk.proofs.Steps.{needs-none, needs-on, needs-out, all-needs, need-suc, whole-there, whole-open, range-there, range-open, bit-there, bit-undriven, bit-loop, bit-driven}
 
@@ -451,37 +448,3 @@ turn-next s net₀ w₀ part k n k₁ at net w t h x net₁ w₁ g d netLong lon
   first = λ z. absurd (omega (arith, h .further));
   later = λ z. h .on x net₁ w₁ g d;
 }
-
--- ---- the net of a driven bit ----
-
-pub keep-refused : (s w : List ℕ) (p b e o : ℕ) (x : Lowered) → Laid s w → Refused x → Keeps s w p b e o x x w
-keep-refused s w p b e o Done h q = absurd q
-keep-refused s w p b e o (Undriven q₁ j) h q = record { same = refl; writes = no-store s w h }
-keep-refused s w p b e o (Loop q₁ j) h q = record { same = refl; writes = no-store s w h }
-keep-refused s w p b e o (Reset q₁ j) h q = record { same = refl; writes = no-store s w h }
-keep-refused s w p b e o TooManyNets h q = record { same = refl; writes = no-store s w h }
-keep-refused s w p b e o ListFull h q = record { same = refl; writes = no-store s w h }
-
-module _ (s w : List ℕ) (e o n : ℕ) (h : Laid s w) (he : e < countAt s 1) (ho : o < exprWidth s e) (t : isWhole s (limitOf w) w e ≡ true) (x : ExprNet s w e o n) where
-  pub net-small : n < 65535
-  net-small =
-      let l = netlistOf 0 [] in
-      let v : n ≡ netWord (getD w (bitAt s (limitOf w) e o) 0) = x .whole l t ∙ whole-net s (limitOf w) l w e he o ho t in
-      let z : 0 < getD w (bitAt s (limitOf w) e o) 0 = h .wholes e o he ho t in
-      let u = netWord-some (getD w (bitAt s (limitOf w) e o) 0) z in
-      let i : exprBit s e o < exprBits s = omega (arith, expr-ends s e he) in
-      let m = h .exprNets (exprBit s e o) i in
-      omega arith
-
-  pub keep-done : (p b : ℕ) (y : Lowered) (w′ : List ℕ) → y ≡ Done → Writes (λ st. setSignalBit st p b n) s w w′ → Keeps s w p b e o y Done w′
-  keep-done p b y w′ q a = record {
-    same = sym q;
-    writes = subst (λ (y : Lowered). Writes (driven y p b e o) s w w′) (sym q) (record {
-      says = λ l. a .says l ∙ ap (setSignalBit (stateOf s l w) p b) (x .whole l t);
-      laid = a .laid;
-      limit = a .limit;
-      fixed = a .fixed;
-      plan = a .plan;
-      fewer = a .fewer;
-    });
-  }

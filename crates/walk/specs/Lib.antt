@@ -1,3 +1,2 @@
 -- What the walk's calls give.
-pub mod Needs
 pub mod Walk

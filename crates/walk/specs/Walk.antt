@@ -1,36 +1,28 @@
--- What a call for a need gives; what is left to lower (`LeftOf`); of a part, what stands before turn k (`At`) and after it (`After`); what
--- keeping a driven bit's net writes.
--- Assumes nothing.
+-- What a call for a need gives; of a part, what stands before turn k (`At`) and after it (`After`). Assumes nothing.
 use mathlib.Core.Path.{_≡_}
-use mathlib.Core.Bool.{Bool, false}
-use mathlib.Core.List.{List, [], _++_}
+use mathlib.Core.Bool.{false}
+use mathlib.Core.List.{List}
 use Prim.Native.Nat.{ℕ, suc, _*_, _≤_, _<_}
 use lib.ListN.{length, drop}
 use Rattle.meaning.specs.Image.{decode}
-use Rattle.model.specs.Words.{Netlist}
 use Rattle.model.specs.Builder.{Out, andThen}
 use Rattle.model.specs.Lowering as M
-use Rattle.model.specs.Lowering.{State, Step, lowerNeed, setSignalBit, wholeNet, wholeSteps, rangeSteps, keepWhole, keepRange, buildWhole, buildRange}
+use Rattle.model.specs.Lowering.{State, Step, lowerNeed, wholeSteps, rangeSteps, keepWhole, keepRange, buildWhole, buildRange}
 use Rattle.expr_laws.specs.Exprs.{exprsOf}
-use Rattle.table_view.specs.View.{stateOf, Writes}
 use Rattle.walk_view.specs.declared.Lowered.{Lowered}
-use Rattle.walk_view.specs.declared.Lowered.the-variants.{Done, Undriven, Loop, Reset, TooManyNets, ListFull}
+use Rattle.walk_view.specs.declared.Lowered.the-variants.{Done}
 use Rattle.walk_view.specs.Met.{AllMet, Grows}
 use Rattle.walk_view.specs.View.{walkState, Ready, Sure, Kept, There, rankOf, costOf, Gives}
 use Rattle.walk_steps.specs.Answers.{Refused}
 use Rattle.plan.specs.declared.Need.{Need}
 use Rattle.plan.specs.declared.Need.the-variants.{Bit, Whole, Range, Nothing}
-use Rattle.plan.specs.declared.Turn.{Turn}
-use Rattle.plan.specs.declared.Turn.the-variants as T
-use Rattle.plan.specs.Plan.{needsOf, BitsThere, TurnOf, wholeNeeds, rangeRest}
+use Rattle.plan.specs.Plan.{wholeNeeds, rangeRest}
 use Rattle.plan.specs.Fits.{AllFit}
 use Rattle.walk.specs.declared.Part.{Part}
 use Rattle.walk.specs.declared.Part.the-variants as P
-use Rattle.walk.specs.declared.Left.{Left}
-use Rattle.walk.specs.declared.Left.the-variants as F
 use Rattle.walk.specs.declared.Next.{Next}
 use Rattle.walk.specs.declared.Next.the-variants.{Lower, Over}
-use Rattle.walk.specs.Needs.{lowerNeeds, NeedsMet}
+use Rattle.walk_left.specs.Needs.{lowerNeeds, NeedsMet}
 
 -- ---- a call for a need ----
 
@@ -51,36 +43,6 @@ costNeed s w (Bit p b) = costOf s w (M.Bit p b)
 costNeed s w (Whole e) = costOf s w (M.Whole e)
 costNeed s w (Range e lsb k) = costOf s w (M.Range e lsb k)
 costNeed s w Nothing = 0
-
--- ---- what is left to lower ----
-
--- rest is needs that the tables have met, followed by rest₁
-pub record Skips (s w : List ℕ) (rest rest₁ : List M.Need) : Type 0 where
-  pub skipped : List M.Need
-  pub split : rest ≡ skipped ++ rest₁
-  pub known : (l : Netlist) → NeedsMet (stateOf s l w) skipped
-
--- where rest k at is left before turn k
-abbrev pub LeftOf : List ℕ → List ℕ → (ℕ → ℕ → List M.Need) → ℕ → ℕ → Left → Type 0
-LeftOf s w rest k at (F.Lower n k₁ at₁) = Skips s w (rest k at) (needsOf n ++ rest k₁ at₁) × (k < k₁) × (k₁ < 4294967296) × (at₁ ≤ 1024 * k₁)
-LeftOf s w rest k at F.Build = Skips s w (rest k at) []
-
-abbrev pub LeftIn : List ℕ → List ℕ → List M.Need → ℕ → Left → Type 0
-LeftIn s w all k r = LeftOf s w (λ j i. drop j all) k 0 r
-
-abbrev pub wholeRest : List ℕ → ℕ → ℕ → ℕ → List M.Need
-wholeRest s e k at = drop k (wholeNeeds s e)
-
--- the bits that a turn takes are in the image
-abbrev pub TurnThere : List ℕ → Turn → Type 0
-TurnThere s (T.Lower n at) = Unit {0}
-TurnThere s (T.Last n) = Unit {0}
-TurnThere s (T.Bits p b n) = BitsThere s p b n
-TurnThere s T.Build = Unit {0}
-
--- no list has as many needs as the number of the turn after the last one
-abbrev pub LeavesTurn : List ℕ → List ℕ → Turn → ℕ → Left → Type 0
-LeavesTurn s w turn k r = (rest : ℕ → ℕ → List M.Need) (at : ℕ) → rest 4294967295 0 ≡ [] → TurnOf s rest k at turn → LeftOf s w rest k at r
 
 -- ---- between two calls: the need n₀ was asked for at net₀, w₀; at net, w there is rest left to lower, and cont after that ----
 
@@ -146,22 +108,3 @@ pub record Begun (s : List ℕ) (part : Part) (k at : ℕ) (net w : List ℕ) : 
 
 abbrev pub Turns : List ℕ → List ℕ → List ℕ → Part → ℕ → ℕ → Next → List ℕ → List ℕ → Type 0
 Turns s net w part k at r net′ w′ = (net₀ w₀ : List ℕ) → At s net₀ w₀ part k at net w → After s net₀ w₀ part k r net′ w′
-
--- only turn 0 asks the tables
-abbrev pub FirstTurn : ℕ → Bool → Bool → Type 0
-FirstTurn k r known = (k ≡ 0 → r ≡ known) × (0 < k → r ≡ false)
-
--- ---- a driven bit ----
-
--- bit b of signal p gets the net of bit o of expression e, where the expression is lowered
-abbrev pub driven : Lowered → ℕ → ℕ → ℕ → ℕ → State → State
-driven Done p b e o st = setSignalBit st p b (wholeNet st e o)
-driven (Undriven q c) p b e o st = st
-driven (Loop q c) p b e o st = st
-driven (Reset q c) p b e o st = st
-driven TooManyNets p b e o st = st
-driven ListFull p b e o st = st
-
-pub record Keeps (s w : List ℕ) (p b e o : ℕ) (x r : Lowered) (w′ : List ℕ) : Type 0 where
-  pub same : r ≡ x
-  pub writes : Writes (driven x p b e o) s w w′

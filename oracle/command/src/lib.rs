@@ -6,10 +6,7 @@ pub mod input;
 pub mod lowering;
 pub mod refusal;
 
-/// A refusal's number and its two places; all 0 for acceptance.
-pub type Answer = [u32; 3];
-
-pub const ACCEPTED: Answer = [0, 0, 0];
+pub use port::{ACCEPTED, Answer};
 
 /// The most nets and list words that a call may allow.
 pub const MOST: u32 = 65_535;

@@ -2,8 +2,6 @@
 
 use crate::arguments::Wish;
 use crate::{ACCEPTED, Answer, MOST};
-use compare::limits::Limits;
-use compare::subject::{HAS_CHECK, HAS_LOWER, Library, Subject};
 use image::Image;
 
 /// How a lowering ended.
@@ -24,27 +22,16 @@ pub struct Room {
     pub scratch_needed: usize,
 }
 
-/// Says which part of a lowering is not the port's.
-pub fn remark() -> Option<&'static str> {
-    match (HAS_CHECK, HAS_LOWER) {
-        (true, true) => None,
-        (true, false) => Some("checks by the port; lowering by the Rust: the library does not export struo_lower yet"),
-        _ => Some("checks and lowering by the Rust: no library of the port is linked"),
-    }
-}
-
 /// Checks and lowers an image as wished.
 pub fn lower(image: &[u8], wish: &Wish) -> Outcome {
     let room = room(image, wish);
-    let limits =
-        Limits { n: wish.nets, p: wish.words, netlist_words: room.netlist, scratch_words: room.scratch };
-    let checked = Library.check(image, &limits);
+    let checked = port::check(image, wish.nets, wish.words, room.netlist, room.scratch);
     if checked != ACCEPTED {
         return Outcome { answer: checked, words: Vec::new(), room };
     }
     let mut words = vec![0; room.netlist];
     let mut scratch = vec![0; room.scratch];
-    let answer = Library.lower(image, wish.nets, wish.words, &mut words, &mut scratch);
+    let answer = port::lower(image, wish.nets, wish.words, &mut words, &mut scratch);
     words.truncate(if answer == ACCEPTED { room.netlist_needed } else { 0 });
     Outcome { answer, words, room }
 }

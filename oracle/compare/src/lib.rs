@@ -18,7 +18,6 @@ pub mod run;
 pub mod selftest;
 pub mod shrink;
 pub mod shrunk;
-pub mod speed;
 pub mod subject;
 pub mod tables;
 

@@ -11,7 +11,7 @@ use Rattle.walk_view.specs.View.{walkState, Sure}
 use Rattle.walk_view.proofs.Answers.{not-done-tag}
 use Rattle.walk_view.specs.Turns.{Turning, turning-start, turning-more, turning-out, turning-end}
 use Rattle.connect_parts.specs.Ran.{ran-phase}
-use Rattle.connect_memories.specs.Memories.{memoryTurn}
+use Rattle.connect_memories.specs.Turns.{memoryTurn}
 use Rattle.connect_memories.proofs.Laws.{all-memories}
 
 abbrev Inv-loop : tie.InvT-loop

@@ -10,7 +10,7 @@ use Rattle.walk_view.specs.View.{walkState}
 use Rattle.walk_view.proofs.Answers.{not-done-tag}
 use Rattle.connect_parts.specs.Ran.{ran-as, ran-then, ran-out}
 use Rattle.connect_parts.specs.Steps.{all-ran}
-use Rattle.connect_memories.specs.Memories.{memoryWords, MemoryThere}
+use Rattle.memory_records.specs.Memories.{memoryWords, MemoryThere}
 use Rattle.connect_memories.proofs.Laws.{memory-there, memory-whole, turn-as}
 
 memory-at-requires : tie.Need-memory-at-requires

@@ -3,7 +3,7 @@ use borrow.Author.Needs.{needs}
 use Rattle.connect_memories.proofs.lower_second.Statement.{statement}
 use Rattle.connect_memories.proofs.lower_second.Tie as tie
 use Rattle.connect_parts.specs.Steps.{gives-none}
-use Rattle.connect_memories.proofs.Laws.{absent-means, present-means}
+use Rattle.memory_records.specs.Second.{absent-means, present-means}
 
 enum-told : tie.Need-enum-told
 enum-told c = search needs

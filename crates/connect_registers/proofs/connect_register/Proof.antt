@@ -8,7 +8,7 @@ use Rattle.walk_view.specs.View.{walkState}
 use Rattle.walk_view.proofs.Answers.{not-done-tag}
 use Rattle.connect_parts.specs.Ran.{ran-as, ran-then, ran-out}
 use Rattle.connect_parts.specs.Steps.{all-ran}
-use Rattle.connect_registers.specs.Registers.{bitsTurn, There}
+use Rattle.register_records.specs.Registers.{bitsTurn, There}
 use Rattle.connect_registers.proofs.Laws.{register-there, register-whole, turn-as}
 
 register-at-requires : tie.Need-register-at-requires

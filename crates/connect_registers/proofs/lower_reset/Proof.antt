@@ -3,7 +3,7 @@ use borrow.Author.Needs.{needs}
 use Rattle.connect_registers.proofs.lower_reset.Statement.{statement}
 use Rattle.connect_registers.proofs.lower_reset.Tie as tie
 use Rattle.connect_parts.specs.Steps.{gives-none}
-use Rattle.connect_registers.proofs.Laws.{absent-means, present-means}
+use Rattle.register_records.specs.Resets.{absent-means, present-means}
 
 enum-told : tie.Need-enum-told
 enum-told c = search needs

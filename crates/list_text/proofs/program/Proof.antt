@@ -7,7 +7,7 @@ use Prim.Native.Nat.{ℕ}
 use lib.ListN.{length, length-replicate}
 use Rattle.meaning.specs.Checks.{netlistNeed}
 use Rattle.list_laws.specs.Program.{program-is, program-short}
-use Rattle.list_text.specs.Written.{written-same}
+use Rattle.outcome_text.specs.Written.{written-same}
 
 stretch-requires : tie.Need-stretch-requires
 stretch-requires c κs = search needs

@@ -4,7 +4,7 @@ use Rattle.perform.proofs.binary.Statement.{statement}
 use Rattle.perform.proofs.binary.Tie as tie
 use mathlib.Core.Path.{sym}
 use lib.Seq.{length-take-le}
-use Rattle.operators.specs.Operators.{classOf}
+use Rattle.operator_class.specs.Class.{classOf}
 use Rattle.perform.proofs.Laws.{back-class}
 
 slice-relend-prefix-lower-binary : tie.Need-slice-relend-prefix-lower-binary

@@ -5,7 +5,7 @@ use Rattle.perform.proofs.carried.Tie as tie
 use mathlib.Core.Path.{refl, sym, _∙_}
 use lib.Seq.{length-take-le}
 use Rattle.perform.proofs.Carry.{carry-net}
-use Rattle.perform.proofs.Laws.{back-whole}
+use Rattle.job_parts.proofs.Lent.{back-whole}
 
 slice-relend-prefix-arithmetic : tie.Need-slice-relend-prefix-arithmetic
 slice-relend-prefix-arithmetic c = search needs

@@ -4,7 +4,7 @@ use Rattle.perform.proofs.mux.Statement.{statement}
 use Rattle.perform.proofs.mux.Tie as tie
 use mathlib.Core.Path.{sym, _∙_}
 use lib.Seq.{length-take-le}
-use Rattle.perform.proofs.Laws.{back-whole}
+use Rattle.job_parts.proofs.Lent.{back-whole}
 
 slice-relend-prefix-mux-bits : tie.Need-slice-relend-prefix-mux-bits
 slice-relend-prefix-mux-bits c = search needs

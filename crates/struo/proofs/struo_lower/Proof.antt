@@ -7,8 +7,8 @@ use Rattle.struo.proofs.Ways.{answers}
 lower-requires : tie.Need-lower-requires
 lower-requires c κs = search needs
 
-outcome-numbers-requires : tie.Need-outcome-numbers-requires
-outcome-numbers-requires c κs = search needs
+numbers-requires : tie.Need-numbers-requires
+numbers-requires c κs = search needs
 
 same-length : tie.Need-same-length
 same-length c = search needs
@@ -21,9 +21,9 @@ returns c =
     let c8 = c .before .before .before .before .before .before .before .before in
     let a = c8 .before .before .before .args in
     let x = c .before .before .before .before .before .lower in
-    answers (a .image .now) (a .n) (a .p) (a .netlist .now) (a .scratch .now) _ (x .last .1 .1 .1 .0) (x .last .1 .1 .1 .1 .0) _ (x .ensures) (c .outcome-numbers .ensures)
+    answers (a .image .now) (a .n) (a .p) (a .netlist .now) (a .scratch .now) _ (x .last .1 .1 .1 .0) (x .last .1 .1 .1 .1 .0) _ (x .ensures) (c .numbers .ensures)
 
 pub struo-lower-spec : {M : Type 1} → statement M
 struo-lower-spec =
     tie.close
-    (tie.spec lower-requires outcome-numbers-requires same-length same-length-2 returns)
+    (tie.spec lower-requires numbers-requires same-length same-length-2 returns)

@@ -24,7 +24,7 @@ use Rattle.tables.proofs.driver_of.Reads as driver-of-reads
 use Rattle.tables.proofs.mark_signal.Reads as mark-signal-reads
 use Rattle.tables.proofs.marked.Reads as marked-reads
 use Rattle.tables.proofs.signal_net.Reads as signal-net-reads
-use Rattle.walk.proofs.keep_driven.Reads as keep-driven-reads
+use Rattle.walk_left.proofs.keep_driven.Reads as keep-driven-reads
 use Rattle.walk.proofs.turn.Reads as turn-reads
 use Rattle.walk.proofs.+lower_bit+lower_expression+lower_expression_range+lower_need+lower_whole+resolve_signal_bit.{statement}
 use Rattle.walk.proofs.+lower_bit+lower_expression+lower_expression_range+lower_need+lower_whole+resolve_signal_bit.Tie.{close}

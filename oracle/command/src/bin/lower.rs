@@ -2,7 +2,7 @@
 
 use command::arguments::{HELP, Request, Wish, request};
 use command::input::image_in;
-use command::lowering::{Outcome, lower, remark};
+use command::lowering::{Outcome, lower};
 use command::refusal::in_words;
 use command::{ACCEPTED, Answer};
 use std::io::{ErrorKind, Write};
@@ -32,11 +32,6 @@ fn run(wish: &Wish) -> Result<Answer, String> {
     let image = image_in(&wish.file)?;
     if let Some(file) = &wish.image_out {
         write(file, &image)?;
-    }
-    if let Some(remark) = remark() {
-        // The Rust tells a limit that is met by a panic.
-        std::panic::set_hook(Box::new(|_| {}));
-        eprintln!("lower: {remark}");
     }
     let Outcome { answer, words, room } = lower(&image, wish);
     if answer != ACCEPTED {

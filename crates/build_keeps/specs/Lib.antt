@@ -1,0 +1,2 @@
+-- What is kept.
+pub mod Keeps

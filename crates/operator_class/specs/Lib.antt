@@ -1,0 +1,2 @@
+-- Classes of operators.
+pub mod Class

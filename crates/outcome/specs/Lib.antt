@@ -1,0 +1,2 @@
+-- What a call answers.
+pub mod Answer

@@ -1,0 +1,3 @@
+-- A register's records.
+pub mod Registers
+pub mod Resets

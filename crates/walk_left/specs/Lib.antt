@@ -1,0 +1,3 @@
+-- Needs, and what is left of them.
+pub mod Needs
+pub mod Left

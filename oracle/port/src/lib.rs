@@ -1,0 +1,6 @@
+//! The port's library, linked: its calls as the example in Rust has them.
+
+#[path = "../../../examples/rust/struo.rs"]
+mod struo;
+
+pub use struo::{check, lower, most_scratch_words, netlist_words, Answer, ACCEPTED};
