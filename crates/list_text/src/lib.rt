@@ -4,6 +4,7 @@ ghost use mathlib.Core.Path.{_≡_};
 ghost use lib.ListN.{length, replicate};
 ghost use Rattle.call.specs.Call as call;
 ghost use Rattle.outcome_text.specs.Written.{Written};
+use outcome::Outcome;
 
 // A buffer with room for the longest text.
 pub fn text_bytes() -> [u8; 327680]
@@ -34,6 +35,6 @@ pub fn program(input: &[u8], out: &mut [u8]) -> usize
     let image = fields::stretch(input, 0, 32768);
     let mut netlist = netlist_words();
     let mut scratch = scratch_words();
-    let x = lower::lower(image, 1024, 2048, &mut netlist, &mut scratch);
+    let x: Outcome = lower::lower(image, 1024, 2048, &mut netlist, &mut scratch);
     outcome_text::outcome_text(x, image, &netlist, out)
 }
