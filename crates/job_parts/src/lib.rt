@@ -1,7 +1,7 @@
 // Parts of a job that no operator makes: the bits of a constant, and the rest of a narrowed result.
 ghost use mathlib.Core.Path.{_≡_};
 ghost use mathlib.Core.List.{_++_};
-ghost use Prim.Native.Nat.{ℕ, _+_, _*_, _-_, _/_, _%_, _^_, _≤_, _<_, min};
+ghost use Prim.Native.Nat.{ℕ, _+_, _-_, _/_, _%_, _^_, _≤_, min};
 ghost use lib.ListN.{length, take, drop, replicate};
 ghost use Rattle.rtl.specs.Word.{bits};
 ghost use Rattle.meaning.specs.Image.{listWord, constantOf};

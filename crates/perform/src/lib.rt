@@ -1,7 +1,7 @@
 // What a job stands for, made of the nets that were read: the result takes the place of the first list.
 ghost use mathlib.Core.Path.{_≡_};
 ghost use mathlib.Core.Option.{some};
-ghost use Prim.Native.Nat.{_-_, _/_, _≤_, _<_};
+ghost use Prim.Native.Nat.{_≤_, _<_};
 ghost use lib.ListN.{length, take};
 ghost use Rattle.model.specs.Words.{absent};
 ghost use Rattle.model.specs.Builder as B;

@@ -2,7 +2,7 @@
 // keeps for a driven bit. Outside of the recursion.
 ghost use mathlib.Core.Path.{_≡_};
 ghost use mathlib.Core.Bool.{true};
-ghost use Prim.Native.Nat.{ℕ, _+_, _*_, _≤_, _<_};
+ghost use Prim.Native.Nat.{_+_, _*_, _≤_, _<_};
 ghost use Rattle.meaning.specs.Image.{countAt, signalWidth, exprWidth};
 ghost use Rattle.model.specs.Words.{Netlist};
 ghost use Rattle.model.specs.Lowering as model;
