@@ -59,7 +59,7 @@ impl Command {
     }
 
     /// Says why nothing is compared.
-    pub fn refuse(&self, reason: &str) -> ExitCode {
+    fn refuse(&self, reason: &str) -> ExitCode {
         eprintln!("{}: {reason}", self.name);
         ExitCode::from(2)
     }
