@@ -1,18 +1,19 @@
 -- The ways through the gates' code, each as a law of the model. Assumes nothing.
-use mathlib.Core.Path.{_≡_, refl, sym, _∙_}
-use mathlib.Core.Bool.{Bool, true, false, not}
+use mathlib.Core.Path.{_≡_, refl, _∙_}
+use mathlib.Core.Bool.{Bool, true, false, not, cond}
 use mathlib.Core.List.{List}
 use mathlib.Core.Option.{none, some}
 use Prim.Native.Nat.{ℕ, min, max}
+use lib.Dec.{eqb}
 use borrow.Author.Tests.{eq-eqb, ne-eqb}
-use Rattle.model.specs.Words.{absent, gate, Netlist}
+use Rattle.model.specs.Words.{absent, Node, gate, Netlist}
 use Rattle.model.specs.Builder.{done, Made, nodeForNet, constantValue, isValue, isConstant, addCached, addConstant, addNot, addAnd, addOr, addXor, addMux}
 use Rattle.netlist_view.specs.View.{netlistOf}
 use Rattle.netlist_index.specs.Index.{Held}
 use Rattle.nodes.specs.Gives.{Gives}
 use Rattle.nodes.specs.declared.Added.{Added}
 use Rattle.nodes.specs.declared.Added.the-variants.{Net}
-use Rattle.gates.specs.Nots.{PlainNots}
+use Rattle.gates.specs.Turns.{muxNode}
 
 -- the model says the same of both
 pub gives-by : (m m′ : Made ℕ) (n : ℕ) (r : Added) (w idx : List ℕ) → m ≡ m′ → Gives m′ n r w idx → Gives m n r w idx
@@ -136,21 +137,10 @@ module _ (l : Netlist) (c t e : ℕ) where
     unfolding addMux
     mux-zero p = rw (ne-eqb t e d, p)
 
-    mux-turned : constantValue l c ≡ none → nodeForNet l c .kind ≡ 5 → addMux c t e l ≡ addCached (gate 6 (nodeForNet l c .in0) e t) l
+    pub mux-node : constantValue l c ≡ none → addMux c t e l ≡ addCached (muxNode l c t e) l
     unfolding addMux
-    mux-turned p k = rw (ne-eqb t e d, p, eq-eqb _ _ k)
-
-    pub mux-gate : constantValue l c ≡ none → (nodeForNet l c .kind ≡ 5 → ⊥) → addMux c t e l ≡ addCached (gate 6 c t e) l
-    unfolding addMux
-    mux-gate p k = rw (ne-eqb t e d, p, ne-eqb _ _ k)
-
--- where the condition is a Not: its input is neither a constant nor a Not, so the mux of it with the sides exchanged is that gate
-no-constant : (l : Netlist) (a : ℕ) → (nodeForNet l a .kind ≡ 1 → ⊥) → constantValue l a ≡ none
-unfolding constantValue
-no-constant l a h = rw (ne-eqb (nodeForNet l a .kind) 1 h)
-
-pub mux-again : (l : Netlist) (c t e : ℕ) → PlainNots l → (t ≡ e → ⊥) → constantValue l c ≡ none → nodeForNet l c .kind ≡ 5
-    → addMux c t e l ≡ addMux (nodeForNet l c .in0) e t l
-mux-again l c t e f d p k =
-    let a = f .all c k in
-    mux-turned l c t e d p k ∙ sym (mux-gate l (nodeForNet l c .in0) e t (λ q. d (sym q)) (no-constant l (nodeForNet l c .in0) (a .constant)) (a .inverter))
+    mux-node p = rw (ne-eqb t e d, p) (cached-if (eqb (nodeForNet l c .kind) 5) (gate 6 (nodeForNet l c .in0) e t) (gate 6 c t e))
+      where
+        cached-if : (b : Bool) (x y : Node) → cond b (addCached x l) (addCached y l) ≡ addCached (cond b x y) l
+        cached-if true x y = refl
+        cached-if false x y = refl

@@ -1,5 +1,5 @@
--- No Not has a Not or a constant as its input, and its input is a lower net (`PlainNots`): what `add_mux` asks, so that it calls itself
--- once. A call that adds only other nodes keeps it: a constant, a mux, lists of them. Assumes nothing.
+-- No Not has a Not or a constant as its input, and its input is a lower net (`PlainNots`): what `add_mux` asks, so that its loop makes one
+-- turn at most. A call that adds only other nodes keeps it: a constant, a mux, lists of them. Assumes nothing.
 use mathlib.Core.Path.{_≡_, refl, sym, ap, subst, _∙_}
 use mathlib.Core.Bool.{Bool, true, false, cond}
 use mathlib.Core.List.{List, [], _∷_}

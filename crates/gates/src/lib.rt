@@ -3,11 +3,12 @@ ghost use mathlib.Core.Path.{_≡_};
 ghost use Prim.Native.Nat.{ℕ, _+_, _*_, _≤_, _<_, min, max};
 ghost use lib.ListN.{length, getD};
 ghost use Rattle.model.specs.Words.{absent, gate};
-ghost use Rattle.model.specs.Builder.{isConstant, addCached, addConstant, addNot, addAnd, addOr, addXor, addMux};
+ghost use Rattle.model.specs.Builder.{nodeForNet, isConstant, addCached, addConstant, addNot, addAnd, addOr, addXor, addMux};
 ghost use Rattle.netlist_view.specs.View.{netlistOf};
 ghost use Rattle.netlist_index.specs.Index.{Held};
 ghost use Rattle.nodes.specs.Gives.{Gives};
 ghost use Rattle.gates.specs.Nots.{PlainNots};
+ghost use Rattle.gates.specs.Turns.{muxNode};
 use cached::add_cached;
 use nodes::ABSENT;
 use nodes::Added;
@@ -131,7 +132,41 @@ pub fn add_xor(net: &mut [u32], idx: &mut [u32], n: u32, a: u32, b: u32) -> Adde
     add_pair(net, idx, n, 4, a, b)
 }
 
-// Where the condition is a Not, the mux of its input with the sides exchanged. That input is no Not, so it calls itself once.
+// A mux's condition and its two sides.
+struct Mux {
+    condition: u32,
+    then_net: u32,
+    else_net: u32,
+}
+
+// One turn: the input of m's condition as the condition, the sides exchanged.
+fn exchanged(net: &[u32], m: Mux) -> Mux
+    requires { ⌜ 16 + 6 * getD (now net) 1 0 ≤ length (now net) ⌝ }
+    ensures { λ r. ⌜ ((n : ℕ) → r .condition ≡ nodeForNet (netlistOf n (now (net .entry))) (m .condition) .in0) × (r .«then_net» ≡ m .«else_net») × (r .«else_net» ≡ m .«then_net») ⌝ }
+{
+    Mux {
+        condition: nodes::input_of(net, m.condition),
+        then_net: m.else_net,
+        else_net: m.then_net,
+    }
+}
+
+// The same mux on a condition that is no Not. No Not has a Not as its input, so there is one turn at most.
+fn plain_mux(net: &[u32], c: u32, t: u32, e: u32) -> Mux
+    requires { ⌜ (16 + 6 * getD (now net) 1 0 ≤ length (now net)) × ((n : ℕ) → PlainNots (netlistOf n (now net))) ⌝ }
+    ensures { λ r. ⌜ ((n : ℕ) → gate 6 (r .condition) (r .«then_net») (r .«else_net») ≡ muxNode (netlistOf n (now (net .entry))) c t e) ⌝ }
+{
+    let mut m = Mux {
+        condition: c,
+        then_net: t,
+        else_net: e,
+    };
+    while nodes::kind_of(net, m.condition) == 5 {
+        m = exchanged(net, m);
+    }
+    m
+}
+
 pub fn add_mux(net: &mut [u32], idx: &mut [u32], n: u32, c: u32, t: u32, e: u32) -> Added
     requires { ⌜ (Held n (now net) (now idx)) × (PlainNots (netlistOf n (now net))) ⌝ }
     ensures { λ r. ⌜ Gives (addMux c t e (netlistOf n (now (net .entry)))) n r (now (net .exit)) (now (idx .exit)) ⌝ }
@@ -143,11 +178,8 @@ pub fn add_mux(net: &mut [u32], idx: &mut [u32], n: u32, c: u32, t: u32, e: u32)
         Constant::Zero => Added::Net(e),
         Constant::One => Added::Net(t),
         Constant::Other => {
-            if nodes::kind_of(net, c) == 5 {
-                let a = nodes::input_of(net, c);
-                return add_mux(net, idx, n, a, e, t);
-            }
-            add_cached(net, idx, n, 6, ABSENT, c, t, e)
+            let m = plain_mux(net, c, t, e);
+            add_cached(net, idx, n, 6, ABSENT, m.condition, m.then_net, m.else_net)
         }
     }
 }

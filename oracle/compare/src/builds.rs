@@ -12,12 +12,14 @@ const NAMES: [&str; 16] = [
     "constant", "not", "and", "or", "xor", "mux", "add", "sub", "mul", "add with carry", "ltu", "leu", "lts", "les", "input", "output",
 ];
 
-/// What was compared: sequences, runs, operations done by their code, refusals.
+/// What was compared: sequences, runs, operations done by their code, muxes on a
+/// Not, refusals.
 #[derive(Clone, Copy, Debug, Default)]
 pub struct Tally {
     pub sequences: u64,
     pub runs: u64,
     pub by_code: [u64; NAMES.len()],
+    pub turned: u64,
     pub refused_9: u64,
     pub refused_10: u64,
     pub most_nets: usize,
@@ -35,7 +37,8 @@ impl fmt::Display for Tally {
         for (number, (name, count)) in NAMES.iter().zip(self.by_code).enumerate() {
             write!(f, "{}{name} {count}", if number == 0 { "" } else { ", " })?;
         }
-        write!(f, "), refused 9: {}, 10: {}, at most {} nets", self.refused_9, self.refused_10, self.most_nets)
+        write!(f, "), muxes on a Not {}, ", self.turned)?;
+        write!(f, "refused 9: {}, 10: {}, at most {} nets", self.refused_9, self.refused_10, self.most_nets)
     }
 }
 
@@ -271,6 +274,7 @@ fn count(tally: &mut Tally, sequence: &Sequence, built: &Built) {
     for [code, ..] in &sequence.operations[..built.answers.len()] {
         tally.by_code[(*code as usize).min(NAMES.len() - 1)] += 1;
     }
+    tally.turned += built.turned;
     tally.refused_9 += u64::from(built.refused == Some(9));
     tally.refused_10 += u64::from(built.refused == Some(10));
     tally.most_nets = tally.most_nets.max(taken(&built.netlist).0 as usize);

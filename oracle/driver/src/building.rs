@@ -31,26 +31,24 @@ pub struct Built {
     pub answers: Vec<u32>,
     /// 9 or 10 where the operation behind the last one done met a limit.
     pub refused: Option<u32>,
+    /// Of the operations that were done, the muxes of two nets on a Not.
+    pub turned: u64,
 }
 
 /// Does operations on an empty netlist of `n` nets and `p` list words at most,
 /// up to the first that meets a limit.
 #[must_use]
 pub fn build(operations: &[Operation], pool: &[u32], n: u32, p: u32) -> Built {
-    let (build, answers, refused) = run(operations, pool, n, p);
-    if refused.is_none() {
-        return Built {
-            netlist: encode(&build.netlist),
-            answers,
-            refused,
-        };
+    let (mut build, answers, refused) = run(operations, pool, n, p);
+    if refused.is_some() {
+        // The refused operation has left nodes without a record.
+        (build, ..) = run(&operations[..answers.len()], pool, n, p);
     }
-    // The refused operation has left nodes without a record.
-    let (build, ..) = run(&operations[..answers.len()], pool, n, p);
     Built {
         netlist: encode(&build.netlist),
         answers,
         refused,
+        turned: build.turned,
     }
 }
 

@@ -2,7 +2,7 @@
 //! the fusion test on expressions and the netlist builder on operations.
 
 use super::word_cells::WordCells;
-use super::{ArithmeticOp, ComparisonOp, Lowering, NetId, Netlist};
+use super::{ArithmeticOp, ComparisonOp, Lowering, NetId, Netlist, NodeKind};
 use crate::building::{Operation, digest};
 use std::num::NonZeroU32;
 use struo_rtl::{ExprId, Module};
@@ -81,6 +81,8 @@ impl<'a> Asked<'a> {
 pub(crate) struct Build {
     pub(crate) netlist: Netlist,
     cells: WordCells,
+    /// Muxes of two nets on a Not.
+    pub(crate) turned: u64,
 }
 
 impl Build {
@@ -88,6 +90,7 @@ impl Build {
         Self {
             netlist,
             cells: WordCells::default(),
+            turned: 0,
         }
     }
 
@@ -129,8 +132,15 @@ impl Build {
             2 => self.netlist.add_and(a, b),
             3 => self.netlist.add_or(a, b),
             4 => self.netlist.add_xor(a, b),
-            _ => self.netlist.add_mux(a, b, c),
+            _ => {
+                self.turned += u64::from(b != c && self.is_not(a));
+                self.netlist.add_mux(a, b, c)
+            }
         }
+    }
+
+    fn is_not(&self, net: NetId) -> bool {
+        matches!(self.netlist.nodes()[net.index() as usize].kind(), NodeKind::Not)
     }
 
     fn arithmetic(&mut self, code: u32, lhs: Vec<NetId>, rhs: Vec<NetId>, carry: Option<NetId>) -> u32 {

@@ -19,6 +19,7 @@ const USAGE: &str = "bench-builder [repeat port|rust NETS LIMIT LOOKUPS]
              first lookup does not depend on LOOKUPS. LIMIT is the port's N.";
 
 const INPUT: u32 = 14;
+const NOT: u32 = 1;
 const MUX: u32 = 5;
 const PORT_WIDTH: u32 = 1_024;
 const MOST_NETS: u32 = 65_535;
@@ -45,7 +46,8 @@ fn main() {
 fn times() {
     println!("{:<40} {:>6} {:>11} {:>11} {:>6} {:>6}", "operations", "N", "port ns/op", "Rust ns/op", "ratio", "steps");
     build_row("60,000 distinct gates", &distinct_gates(PORT_WIDTH, 60_000));
-    build_row("mux tree on one select, 16,383 muxes", &mux_tree(14));
+    build_row("mux tree on one select, 16,383 muxes", &mux_tree(14, false));
+    build_row("the same on the select's inverse", &mux_tree(14, true));
     for nets in [1_000, 4_000, 16_000, 60_000] {
         lookup_rows(nets);
     }
@@ -74,14 +76,19 @@ fn distinct_gates(inputs: u32, count: usize) -> Operations {
     operations
 }
 
-/// Muxes of the nets two by two, level by level, all on the last input.
-fn mux_tree(levels: u32) -> Operations {
+/// Muxes of the nets two by two, level by level, all on the last input, or on
+/// its inverse.
+fn mux_tree(levels: u32, inverse: bool) -> Operations {
     let leaves = 1 << levels;
     let mut operations = input_ports(leaves + 1);
+    if inverse {
+        operations.push([NOT, leaves, 0, 0, 0]);
+    }
+    let select = leaves + u32::from(inverse);
     let mut level: Vec<u32> = (0..leaves).collect();
-    let mut next = leaves + 1;
+    let mut next = select + 1;
     while level.len() > 1 {
-        operations.extend(level.chunks(2).map(|pair| [MUX, leaves, pair[0], pair[1], 0]));
+        operations.extend(level.chunks(2).map(|pair| [MUX, select, pair[0], pair[1], 0]));
         level = (next..).take(level.len() / 2).collect();
         next += level.len() as u32;
     }
@@ -221,7 +228,7 @@ fn rust_step(netlist: &mut Netlist, &[code, a, b, c, _]: &[u32; 5]) -> NetId {
     let nodes = netlist.nodes();
     let [a, b, c] = [a, b, c].map(|word| nodes[word as usize % nodes.len()].output());
     match code {
-        1 => netlist.add_not(a),
+        NOT => netlist.add_not(a),
         2 => netlist.add_and(a, b),
         3 => netlist.add_or(a, b),
         4 => netlist.add_xor(a, b),
