@@ -175,11 +175,10 @@ pub fn add_mux(net: &mut [u32], idx: &mut [u32], n: u32, c: u32, t: u32, e: u32)
         return Added::Net(t);
     }
     match constant_value(net, c) {
-        Constant::Zero => Added::Net(e),
-        Constant::One => Added::Net(t),
-        Constant::Other => {
-            let m = plain_mux(net, c, t, e);
-            add_cached(net, idx, n, 6, ABSENT, m.condition, m.then_net, m.else_net)
-        }
+        Constant::Zero => return Added::Net(e),
+        Constant::One => return Added::Net(t),
+        Constant::Other => {}
     }
+    let m = plain_mux(net, c, t, e);
+    add_cached(net, idx, n, 6, ABSENT, m.condition, m.then_net, m.else_net)
 }

@@ -22,8 +22,28 @@ constant-value-requires c κs = search needs
 enum-told : tie.Need-enum-told
 enum-told c = search needs
 
+same-length : tie.Need-same-length
+same-length c = search needs
+
+returns-2 : tie.Need-returns-2
+returns-2 c =
+    let value = c .before .before in
+    let start = value .before .before .before .before .before in
+    let s = start .args in
+    gives-net _ _ _ _ _ (start .pre .0) (mux-zero (netlistOf (s .n) (s .net .now)) (s .c) (s .t) (s .e) (value .before .before .if1 .left) (value .constant-value .ensures (s .n) ∙ ap valueOf (c .enum-told .given .1)))
+
 enum-told-2 : tie.Need-enum-told-2
 enum-told-2 c = search needs
+
+same-length-2 : tie.Need-same-length-2
+same-length-2 c = search needs
+
+returns-3 : tie.Need-returns-3
+returns-3 c =
+    let value = c .before .before in
+    let start = value .before .before .before .before .before in
+    let s = start .args in
+    gives-net _ _ _ _ _ (start .pre .0) (mux-one (netlistOf (s .n) (s .net .now)) (s .c) (s .t) (s .e) (value .before .before .if1 .left) (value .constant-value .ensures (s .n) ∙ ap valueOf (c .enum-told2 .given .1)))
 
 enum-told-3 : tie.Need-enum-told-3
 enum-told-3 c = search needs
@@ -36,26 +56,6 @@ plain-mux-requires c κs =
 
 add-cached-requires : tie.Need-add-cached-requires
 add-cached-requires c κs = search needs
-
-same-length : tie.Need-same-length
-same-length c = search needs
-
-returns-2 : tie.Need-returns-2
-returns-2 c =
-    let value = c .before .before in
-    let start = value .before .before .before .before .before in
-    let s = start .args in
-    gives-net _ _ _ _ _ (start .pre .0) (mux-zero (netlistOf (s .n) (s .net .now)) (s .c) (s .t) (s .e) (value .before .before .if1 .left) (value .constant-value .ensures (s .n) ∙ ap valueOf (c .enum-told .given .1)))
-
-same-length-2 : tie.Need-same-length-2
-same-length-2 c = search needs
-
-returns-3 : tie.Need-returns-3
-returns-3 c =
-    let value = c .before .before in
-    let start = value .before .before .before .before .before in
-    let s = start .args in
-    gives-net _ _ _ _ _ (start .pre .0) (mux-one (netlistOf (s .n) (s .net .now)) (s .c) (s .t) (s .e) (value .before .before .if1 .left) (value .constant-value .ensures (s .n) ∙ ap valueOf (c .enum-told2 .given .1)))
 
 same-length-3 : tie.Need-same-length-3
 same-length-3 c = search needs
@@ -78,4 +78,4 @@ returns-4 c =
     (made .add-cached .ensures)
 
 pub add-mux-spec : {M : Type 1} → statement M
-add-mux-spec = tie.close (tie.spec returns constant-value-requires enum-told enum-told-2 enum-told-3 plain-mux-requires add-cached-requires same-length returns-2 same-length-2 returns-3 same-length-3 same-length-4 returns-4)
+add-mux-spec = tie.close (tie.spec returns constant-value-requires enum-told same-length returns-2 enum-told-2 same-length-2 returns-3 enum-told-3 plain-mux-requires add-cached-requires same-length-3 same-length-4 returns-4)
