@@ -1,8 +1,9 @@
-//! Makes the two copies of struo's lowering that the driver runs. `Lowering` is
+//! Makes the copies of struo's lowering that the driver runs. `Lowering` is
 //! private, so each copy gets two more lines that declare child modules of
-//! ours. The plain copy is otherwise unchanged; the limited copy has
-//! `limits.patch` applied, which must fit exactly. A third copy, of `ranges.rs`
-//! alone, has `ranges.patch` applied.
+//! ours. The first copy is otherwise unchanged. The plain copy has the rows that
+//! document 02 adds (`docs/struo-ranges-or-xor.patch`); the limited copy has
+//! these and `limits.patch`; a copy of `ranges.rs` alone has these and
+//! `ranges.patch`. Every patch must fit exactly.
 
 use std::collections::BTreeMap;
 use std::fs;
@@ -22,10 +23,12 @@ fn main() {
     let oracle = driver.parent().expect("the driver lies in the oracle");
     watch(&driver.join("build.rs"));
 
-    let plain = read_sources(&oracle.join("struo"));
+    let unchanged = read_sources(&oracle.join("struo"));
+    let plain = patched(&unchanged, &oracle.join("../docs/struo-ranges-or-xor.patch"));
     let limited = patched(&plain, &oracle.join("limits.patch"));
     let ranged = patched(&plain, &oracle.join("ranges.patch"));
     let children = ["inside", "parts"].map(|name| (name, driver.join(format!("src/{name}.rs"))));
+    write_copy(&out.join("unchanged"), &unchanged, &children);
     write_copy(&out.join("plain"), &plain, &children);
     write_copy(&out.join("limited"), &limited, &children);
     write(&out.join("ranged").join(RANGES), &ranged[RANGES]);
@@ -81,7 +84,8 @@ fn copies(out: &Path) -> String {
             "#[path = {path:?}]\n#[allow(dead_code, unused_imports, clippy::all)]\nmod {name};\n"
         )
     };
-    module("plain", out.join("plain").join(SYNTH))
+    module("unchanged", out.join("unchanged").join(SYNTH))
+        + &module("plain", out.join("plain").join(SYNTH))
         + &module("limited", out.join("limited").join(SYNTH))
         + &module("limited_ir", out.join("limited").join(IR))
         + &module("ranged", out.join("ranged").join(RANGES))

@@ -1,6 +1,6 @@
 -- Document 01's bench cases K1 to K12 and its listing example, computed by the checker from the images' bytes: what the call
 -- answers, how many nets it makes, which arithmetic cells. K3, K4 and K10 stand twice: as written, where constant operands fold
--- (docs/DIFFERENCES.md, 1), and primed, with operands that have those values but no constant nets.
+-- (docs/DIFFERENCES.md, 1), and primed, with operands that have those values but no constant nets. Then two cases of document 02's Q-5.
 use Prim.Native.Nat.{ℕ}
 use mathlib.Core.Path.{_≡_, refl}
 use mathlib.Core.Bool.{Bool, true, false, cond}
@@ -127,6 +127,18 @@ k11 = refl
 pub k12 : shown Images.k12 12 39 ≡ accepted 12 (add 2 ∷ add 2 ∷ [])
 unfolding computing
 k12 = refl
+
+-- ---- Q-5: a sum behind an Or ----
+
+-- ({0, a} or {0, b}) + 0 on 2 bits: the Or is at most 1, so the cell has one bit
+pub or-narrowed : shown Images.ornarrowed 7 20 ≡ accepted 7 (add 1 ∷ [])
+unfolding computing
+or-narrowed = refl
+
+-- bit 1 of that sum is the constant above the narrowed width, so it may be a reset value
+pub or-reset : shown Images.orreset 7 32 ≡ accepted 7 (add 1 ∷ [])
+unfolding computing
+or-reset = refl
 
 -- ---- K3 and K4: what the Add, expression 2, is narrowed to; K10: the reset value's bits, bit 0 first ----
 

@@ -136,6 +136,7 @@ fn sum_of(op: records::BinaryOp, lhs: u32, rhs: u32) -> Sum
     match class {
         OpClass::Adds => Sum::Of(lhs, rhs),
         OpClass::Ands => Sum::Nothing,
+        OpClass::Ors => Sum::Nothing,
         OpClass::Subtracts => Sum::Nothing,
         OpClass::Other => Sum::Nothing,
     }

@@ -8,12 +8,12 @@ use Rattle.records.specs.Expr.{binaryMeans}
 use Rattle.records.specs.declared.BinaryOp.{BinaryOp}
 use Rattle.records.specs.declared.BinaryOp.the-variants as B
 use Rattle.op_class.specs.declared.OpClass.{OpClass}
-use Rattle.op_class.specs.declared.OpClass.the-variants.{Ands, Adds, Subtracts, Other}
+use Rattle.op_class.specs.declared.OpClass.the-variants.{Ands, Ors, Adds, Subtracts, Other}
 
 unfoldable pub opClassOf : BinaryOp → OpClass
 opClassOf B.And = Ands
-opClassOf B.Or = Other
-opClassOf B.Xor = Other
+opClassOf B.Or = Ors
+opClassOf B.Xor = Ors
 opClassOf B.Add = Adds
 opClassOf B.Sub = Subtracts
 opClassOf B.Mul = Other
@@ -34,6 +34,7 @@ opClassOf B.ShiftRightArithmetic = Other
 -- the row of `binary_range` for a class
 abbrev pub classRange : OpClass → ℕ → model.Range → model.Range → model.Range
 classRange Ands w l r = model.binaryRange (model.Bitwise model.AndGate) w l r
+classRange Ors w l r = model.orRange l r
 classRange Adds w l r = model.addRange w l r
 classRange Subtracts w l r = model.subRange w l r
 classRange Other w l r = model.full w
@@ -62,6 +63,7 @@ range-class B.ShiftRightArithmetic w l r = refl
 
 abbrev pub addsOf : OpClass → Bool
 addsOf Ands = false
+addsOf Ors = false
 addsOf Adds = true
 addsOf Subtracts = false
 addsOf Other = false

@@ -1,10 +1,11 @@
-// What the ranges and the fusion ask of an operator: an And, an Add, a Sub, or another.
+// What the ranges and the fusion ask of an operator: an And, an Or or Xor, an Add, a Sub, or another.
 ghost use mathlib.Core.Path.{_≡_};
 ghost use Rattle.op_class.specs.OpClass.{opClassOf};
 use records::BinaryOp;
 
 pub enum OpClass {
     Ands,
+    Ors,
     Adds,
     Subtracts,
     Other,
@@ -15,6 +16,8 @@ pub fn op_class(op: BinaryOp) -> OpClass
 {
     match op {
         BinaryOp::And => OpClass::Ands,
+        BinaryOp::Or => OpClass::Ors,
+        BinaryOp::Xor => OpClass::Ors,
         BinaryOp::Add => OpClass::Adds,
         BinaryOp::Sub => OpClass::Subtracts,
         _ => OpClass::Other,

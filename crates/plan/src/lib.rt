@@ -63,6 +63,7 @@ pub fn operands(image: &[u8], op: BinaryOp, lhs: u32, rhs: u32) -> Operands
     match class {
         OpClass::Adds => fusion::add_with_carry(image, lhs, rhs),
         OpClass::Ands => plain(lhs, rhs),
+        OpClass::Ors => plain(lhs, rhs),
         OpClass::Subtracts => plain(lhs, rhs),
         OpClass::Other => plain(lhs, rhs),
     }

@@ -7,10 +7,10 @@ use native.Mathlib.Nat.{mod-eq-of-lt, mod-lt, mod-le, add-mul-mod-self-left, add
 use native.Mathlib.Omega.{arith}
 use lib.Dec.{T, leb, eqb→eq, leb→le}
 use lib.ListN.{length, length-append}
-use lib.Pow.{pow-pos, pow-add, shr-mono}
-use Rattle.rtl.specs.Word.{bit, value, value-lt, value-bits, length-bits, value-append, mod-low}
-use Rattle.rtl.specs.Ops.{addW, subW, andW, joinW, sliceW}
-use Rattle.model.specs.Ranges.{Range, point, full, single, addRange, subRange, sliceRange, bitLen}
+use lib.Pow.{pow-pos, pow-add, pow-mono, shr-mono}
+use Rattle.rtl.specs.Word.{bit, bit-lt, value, value-lt, value-bits, length-bits, value-append, mod-low}
+use Rattle.rtl.specs.Ops.{map2, addW, subW, andW, joinW, sliceW}
+use Rattle.model.specs.Ranges.{Range, point, full, single, addRange, subRange, orRange, sliceRange, bitLen}
 use Rattle.word_laws.specs.Values.{length-map2, value-slice, slice-wide}
 
 -- a word of width w that lies in the range, and the range in the width
@@ -146,3 +146,35 @@ pub bitLen-fits : (f n : ℕ) → n < 2 ^ f → n < 2 ^ bitLen f n
 bitLen-fits zero n h = h
 bitLen-fits (suc f) zero h = omega arith
 bitLen-fits (suc f) (suc n) h = omega (arith, pow-succ' 2 (bitLen f (suc n / 2)), bitLen-fits f (suc n / 2) (omega (arith, pow-succ' 2 f)))
+
+-- a number below 2 ^ w has at most w bits
+bitLen-within : (f n w : ℕ) → n < 2 ^ w → bitLen f n ≤ w
+bitLen-within zero n w h = zero-le
+bitLen-within (suc f) zero w h = zero-le
+bitLen-within (suc f) (suc n) zero h = absurd (omega arith)
+bitLen-within (suc f) (suc n) (suc w) h = omega (arith, bitLen-within f (suc n / 2) w (omega (arith, pow-succ' 2 w)))
+
+-- an operator by bit that makes no 1 of two 0s makes none above the highest of both operands
+module _ (f : Bool → Bool → Bool) (none-made : f false false ≡ false) where
+  pub bitwise-below : (k : ℕ) (a b : List Bool) → value a < 2 ^ k → value b < 2 ^ k → value (map2 f a b) < 2 ^ k
+  bitwise-below k [] b p q = pow-pos k
+  bitwise-below k (x ∷ a) [] p q = pow-pos k
+  bitwise-below zero (true ∷ a) (y ∷ b) p q = absurd (omega arith)
+  bitwise-below zero (false ∷ a) (true ∷ b) p q = absurd (omega arith)
+  bitwise-below zero (false ∷ a) (false ∷ b) p q = rw none-made (omega (arith, bitwise-below zero a b (omega arith) (omega arith)))
+  bitwise-below (suc k) (x ∷ a) (y ∷ b) p q =
+      let e = pow-succ' 2 k in
+      omega (arith, bitwise-below k a b (omega arith) (omega arith), bit-lt (f x y))
+
+  pub or-sound : (w : ℕ) (l r : Range) (a b : List Bool) → w ≤ 64 → Sound w l a → Sound w r b → Sound w (orRange l r) (map2 f a b)
+  or-sound w l r a b h sa sb =
+      let n = max (l .hi) (r .hi) in
+      let below : n < 2 ^ w = omega (arith, sa .fits, sb .fits) in
+      let within = bitLen-within 64 n w below in
+      let fits = bitLen-fits 64 n (omega (arith, below, pow-mono h)) in
+      record {
+        wide = length-map2 f a b (sa .wide ∙ sym (sb .wide)) ∙ sa .wide;
+        low = zero-le;
+        high = omega (arith, bitwise-below (bitLen 64 n) a b (omega (arith, sa .high, fits)) (omega (arith, sb .high, fits)));
+        fits = omega (arith, pow-mono within, pow-pos (bitLen 64 n));
+      }

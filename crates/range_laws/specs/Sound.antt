@@ -1,7 +1,7 @@
 -- Every range of the table holds what its expression's word can be, for every valuation of the signals; so an Add's word is below
 -- 2 to the width that it is narrowed to. Assumes nothing.
 use mathlib.Core.Path.{_≡_, refl, sym, _∙_, subst}
-use mathlib.Core.Bool.{Bool, true, false, cond}
+use mathlib.Core.Bool.{Bool, true, false, cond, _||_}
 use mathlib.Core.List.{List, [], _∷_, _++_, map, append-nil}
 use mathlib.Core.Option.{Option, none, some}
 use Prim.Native.Nat.{ℕ, zero, suc, _+_, _*_, _^_, _≤_, _<_, max}
@@ -11,7 +11,7 @@ use lib.Dec.{eqb, leb, ltb, eqb→eq, leb→le, ltb→lt}
 use lib.ListN.{length, getD}
 use lib.Pow.{pow-mono}
 use Rattle.rtl.specs.Word.{value, length-bits, value-bits}
-use Rattle.rtl.specs.Ops.{joinW, sliceW}
+use Rattle.rtl.specs.Ops.{xorB, joinW, sliceW}
 use Rattle.rtl.specs.Table.{entry-is}
 use Rattle.rtl.specs.Rtl as R
 use Rattle.rtl.specs.Rtl.{Expr, Kind, Valuation, word, word1, binary}
@@ -19,7 +19,7 @@ use Rattle.model.specs.Ranges.{exprAt, widthAt, Range, point, hull, isPoint, mu
 use Rattle.word_laws.specs.Shift.{length-tab}
 use Rattle.word_laws.specs.Values.{slice-wide}
 use Rattle.word_laws.specs.Widths.{AllBelow, BelowE, BinWidth, WidthOk, Formed, un-width, bin-width, cond-width, join-width, word-is, word-width}
-use Rattle.range_laws.specs.Rows.{Sound, full-sound, point-sound, choose, and-l, and-r, add-sound, sub-sound, and-sound, hull-sound, slice-sound, join-step, joinL, joinL-is, bitLen-fits}
+use Rattle.range_laws.specs.Rows.{Sound, full-sound, point-sound, choose, and-l, and-r, add-sound, sub-sound, and-sound, or-sound, hull-sound, slice-sound, join-step, joinL, joinL-is, bitLen-fits}
 
 abbrev pub SoundO : ℕ → Option Range → List Bool → Type 0
 SoundO w none a = Unit {0}
@@ -40,8 +40,8 @@ unfolding binaryRange
 bin-sound R.And w l r a b h o p q = and-sound w l r a b (subst (λ (n : ℕ). Sound n l a) (o .0) p) (subst (λ (n : ℕ). Sound n r b) (o .1) q)
 bin-sound R.Add w l r a b h o p q = add-sound w l r a b h (subst (λ (n : ℕ). Sound n l a) (o .0) p) (subst (λ (n : ℕ). Sound n r b) (o .1) q)
 bin-sound R.Sub w l r a b h o p q = sub-sound w l r a b h (subst (λ (n : ℕ). Sound n l a) (o .0) p) (subst (λ (n : ℕ). Sound n r b) (o .1) q)
-bin-sound R.Or w l r a b h o p q = full-sound w _ (bin-width R.Or w a b o)
-bin-sound R.Xor w l r a b h o p q = full-sound w _ (bin-width R.Xor w a b o)
+bin-sound R.Or w l r a b h o p q = or-sound _||_ refl w l r a b h (subst (λ (n : ℕ). Sound n l a) (o .0) p) (subst (λ (n : ℕ). Sound n r b) (o .1) q)
+bin-sound R.Xor w l r a b h o p q = or-sound xorB refl w l r a b h (subst (λ (n : ℕ). Sound n l a) (o .0) p) (subst (λ (n : ℕ). Sound n r b) (o .1) q)
 bin-sound R.Mul w l r a b h o p q = full-sound w _ (bin-width R.Mul w a b o)
 bin-sound R.Equal w l r a b h o p q = full-sound w _ (bin-width R.Equal w a b o)
 bin-sound R.NotEqual w l r a b h o p q = full-sound w _ (bin-width R.NotEqual w a b o)

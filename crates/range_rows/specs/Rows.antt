@@ -157,6 +157,14 @@ bitLen-zeros x h =
     let u = leading-unique 64 x (64 - model.bitLen 64 x) (model.bitLen 64 x) (omega arith) (bitLen-fits 64 x h) (bitLen-near x) in
     rw (← u) (omega arith)
 
+-- all ones up to the bit length: none of 0; of another number at least one
+pub ones-zero : (x : ℕ) → x ≡ 0 → 0 ≡ 2 ^ model.bitLen 64 x - 1
+ones-zero x e = rw e
+
+pub bitLen-some : (x k : ℕ) → (x ≡ 0 → ⊥) → k ≡ model.bitLen 64 x → (1 ≤ k) × (k ≤ 64)
+bitLen-some zero k n e = absurd (n refl)
+bitLen-some (suc x) k n e = (omega arith, omega (arith, bitLen-most 64 (suc x)))
+
 -- ---- the narrowed width ----
 
 pub narrow-yes : (w : ℕ) (r : model.Range) (k : ℕ) → k ≡ max 1 (model.bitLen 64 (r .hi)) → k < w → k ≡ narrowWord (model.narrowBy w (some r))

@@ -127,6 +127,33 @@ pub fn and_range(l: Range, r: Range) -> Range
     }
 }
 
+// How many bits a number takes.
+fn bit_width(x: u64) -> u32
+    ensures { λ r. ⌜ r ≡ model.bitLen 64 x ⌝ }
+{
+    64 - u64::leading_zeros(x)
+}
+
+// The number with all ones up to the bit length of x.
+fn ones(x: u64) -> u64
+    ensures { λ r. ⌜ r ≡ 2 ^ model.bitLen 64 x - 1 ⌝ }
+{
+    if x == 0 {
+        return 0;
+    }
+    mask(bit_width(x))
+}
+
+// Or, Xor: all ones up to the bit length of the larger of the largest.
+pub fn or_range(l: Range, r: Range) -> Range
+    ensures { λ x. ⌜ shown x ≡ model.orRange (shown l) (shown r) ⌝ }
+{
+    Range {
+        min: 0,
+        max: ones(greater(l.max, r.max)),
+    }
+}
+
 fn hull(y: Range, n: Range) -> Range
     ensures { λ x. ⌜ shown x ≡ model.hull (shown y) (shown n) ⌝ }
 {
@@ -201,13 +228,6 @@ pub fn join_range(acc: Range, part: Range, width: u32) -> Range
         min: joined(acc.min, part.min, width),
         max: joined(acc.max, part.max, width),
     }
-}
-
-// How many bits a number takes.
-fn bit_width(x: u64) -> u32
-    ensures { λ r. ⌜ r ≡ model.bitLen 64 x ⌝ }
-{
-    64 - u64::leading_zeros(x)
 }
 
 // The width that an Add of this range is narrowed to; 0 where it is not.

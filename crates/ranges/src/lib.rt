@@ -79,6 +79,7 @@ fn binary_range(op: BinaryOp, l: Range, r: Range, width: u32) -> Range
     let class = op_class::op_class(op);
     match class {
         OpClass::Ands => range_rows::and_range(l, r),
+        OpClass::Ors => range_rows::or_range(l, r),
         OpClass::Adds => range_rows::add_range(l, r, width),
         OpClass::Subtracts => range_rows::sub_range(l, r, width),
         OpClass::Other => range_rows::full(width),

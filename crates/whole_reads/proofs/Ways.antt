@@ -133,9 +133,10 @@ module _ (s w : List ℕ) (e : ℕ) (op : BinaryOp) (a b : ℕ) (h : BinaryIn s 
         record { says = λ l. rw (no, plain) (r .says l); fits = r .fits }
 
 -- another operator than an Add
-pub not-adds : (r : OpClass) → OneOf (0 ∷ 2 ∷ 3 ∷ []) (tagOf the-type r) → addsOf r ≡ false
-not-adds C.Adds t = absurd (⊎-elim (eqb-false 1 0 refl) (⊎-elim (eqb-false 1 2 refl) (eqb-false 1 3 refl)) t)
+pub not-adds : (r : OpClass) → OneOf (0 ∷ 1 ∷ 3 ∷ 4 ∷ []) (tagOf the-type r) → addsOf r ≡ false
+not-adds C.Adds t = absurd (⊎-elim (eqb-false 2 0 refl) (⊎-elim (eqb-false 2 1 refl) (⊎-elim (eqb-false 2 3 refl) (eqb-false 2 4 refl))) t)
 not-adds C.Ands t = refl
+not-adds C.Ors t = refl
 not-adds C.Subtracts t = refl
 not-adds C.Other t = refl
 

@@ -19,6 +19,8 @@ pub enum Fault {
     LoopAsUndriven,
     /// A Mux node's sides are exchanged.
     MuxSides,
+    /// Or and Xor have the full range, as in struo's own rows.
+    FullRanges,
     /// A memory record's depth is one too large.
     MemoryDepth,
     /// The scratch's last required word is left as it was.
@@ -33,9 +35,10 @@ pub enum Fault {
 
 pub const CHECK_FAULTS: [Fault; 4] = [Fault::ExpressionPlace, Fault::NamesEndPlace, Fault::ShortScratch, Fault::NetLimit];
 
-pub const LOWER_FAULTS: [Fault; 7] = [
+pub const LOWER_FAULTS: [Fault; 8] = [
     Fault::LoopAsUndriven,
     Fault::MuxSides,
+    Fault::FullRanges,
     Fault::MemoryDepth,
     Fault::DirtyScratch,
     Fault::WordBeyond,
@@ -70,6 +73,7 @@ impl Subject for Faulty {
         match (self.0, answer) {
             (Fault::LoopAsUndriven, [7, signal, bit]) => return [6, signal, bit],
             (Fault::MuxSides, ACCEPTED) => exchange_mux_sides(netlist),
+            (Fault::FullRanges, ACCEPTED) => lower_unchanged(image, n, p, netlist),
             (Fault::MemoryDepth, ACCEPTED) => enlarge_memory(netlist),
             (Fault::DirtyScratch, ACCEPTED) => scratch[last_scratch.unwrap()] = dirt.unwrap(),
             (Fault::WordBeyond, ACCEPTED) => netlist[reference::netlist_words(n, p)..].iter_mut().take(1).for_each(|word| *word = 0),
@@ -78,6 +82,18 @@ impl Subject for Faulty {
             _ => {}
         }
         answer
+    }
+}
+
+/// The unchanged Rust's netlist, where it keeps the limits.
+fn lower_unchanged(image: &[u8], n: u32, p: u32, netlist: &mut [u32]) {
+    let answer = driver::lower_unchanged(image, false);
+    if let driver::Answer::Netlist { nodes, records } = &answer {
+        let list_words: usize = records.iter().map(Vec::len).sum();
+        if nodes.len() <= n as usize && list_words <= p as usize {
+            let words = driver::words(&answer, n, p);
+            netlist[..words.len()].copy_from_slice(&words);
+        }
     }
 }
 

@@ -18,16 +18,30 @@ pub struct Plan {
     pub size: SizeChoice,
 }
 
-/// What was compared: images, and calls by outcome (0 accepted, 1 to 10).
+/// What was compared: images, and calls by outcome (0 accepted, 1 to 10). Of
+/// lowered images the adders that are narrowed, and those that are by the rows
+/// of Or and Xor.
 #[derive(Clone, Debug, Default, PartialEq, Eq)]
 pub struct Tally {
     pub images: u64,
     pub outcomes: [u64; 11],
+    pub narrowed: u64,
+    pub by_rows: u64,
 }
 
 impl Tally {
     pub(crate) fn count(&mut self, answer: Answer) {
         self.outcomes[answer[0] as usize] += 1;
+    }
+
+    /// Adders of an image that passes 3 and 4.
+    fn count_adders(&mut self, image: &[u8]) {
+        if reference::scratch_words(image, 1).is_some() {
+            let (ranged, _) = driver::expressions(image, &[]).expect("struo builds the module");
+            let adders = |is: fn(&driver::Ranged) -> bool| ranged.iter().filter(|row| is(row)).count() as u64;
+            self.narrowed += adders(|row| row.adder_width.is_some());
+            self.by_rows += adders(|row| row.by_rows);
+        }
     }
 
     pub fn calls(&self) -> u64 {
@@ -40,6 +54,9 @@ impl fmt::Display for Tally {
         write!(f, "{} images, {} calls: accepted {}", self.images, self.calls(), self.outcomes[0])?;
         for (number, count) in self.outcomes.iter().enumerate().skip(1) {
             write!(f, ", refused {number}: {count}")?;
+        }
+        if self.narrowed > 0 {
+            write!(f, "; {} adders narrowed, {} of them by the rows of Or and Xor", self.narrowed, self.by_rows)?;
         }
         Ok(())
     }
@@ -69,6 +86,9 @@ pub fn run(subject: &dyn Subject, what: What, plan: &Plan) -> Result<Tally, Box<
         let case = case(&mut random, number, what, plan.size);
         let taken = taken(what, &case.image);
         tally.images += 1;
+        if what == What::Lower {
+            tally.count_adders(&case.image);
+        }
         for recipe in recipes(what, &case, &mut random) {
             let trial = Trial { subject, what, recipe, junk: random.next() };
             let (answer, difference) = trial.compare(&case.image, taken);

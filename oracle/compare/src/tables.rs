@@ -20,6 +20,7 @@ pub struct Tally {
     pub wide: u64,
     pub points: u64,
     pub narrowed: u64,
+    pub by_rows: u64,
     pub pairs: u64,
     pub zeros: u64,
     pub carries: u64,
@@ -28,8 +29,9 @@ pub struct Tally {
 
 impl fmt::Display for Tally {
     fn fmt(&self, f: &mut fmt::Formatter) -> fmt::Result {
-        let Tally { tables, expressions, wide, points, narrowed, pairs, zeros, carries, fused } = self;
-        write!(f, "{tables} tables, {expressions} expressions: {wide} above 64 bits, {points} of one value, {narrowed} adders narrowed; ")?;
+        let Tally { tables, expressions, wide, points, narrowed, by_rows, pairs, zeros, carries, fused } = self;
+        write!(f, "{tables} tables, {expressions} expressions: {wide} above 64 bits, {points} of one value; ")?;
+        write!(f, "{narrowed} adders narrowed, {by_rows} of them by the rows of Or and Xor; ")?;
         write!(f, "{pairs} pairs: {zeros} zeros, {carries} carries, {fused} fused")
     }
 }
@@ -43,6 +45,7 @@ impl Tally {
         self.wide += rows(|row| row.range.is_none());
         self.points += rows(|row| row.range.is_some_and(|(min, max)| min == max));
         self.narrowed += rows(|row| row.adder_width.is_some());
+        self.by_rows += rows(|row| row.by_rows);
         self.pairs += fused.len() as u64;
         self.zeros += pairs(|pair| pair.is_zero);
         self.carries += pairs(|pair| pair.carry.is_some());

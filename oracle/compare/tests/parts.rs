@@ -4,7 +4,10 @@
 use compare::parts::{BuildPlan, Parts};
 use compare::plan::Plan;
 use compare::{builds, tables};
-use image::{Image, ABSENT};
+use image::{kind, Image, ABSENT};
+
+const OR: u32 = 1;
+const XOR: u32 = 2;
 
 /// A fault put into what struo answers.
 #[derive(Clone, Copy, Debug, PartialEq, Eq)]
@@ -14,6 +17,10 @@ enum Fault {
     RangeOneShort,
     /// The upper half of a least number is lost.
     LowHalfOnly,
+    /// An Or has the full range, as in struo's own rows.
+    OrFull,
+    /// An Xor's maximum is the larger of the operands', without ones below.
+    XorNotFilled,
     /// The fusion is not tried on the right.
     LeftOnly,
     /// Zeros are carries.
@@ -32,15 +39,24 @@ enum Fault {
 
 struct Struo(Fault);
 
+fn set_most(row: &mut [u32], most: Option<u64>) {
+    let most = most.unwrap_or(0);
+    row[4..6].copy_from_slice(&[most as u32, (most >> 32) as u32]);
+}
+
 impl Parts for Struo {
     fn adder_widths(&self, image: &[u8], table: &mut [u32]) -> bool {
         let (ranged, _) = driver::expressions(image, &[]).expect("the image is right");
-        tables::fill_table(&Image::decode(image).expect("the image is right"), &ranged, table);
-        for row in table.chunks_mut(tables::ROW) {
-            match self.0 {
-                Fault::RangeOneShort if row[4] == 255 && row[5] == 0 => row[4] = 254,
-                Fault::LowHalfOnly => row[3] = 0,
-                Fault::Beyond if row[6] == 63 => row[7] = 0,
+        let image = Image::decode(image).expect("the image is right");
+        tables::fill_table(&image, &ranged, table);
+        let most = |number: u32| ranged[number as usize].range.map(|(_, max)| max);
+        for (row, fields) in table.chunks_mut(tables::ROW).zip(&image.expressions) {
+            match (self.0, fields) {
+                (Fault::RangeOneShort, _) if row[4] == 255 && row[5] == 0 => row[4] = 254,
+                (Fault::LowHalfOnly, _) => row[3] = 0,
+                (Fault::OrFull, &[kind::BINARY, width, OR, ..]) if width <= 64 => set_most(row, Some(u64::MAX >> (64 - width))),
+                (Fault::XorNotFilled, &[kind::BINARY, _, XOR, lhs, rhs]) => set_most(row, most(lhs).max(most(rhs))),
+                (Fault::Beyond, _) if row[6] == 63 => row[7] = 0,
                 _ => {}
             }
         }
@@ -88,7 +104,7 @@ const BUILDS: Plan = Plan { seed: 1, first: 0, count: 60_000 };
 #[test]
 fn struo_agrees_with_itself() {
     let tally = tables::run(&Struo(Fault::Nothing), &TABLES).map_err(|failure| failure.to_string()).unwrap();
-    assert!(tally.narrowed > 500 && tally.fused > 1_000 && tally.zeros > 1_000 && tally.wide > 1_000, "{tally}");
+    assert!(tally.narrowed > 500 && tally.by_rows > 300 && tally.fused > 1_000 && tally.zeros > 1_000 && tally.wide > 1_000, "{tally}");
     let tally = builds::run(&Struo(Fault::Nothing), &BUILDS).map_err(|failure| failure.to_string()).unwrap();
     assert!(tally.by_code.iter().all(|&count| count > 300), "{tally}");
     assert!(tally.refused_9 > 50 && tally.refused_10 > 50, "{tally}");
@@ -96,7 +112,16 @@ fn struo_agrees_with_itself() {
 
 #[test]
 fn faults_in_tables_are_found_and_shrunk() {
-    for fault in [Fault::RangeOneShort, Fault::LowHalfOnly, Fault::LeftOnly, Fault::ZeroCarries, Fault::Beyond] {
+    let faults = [
+        Fault::RangeOneShort,
+        Fault::LowHalfOnly,
+        Fault::OrFull,
+        Fault::XorNotFilled,
+        Fault::LeftOnly,
+        Fault::ZeroCarries,
+        Fault::Beyond,
+    ];
+    for fault in faults {
         let failure = tables::run(&Struo(fault), &TABLES).err().unwrap_or_else(|| panic!("{fault:?} is not found"));
         let small = Image::decode(&failure.shrunk.small).expect("the smallest image is right");
         assert!(small.expressions.len() <= 12, "{fault:?}: {failure}");

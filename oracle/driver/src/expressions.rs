@@ -3,7 +3,7 @@
 
 use crate::module_image::ModuleImage;
 use crate::plain::parts::{Asked, adder_widths};
-use crate::{ranged, rtl, with_big_stack};
+use crate::{ranged, rtl, unchanged, with_big_stack};
 
 /// What the range analysis says of an expression.
 #[derive(Clone, Copy, Debug, Eq, PartialEq)]
@@ -12,6 +12,8 @@ pub struct Ranged {
     pub range: Option<(u64, u64)>,
     /// The width that an Add is narrowed to.
     pub adder_width: Option<usize>,
+    /// Whether it is document 02's rows that give it this width.
+    pub by_rows: bool,
 }
 
 /// What the fusion says of two expressions.
@@ -37,8 +39,13 @@ pub fn expressions(
     let module = rtl::module(&ModuleImage::decode(image)?)?;
     let (widths, ranges) = ranged::adder_widths(&module);
     assert_eq!(widths, adder_widths(&module), "the patch changes no width");
-    let rows = ranges.into_iter().zip(widths);
-    let rows = rows.map(|(range, adder_width)| Ranged { range, adder_width });
+    let without_rows = unchanged::parts::adder_widths(&module);
+    let rows = ranges.into_iter().zip(widths).zip(without_rows);
+    let rows = rows.map(|((range, adder_width), without)| Ranged {
+        range,
+        adder_width,
+        by_rows: adder_width != without,
+    });
     let fused = with_big_stack(|| {
         let mut asked = Asked::new(&module);
         let pairs = pairs.iter();

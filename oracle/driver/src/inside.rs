@@ -7,7 +7,7 @@ use super::{
     NodeKind, RegisterCell, SynthesisError,
 };
 use crate::module_image::{ModuleImage, bit_name};
-use crate::{ABSENT, Answer};
+use crate::{ABSENT, Answer, rtl};
 use struo_rtl::Module;
 
 // Sorts of records, by their first word.
@@ -16,6 +16,20 @@ const REGISTER: usize = 1;
 const MEMORY: usize = 2;
 const ARITHMETIC: usize = 3;
 const COMPARISON: usize = 4;
+
+/// Lowers an image without limits.
+pub(crate) fn lower(image: &[u8], observable: bool) -> Result<Answer, String> {
+    let image = ModuleImage::decode(image)?;
+    let module = rtl::module(&image)?;
+    match run(&module, observable, |_| ()) {
+        Ok(netlist) => {
+            let stateless = rtl::stateless_module(&image)?;
+            let order = record_order(&module, &stateless, observable, &netlist);
+            Ok(encode(&image, &netlist, &order))
+        }
+        Err(error) => refusal(&image, &error).map(Answer::Refused),
+    }
+}
 
 /// `Lowering::lower`; `prepare` sees the netlist while it is empty.
 pub(crate) fn run(

@@ -15,8 +15,9 @@ mod rtl;
 mod simulation;
 mod words;
 
-// Two copies of the lowering: `plain` (unchanged) and `limited` (limits.patch);
-// `ranged` is the range analysis alone (ranges.patch).
+// Copies of the lowering: `unchanged`; `plain`, with document 02's rows of Or and
+// Xor; `limited`, with these rows and limits.patch. `ranged` is the range
+// analysis alone, with these rows and ranges.patch.
 include!(concat!(env!("OUT_DIR"), "/copies.rs"));
 
 use std::any::Any;
@@ -53,11 +54,17 @@ pub enum Answer {
     Crash(String),
 }
 
-/// Lowers an image that passes checks 3 and 4 with the unchanged Rust.
-/// `observable` is the value of `resolve_observable_dependencies`.
+/// Lowers an image that passes checks 3 and 4 with the Rust and document 02's
+/// rows. `observable` is the value of `resolve_observable_dependencies`.
 #[must_use]
 pub fn lower(image: &[u8], observable: bool) -> Answer {
-    guarded(|| lower_plain(image, observable))
+    guarded(|| plain::inside::lower(image, observable))
+}
+
+/// As [`lower`], with the unchanged Rust: Or and Xor have the full range.
+#[must_use]
+pub fn lower_unchanged(image: &[u8], observable: bool) -> Answer {
+    guarded(|| unchanged::inside::lower(image, observable))
 }
 
 /// As [`lower`], with `n` nets and `p` list words at most: 9 when net `n + 1`
@@ -65,20 +72,6 @@ pub fn lower(image: &[u8], observable: bool) -> Answer {
 #[must_use]
 pub fn lower_limited(image: &[u8], n: u32, p: u32, observable: bool) -> Answer {
     guarded(|| lower_patched(image, n, p, observable))
-}
-
-fn lower_plain(image: &[u8], observable: bool) -> Result<Answer, String> {
-    use plain::inside;
-    let image = ModuleImage::decode(image)?;
-    let module = rtl::module(&image)?;
-    match inside::run(&module, observable, |_| ()) {
-        Ok(netlist) => {
-            let stateless = rtl::stateless_module(&image)?;
-            let order = inside::record_order(&module, &stateless, observable, &netlist);
-            Ok(inside::encode(&image, &netlist, &order))
-        }
-        Err(error) => inside::refusal(&image, &error).map(Answer::Refused),
-    }
 }
 
 fn lower_patched(image: &[u8], n: u32, p: u32, observable: bool) -> Result<Answer, String> {

@@ -23,7 +23,7 @@ impl Prepared {
         rtl::module(&image).map(Prepared)
     }
 
-    /// `Lowering::new` and `Lowering::lower`, unchanged.
+    /// `Lowering::new` and `Lowering::lower`, with document 02's rows.
     #[must_use]
     pub fn lower(&self) -> Lowered {
         Lowered {

@@ -1,4 +1,4 @@
-//! The patched copy against the unchanged one: the same answers and the same
+//! The copy with limits against the one without: the same answers and the same
 //! record order where no limit is met, and 9 and 10 exactly at the limits.
 
 mod common;

@@ -111,6 +111,8 @@ pub struct Maker {
     /// Bits with a driver so far, of each signal.
     driven: Vec<Vec<bool>>,
     mischief: Mischief,
+    /// Whether many of its adders have words joined of fields before them.
+    pub joins: bool,
     memories: usize,
     two_ports: Vec<bool>,
     target_bits: usize,
@@ -130,6 +132,7 @@ impl Maker {
             loops: random.chance(12 * factor),
             reset: random.chance(9 * factor),
         };
+        let joins = random.chance(30);
         Maker {
             random,
             builder: Builder::new(),
@@ -140,6 +143,7 @@ impl Maker {
             signals: Vec::new(),
             driven: Vec::new(),
             mischief,
+            joins,
             memories: 0,
             two_ports: Vec::new(),
             target_bits: 0,

@@ -11,9 +11,13 @@ const SUB: u32 = 4;
 impl Maker {
     /// Adds a few expressions or a driver.
     pub fn step(&mut self) {
+        if self.joins && self.random.chance(60) {
+            return self.joined_add();
+        }
         match self.random.below(100) {
             0..=11 => self.unary_step(),
-            12..=37 => self.binary_step(),
+            12..=33 => self.binary_step(),
+            34..=37 => self.joined_add(),
             38..=44 => self.mux_step(),
             45..=51 => self.concat_step(),
             52..=59 => self.slice_step(),
@@ -152,6 +156,31 @@ impl Maker {
                 self.builder.zero_extend(value, width)
             }
         }
+    }
+
+    /// An Add of words that are joined of fields, its upper bits taken now and then.
+    fn joined_add(&mut self) {
+        let width = self.width().clamp(2, 66);
+        let lhs = self.joined(width);
+        let rhs = if self.random.flag() { self.joined(width) } else { self.small_operand(width) };
+        let sum = self.builder.add(lhs, rhs);
+        self.keep(sum);
+        if self.random.chance(30) {
+            let top = self.random.range(1, width);
+            let upper = self.builder.slice(sum, width - top, top);
+            self.keep(upper);
+        }
+    }
+
+    /// Small operands joined by Or and Xor.
+    fn joined(&mut self, width: u32) -> Expr {
+        let mut word = self.small_operand(width);
+        for _ in 0..self.random.range(1, 3) {
+            let other = self.small_operand(width);
+            let op = self.random.range(1, 2);
+            word = self.builder.binary(op, word, other);
+        }
+        word
     }
 
     /// (a + b) + c in every shape that fuses, nearly fuses or does not.
@@ -361,10 +390,24 @@ impl Maker {
         self.keep(result);
     }
 
+    /// Bits above those that a sum of joined fields is narrowed to.
+    fn above_joined(&mut self, width: u32) -> Expr {
+        let low = self.random.range(1, 30);
+        let [lhs, rhs, last] = [(); 3].map(|()| {
+            let field = self.operand(low);
+            self.builder.zero_extend(field, low + width + 1)
+        });
+        let op = self.random.range(1, 2);
+        let joined = self.builder.binary(op, lhs, rhs);
+        let sum = self.builder.add(joined, last);
+        self.builder.slice(sum, low + 1, width)
+    }
+
     /// An expression whose nets are all constant, without comparison cells.
     pub fn constant_cone(&mut self, width: u32) -> Expr {
         let lhs = self.constant(width);
-        match self.random.below(7) {
+        match self.random.below(8) {
+            7 if width <= 30 => self.above_joined(width),
             0 => self.builder.not(lhs),
             1 => {
                 let condition = self.constant(1);

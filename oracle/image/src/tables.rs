@@ -6,6 +6,8 @@ use crate::format::*;
 use crate::random::Random;
 
 const AND: u32 = 0;
+const OR: u32 = 1;
+const XOR: u32 = 2;
 const ADD: u32 = 3;
 const SUB: u32 = 4;
 
@@ -87,13 +89,14 @@ impl Table {
     fn step(&mut self) {
         let width = self.width();
         match self.random.below(100) {
-            0..=11 => self.leaf(width),
-            12..=31 => self.sum(width),
-            32..=49 => self.carried_sum(width),
-            50..=57 => self.operator(width),
-            58..=67 => self.mux(width),
-            68..=79 => self.slice(),
-            80..=89 => self.concat(),
+            0..=8 => self.leaf(width),
+            9..=24 => self.sum(width),
+            25..=39 => self.carried_sum(width),
+            40..=46 => self.operator(width),
+            47..=60 => self.joined_sum(width.clamp(2, MOST_NESTED)),
+            61..=69 => self.mux(width),
+            70..=80 => self.slice(),
+            81..=90 => self.concat(),
             _ => self.extended(width),
         };
     }
@@ -206,6 +209,46 @@ impl Table {
         sum
     }
 
+    /// A sum of words that are joined of fields.
+    fn joined_sum(&mut self, width: u32) -> Expr {
+        let mut lhs = self.joined(width);
+        if self.random.chance(25) {
+            let condition = if self.random.flag() { self.joined(1) } else { self.operand(1) };
+            let other = self.field(width);
+            lhs = self.builder.mux(condition, lhs, other);
+        }
+        let rhs = if self.random.chance(30) { self.joined(width) } else { self.field(width) };
+        let op = if self.random.chance(85) { ADD } else { SUB };
+        self.builder.binary(op, lhs, rhs)
+    }
+
+    /// Fields joined by Or and Xor.
+    fn joined(&mut self, width: u32) -> Expr {
+        let mut word = self.field(width);
+        for _ in 0..self.random.range(1, 3) {
+            let other = self.field(width);
+            let op = self.random.pick(&[OR, XOR]);
+            word = self.builder.binary(op, word, other);
+        }
+        word
+    }
+
+    /// A masked word, a narrower one under zeros, a constant, or another operand.
+    fn field(&mut self, width: u32) -> Expr {
+        match self.random.below(16) {
+            0..=7 => {
+                let word = self.operand(width);
+                let bits = self.random.below(width.min(64) as usize);
+                let mask = self.random.next() & ((1 << bits) | ((1 << bits) - 1));
+                let mask = self.builder.constant(width, mask);
+                self.builder.binary(AND, word, mask)
+            }
+            8..=13 => self.extended(width),
+            14 => self.constant(width),
+            _ => self.operand(width),
+        }
+    }
+
     /// A sum, and one bit or what looks like it, in either order.
     fn carried_sum(&mut self, width: u32) -> Expr {
         let lhs = self.operand(width);
@@ -260,9 +303,11 @@ impl Table {
 
     fn operator(&mut self, width: u32) -> Expr {
         let lhs = self.operand(width);
-        let op = match self.random.below(4) {
+        let op = match self.random.below(6) {
             0 => self.random.below(BINARY_OPS.len()) as u32,
             1 => SUB,
+            2 => OR,
+            3 => XOR,
             _ => AND,
         };
         if binary_class(op) == BinaryClass::Shift {

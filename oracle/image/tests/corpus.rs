@@ -1,5 +1,6 @@
 //! Every text of the corpus assembles and comes out as its `# expect` lines
-//! say, by the reference checks and by struo's own lowering.
+//! say, by the reference checks and by struo's own lowering with document 02's
+//! rows, and as its `# struo` lines say by the unchanged lowering.
 
 use driver::Answer;
 use image::{assemble, netlist_words, Image};
@@ -13,6 +14,14 @@ struct Call {
     n: u32,
     p: u32,
     buffers: Option<(usize, usize)>,
+    rust: Rust,
+}
+
+/// With the rows of Or and Xor, or unchanged.
+#[derive(Clone, Copy, PartialEq)]
+enum Rust {
+    WithRows,
+    Unchanged,
 }
 
 #[test]
@@ -54,12 +63,30 @@ fn texts() -> Vec<PathBuf> {
     paths
 }
 
-/// Each `# expect` line with the limits and buffers that stand before it.
+#[test]
+fn the_unchanged_rust_differs_where_a_text_says_so() {
+    let mut lines = 0;
+    for path in texts() {
+        let text = fs::read_to_string(&path).expect("a readable text");
+        let bytes = assemble(&text).expect("a right text");
+        for (call, expected) in expectations(&text) {
+            if call.rust == Rust::Unchanged {
+                lines += 1;
+                let with_rows = Call { rust: Rust::WithRows, ..call };
+                assert!(judge(&bytes, with_rows, &expected).is_err(), "{path:?}: {expected}");
+            }
+        }
+    }
+    assert!(lines > 5, "only {lines} differences");
+}
+
+/// Each `# expect` and `# struo` line with the limits and buffers before it.
 fn expectations(text: &str) -> Vec<(Call, String)> {
     let mut call = Call {
         n: 1024,
         p: 2048,
         buffers: None,
+        rust: Rust::WithRows,
     };
     let mut found = Vec::new();
     for line in text.lines() {
@@ -70,12 +97,17 @@ fn expectations(text: &str) -> Vec<(Call, String)> {
                     n: number(n),
                     p: number(p),
                     buffers: None,
+                    ..call
                 }
             }
             ["#", "buffers", netlist, scratch] => {
                 call.buffers = Some((number(netlist) as usize, number(scratch) as usize));
             }
             ["#", "expect", ..] => found.push((call, words[2..].join(" "))),
+            ["#", "struo", "accepted" | "refused", ..] => {
+                let unchanged = Call { rust: Rust::Unchanged, ..call };
+                found.push((unchanged, words[2..].join(" ")));
+            }
             _ => {}
         }
     }
@@ -111,7 +143,11 @@ fn outcome(bytes: &[u8], call: Call) -> String {
     if check != [0, 0, 0] {
         return refused(check);
     }
-    match driver::lower_limited(bytes, call.n, call.p, false) {
+    let answer = match call.rust {
+        Rust::WithRows => driver::lower_limited(bytes, call.n, call.p, false),
+        Rust::Unchanged => driver::lower_unchanged(bytes, false),
+    };
+    match answer {
         Answer::Refused(answer) => refused(answer),
         Answer::Crash(message) => panic!("{message}"),
         Answer::Netlist { nodes, records } => accepted(bytes, call, &nodes, &records),

@@ -33,6 +33,12 @@ enum-told-4 c = search needs
 plain-requires-3 : tie.Need-plain-requires-3
 plain-requires-3 c κs = search needs
 
+enum-told-5 : tie.Need-enum-told-5
+enum-told-5 c = search needs
+
+plain-requires-4 : tie.Need-plain-requires-4
+plain-requires-4 c κs = search needs
+
 returns : tie.Need-returns
 returns c =
     let op-class = c .before .before .before .op-class in
@@ -57,6 +63,12 @@ returns-4 c =
     let args = c .before .before .before .before .before .args in
     c .plain3 .ensures ∙ operands-plain (args .image .now) (args .op) _ (args .lhs) (args .rhs) (op-class .ensures) (ap addsOf (c .before .enum-told4 .given .1))
 
+returns-5 : tie.Need-returns-5
+returns-5 c =
+    let op-class = c .before .before .before .op-class in
+    let args = c .before .before .before .before .before .args in
+    c .plain4 .ensures ∙ operands-plain (args .image .now) (args .op) _ (args .lhs) (args .rhs) (op-class .ensures) (ap addsOf (c .before .enum-told5 .given .1))
+
 pub operands-spec : {M : Type 1} → statement M
 operands-spec =
     tie.close
@@ -70,7 +82,10 @@ operands-spec =
     plain-requires-2
     enum-told-4
     plain-requires-3
+    enum-told-5
+    plain-requires-4
     returns
     returns-2
     returns-3
-    returns-4)
+    returns-4
+    returns-5)

@@ -103,6 +103,6 @@ fn report_run(what: What, plan: &Plan) -> bool {
 fn sides(what: What) -> &'static str {
     match what {
         What::Check => "struo_check of the library, and both readings of the checks",
-        What::Lower => "struo_lower of the library, and both readings of the checks with struo's lowering",
+        What::Lower => "struo_lower of the library, and both readings of the checks with struo's lowering and the rows of Or and Xor",
     }
 }

@@ -10,7 +10,7 @@ use std::process::ExitCode;
 const COMMAND: Command = Command {
     name: "compare-ranges",
     words: "--seed S --count TABLES [--first I]",
-    sides: "ranges and fusion of the library, and struo's",
+    sides: "ranges and fusion of the library, and struo's with the rows of Or and Xor",
     case: "table",
 };
 
