@@ -130,12 +130,12 @@ k12 = refl
 
 -- ---- Q-5: a sum behind an Or ----
 
--- ({0, a} or {0, b}) + 0 on 2 bits: the Or is at most 1, so the cell has one bit
-pub or-narrowed : shown Images.ornarrowed 7 20 ≡ accepted 7 (add 1 ∷ [])
+-- (x or x) + x on 3 bits, x one bit under zeros: the sum is at most 2, so the cell has two bits
+pub or-narrowed : shown Images.ornarrowed 7 20 ≡ accepted 7 (add 2 ∷ [])
 unfolding computing
 or-narrowed = refl
 
--- bit 1 of that sum is the constant above the narrowed width, so it may be a reset value
+-- bit 1 of ({0, a} or {0, b}) + 0 is the constant above the narrowed width, so it may be a reset value
 pub or-reset : shown Images.orreset 7 32 ≡ accepted 7 (add 1 ∷ [])
 unfolding computing
 or-reset = refl
