@@ -26,7 +26,8 @@ fn printed(image: &[u8]) -> (Answer, String) {
     let words = in_words(outcome.answer, image, &wish, &outcome.room);
     let (numbers, meaning) = words.split_once(": ").expect("numbers and words");
     assert!(meaning.len() > 10, "{words}");
-    assert_eq!(outcome.answer[0] == 3 || outcome.answer[0] == 4, meaning.contains('"'), "{words}");
+    // The rule that 3 or 4 quotes; names have no blanks.
+    assert_eq!(outcome.answer[0] == 3 || outcome.answer[0] == 4, meaning.contains(": \""), "{words}");
     (outcome.answer, format!("{numbers}\n"))
 }
 
