@@ -148,7 +148,7 @@ bitLen-fits (suc f) zero h = omega arith
 bitLen-fits (suc f) (suc n) h = omega (arith, pow-succ' 2 (bitLen f (suc n / 2)), bitLen-fits f (suc n / 2) (omega (arith, pow-succ' 2 f)))
 
 -- a number below 2 ^ w has at most w bits
-bitLen-within : (f n w : ℕ) → n < 2 ^ w → bitLen f n ≤ w
+pub bitLen-within : (f n w : ℕ) → n < 2 ^ w → bitLen f n ≤ w
 bitLen-within zero n w h = zero-le
 bitLen-within (suc f) zero w h = zero-le
 bitLen-within (suc f) (suc n) zero h = absurd (omega arith)

@@ -35,13 +35,16 @@ low-true [] h = absurd (omega arith)
 low-true (true ∷ a) h = refl
 low-true (false ∷ a) h = absurd (omega arith)
 
+at-width : (r : Range) (a : List Bool) {n w : ℕ} → n ≡ w → Sound n r a → Sound w r a
+at-width r a e s = subst (λ (k : ℕ). Sound k r a) e s
+
 bin-sound : (op : R.Binary) (w : ℕ) (l r : Range) (a b : List Bool) → w ≤ 64 → BinWidth op w (length a) (length b) → Sound (length a) l a → Sound (length b) r b → Sound w (binaryRange (classOf op) w l r) (binary op a b)
 unfolding binaryRange
-bin-sound R.And w l r a b h o p q = and-sound w l r a b (subst (λ (n : ℕ). Sound n l a) (o .0) p) (subst (λ (n : ℕ). Sound n r b) (o .1) q)
-bin-sound R.Add w l r a b h o p q = add-sound w l r a b h (subst (λ (n : ℕ). Sound n l a) (o .0) p) (subst (λ (n : ℕ). Sound n r b) (o .1) q)
-bin-sound R.Sub w l r a b h o p q = sub-sound w l r a b h (subst (λ (n : ℕ). Sound n l a) (o .0) p) (subst (λ (n : ℕ). Sound n r b) (o .1) q)
-bin-sound R.Or w l r a b h o p q = or-sound _||_ refl w l r a b h (subst (λ (n : ℕ). Sound n l a) (o .0) p) (subst (λ (n : ℕ). Sound n r b) (o .1) q)
-bin-sound R.Xor w l r a b h o p q = or-sound xorB refl w l r a b h (subst (λ (n : ℕ). Sound n l a) (o .0) p) (subst (λ (n : ℕ). Sound n r b) (o .1) q)
+bin-sound R.And w l r a b h o p q = and-sound w l r a b (at-width l a (o .0) p) (at-width r b (o .1) q)
+bin-sound R.Add w l r a b h o p q = add-sound w l r a b h (at-width l a (o .0) p) (at-width r b (o .1) q)
+bin-sound R.Sub w l r a b h o p q = sub-sound w l r a b h (at-width l a (o .0) p) (at-width r b (o .1) q)
+bin-sound R.Or w l r a b h o p q = or-sound _||_ refl w l r a b h (at-width l a (o .0) p) (at-width r b (o .1) q)
+bin-sound R.Xor w l r a b h o p q = or-sound xorB refl w l r a b h (at-width l a (o .0) p) (at-width r b (o .1) q)
 bin-sound R.Mul w l r a b h o p q = full-sound w _ (bin-width R.Mul w a b o)
 bin-sound R.Equal w l r a b h o p q = full-sound w _ (bin-width R.Equal w a b o)
 bin-sound R.NotEqual w l r a b h o p q = full-sound w _ (bin-width R.NotEqual w a b o)

@@ -3,7 +3,8 @@ use borrow.Author.Needs.{needs}
 use Rattle.op_class.proofs.op_class.Statement.{statement}
 use Rattle.op_class.proofs.op_class.Tie as tie
 use mathlib.Core.Path.{_≡_, refl}
-use mathlib.Core.List.{[], _∷_}
+use Prim.Native.Nat.{ℕ}
+use mathlib.Core.List.{List, [], _∷_}
 use types.Run.{OneOf}
 use denote.Enum.Declared.{tagOf}
 use Rattle.records.proofs.BinaryOp as E
@@ -13,13 +14,17 @@ use Rattle.op_class.specs.declared.OpClass.the-variants.{Other}
 use Rattle.op_class.specs.OpClass.{opClassOf}
 use Rattle.op_class.proofs.Among.{among}
 
-others : (op : BinaryOp) → OneOf (5 ∷ 6 ∷ 7 ∷ 8 ∷ 9 ∷ 10 ∷ 11 ∷ 12 ∷ 13 ∷ 14 ∷ 15 ∷ 16 ∷ 17 ∷ 18 ∷ []) (tagOf E.the-type op) → Other ≡ opClassOf op
+-- the operators from Mul on, by number
+abbrev rest : List ℕ
+rest = 5 ∷ 6 ∷ 7 ∷ 8 ∷ 9 ∷ 10 ∷ 11 ∷ 12 ∷ 13 ∷ 14 ∷ 15 ∷ 16 ∷ 17 ∷ 18 ∷ []
+
+others : (op : BinaryOp) → OneOf rest (tagOf E.the-type op) → Other ≡ opClassOf op
 unfolding opClassOf
-others B.And h = absurd (among (5 ∷ 6 ∷ 7 ∷ 8 ∷ 9 ∷ 10 ∷ 11 ∷ 12 ∷ 13 ∷ 14 ∷ 15 ∷ 16 ∷ 17 ∷ 18 ∷ []) 0 h)
-others B.Or h = absurd (among (5 ∷ 6 ∷ 7 ∷ 8 ∷ 9 ∷ 10 ∷ 11 ∷ 12 ∷ 13 ∷ 14 ∷ 15 ∷ 16 ∷ 17 ∷ 18 ∷ []) 1 h)
-others B.Xor h = absurd (among (5 ∷ 6 ∷ 7 ∷ 8 ∷ 9 ∷ 10 ∷ 11 ∷ 12 ∷ 13 ∷ 14 ∷ 15 ∷ 16 ∷ 17 ∷ 18 ∷ []) 2 h)
-others B.Add h = absurd (among (5 ∷ 6 ∷ 7 ∷ 8 ∷ 9 ∷ 10 ∷ 11 ∷ 12 ∷ 13 ∷ 14 ∷ 15 ∷ 16 ∷ 17 ∷ 18 ∷ []) 3 h)
-others B.Sub h = absurd (among (5 ∷ 6 ∷ 7 ∷ 8 ∷ 9 ∷ 10 ∷ 11 ∷ 12 ∷ 13 ∷ 14 ∷ 15 ∷ 16 ∷ 17 ∷ 18 ∷ []) 4 h)
+others B.And h = absurd (among rest 0 h)
+others B.Or h = absurd (among rest 1 h)
+others B.Xor h = absurd (among rest 2 h)
+others B.Add h = absurd (among rest 3 h)
+others B.Sub h = absurd (among rest 4 h)
 others B.Mul h = refl
 others B.Equal h = refl
 others B.NotEqual h = refl
