@@ -3,7 +3,7 @@
  * `rt staticlib struo` writes target/staticlib/libstruo.a, for x86-64 Linux. The functions call nothing of the C library, ask for no
  * memory and keep nothing between calls, so threads may call them at the same time. Each is proved to end, and to keep its contract,
  * for all bytes, limits and buffer lengths. The contracts stand in crates/struo/src/lib.rt and crates/meaning/specs/Promise.antt; here
- * they are in words. The formats are document 01's.
+ * they are in words. The formats are document 01's, the module image in edition 2, where a memory's record has its word width (document 02).
  *
  * Nothing is asked of the image's bytes: any bytes are answered.
  *
@@ -36,8 +36,8 @@ enum struo_answer {
     STRUO_NETLIST_SHORT = 2, /* the netlist buffer has fewer words than STRUO_NETLIST_WORDS(n, p) */
     STRUO_SCRATCH_SHORT = 5, /* the scratch has fewer words than STRUO_SCRATCH_WORDS(..) */
     /* Whoever writes the image. */
-    STRUO_FIELD = 3,  /* a header field is wrong. Place: the first such field (0 to 15), then 0. Field 0 also if there are fewer than 64
-                         bytes, 1 if the length is not the total, 14 if the names do not end at the total. */
+    STRUO_FIELD = 3,  /* a header field is wrong. Place: the first such field (0 to 15), then 0. Field 0 if the edition is not 2 or there
+                         are fewer than 64 bytes, 1 if the length is not the total, 14 if the names do not end at the total. */
     STRUO_RECORD = 4, /* a record breaks a rule. Place: its section (0 signals, 1 expressions, 3 assignments, 4 registers, 5 memories),
                          its number; the first such record in the image. */
     /* The designer. */
@@ -90,7 +90,7 @@ void struo_lower(const uint8_t *image, size_t image_len, uint32_t n, uint32_t p,
 
 /* Words of a netlist image's header; those from 10 on are 0. */
 enum struo_header {
-    STRUO_EDITION = 0,    /* 1 */
+    STRUO_EDITION = 0,    /* 1: the netlist image's own */
     STRUO_NETS = 1,       /* nets; net k is node k */
     STRUO_NODES_AT = 2,   /* 16: where the nodes begin, six words each: kind, owner or constant value, bit, three inputs */
     STRUO_LIST_USED = 3,  /* list words in use */

@@ -1,6 +1,6 @@
 -- Document 01's bench cases K1 to K12 and its listing example, computed by the checker from the images' bytes: what the call
 -- answers, how many nets it makes, which arithmetic cells. K3, K4 and K10 stand twice: as written, where constant operands fold
--- (docs/DIFFERENCES.md, 1), and primed, with operands that have those values but no constant nets. Then two cases of document 02's Q-5.
+-- (docs/DIFFERENCES.md, 1), and primed, with operands that have those values but no constant nets. Then cases of document 02: Q-5 and Q-1.
 use Prim.Native.Nat.{ℕ}
 use mathlib.Core.Path.{_≡_, refl}
 use mathlib.Core.Bool.{Bool, true, false, cond}
@@ -139,6 +139,29 @@ or-narrowed = refl
 pub or-reset : shown Images.orreset 7 32 ≡ accepted 7 (add 1 ∷ [])
 unfolding computing
 or-reset = refl
+
+-- ---- Q-1: a memory's word width, edition 2 ----
+
+-- one port, words of 3 bits, and a word width of 3
+pub memory-width : shown Images.memorywidth 12 48 ≡ accepted 12 []
+unfolding computing
+memory-width = refl
+
+-- the netlist image's memory record is as before: number, depth, style, latency, ports; the four widths of the port, then its nets
+pub memory-width-record : NetlistImage.recordsWith 2 (netlistWords Images.memorywidth 12 48)
+    ≡ (2 ∷ 0 ∷ 2 ∷ 0 ∷ 1 ∷ 1 ∷ 1 ∷ 3 ∷ 1 ∷ 3 ∷ 2 ∷ 6 ∷ 7 ∷ 8 ∷ 2 ∷ 3 ∷ 4 ∷ 5 ∷ 4294967295 ∷ 0 ∷ 1 ∷ 0 ∷ 0 ∷ 0 ∷ []) ∷ []
+unfolding computing
+memory-width-record = refl
+
+-- the same with a word width of 4
+pub memory-width-wrong : shown Images.memorywidthwrong 12 48 ≡ refused 4 5 0
+unfolding computing
+memory-width-wrong = refl
+
+-- and in edition 1, without the word width
+pub edition-1 : shown Images.edition1 12 48 ≡ refused 3 0 0
+unfolding computing
+edition-1 = refl
 
 -- ---- K3 and K4: what the Add, expression 2, is narrowed to; K10: the reset value's bits, bit 0 first ----
 

@@ -8,17 +8,6 @@ ghost use Rattle.meaning.specs.Image.{countAt, signalWidth};
 ghost use Rattle.meaning.specs.Checks.{signalBits, isInput, assigned, targeted, readInto, driven};
 ghost use Rattle.drivers.specs.Bits.{SignalsFit, Firsts, Marks, Marked, marked};
 
-// Where the fields of a memory's ports begin, and the field that says whether there is a second; a port's read data is its second field.
-pub const FIRST_PORT: u32 = 5;
-
-pub const HAS_SECOND: u32 = FIRST_PORT + 10;
-
-pub const SECOND_PORT: u32 = HAS_SECOND + 1;
-
-pub const FIRST_DATA: u32 = FIRST_PORT + 1;
-
-pub const SECOND_DATA: u32 = SECOND_PORT + 1;
-
 // Each signal's first bit; answers the bits of all signals.
 pub fn lay_firsts(s: &[u8], firsts: &mut [u32]) -> u32
     requires { ⌜ (SignalsFit (now s)) × (countAt (now s) 0 ≤ length (now firsts)) ⌝ }

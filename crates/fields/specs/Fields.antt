@@ -13,8 +13,8 @@ use Rattle.meaning.specs.Image.{wordAt, sizeOf}
 unfoldable pub fieldIn : List ℕ → ℕ → ℕ → ℕ → ℕ
 fieldIn p k r f = wordAt p (r * sizeOf k + f * 4)
 
--- a record has at most 104 bytes
-pub size-most : (k : ℕ) → sizeOf k ≤ 104
+-- a record has at most 108 bytes
+pub size-most : (k : ℕ) → sizeOf k ≤ 108
 unfolding sizeOf
 size-most zero = lit≤ tt
 size-most (suc zero) = lit≤ tt
@@ -27,10 +27,10 @@ size-most (suc (suc (suc (suc (suc (suc (suc k))))))) = lit≤ tt
 
 pub size-none : (k : ℕ) → 7 ≤ k → sizeOf k ≡ 0
 unfolding sizeOf
-size-none k h = List·getD-eq-default (16 ∷ 20 ∷ 4 ∷ 16 ∷ 48 ∷ 104 ∷ 1 ∷ []) 0 h
+size-none k h = List·getD-eq-default (16 ∷ 20 ∷ 4 ∷ 16 ∷ 48 ∷ 108 ∷ 1 ∷ []) 0 h
 
 -- a 32-bit record number times a size is far below 2 ^ 64
-pub scaled : (r n : ℕ) → r < 4294967296 → n ≤ 104 → r * n ≤ 446676598784
+pub scaled : (r n : ℕ) → r < 4294967296 → n ≤ 108 → r * n ≤ 463856467968
 scaled r n hr hn = mul-le-mul (le-of-lt hr) hn
 
 -- a byte, and the word, of the n bytes from a place on

@@ -72,11 +72,28 @@ pub fn word(s: &[u8], at: usize) -> u32
     last_word(s, at)
 }
 
-const SIZES: [u8; 7] = [16, 20, 4, 16, 48, 104, 1];
+// The fields of a memory: name, depth, then these. Ten fields make a port; its read data is the second of them.
+pub const WORD_WIDTH: u32 = 3;
+
+pub const STYLE: u32 = 4;
+
+pub const LATENCY: u32 = 5;
+
+pub const FIRST_PORT: u32 = 6;
+
+pub const HAS_SECOND: u32 = FIRST_PORT + 10;
+
+pub const SECOND_PORT: u32 = HAS_SECOND + 1;
+
+pub const FIRST_DATA: u32 = FIRST_PORT + 1;
+
+pub const SECOND_DATA: u32 = SECOND_PORT + 1;
+
+const SIZES: [u8; 7] = [16, 20, 4, 16, 48, 108, 1];
 
 // The bytes of a record of section k.
 pub fn size(k: u32) -> usize
-    ensures { λ r. ⌜ (r ≡ image.sizeOf k) × (r ≤ 104) ⌝ }
+    ensures { λ r. ⌜ (r ≡ image.sizeOf k) × (r ≤ 108) ⌝ }
 {
     if k < 7 { SIZES[k as usize] as usize } else { 0 }
 }

@@ -49,7 +49,7 @@ fn wrong_field(s: &[u8], i: u32) -> bool
     ensures { λ r. ⌜ r ≡ wrongField (now (s .entry)) i ⌝ }
 {
     if i == 0 {
-        return fields::word(s, 0) != 1;
+        return fields::word(s, 0) != 2;
     }
     if i == 1 {
         return (fields::word(s, 4) as usize) != s.len();

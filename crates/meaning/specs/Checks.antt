@@ -4,7 +4,7 @@ use mathlib.Core.Bool.{Bool, true, false, not}
 use mathlib.Core.List.{List, [], _∷_}
 use lib.ListN.{length, take, drop, getD}
 use Rattle.rules.specs.Rules.{_<?_, _≡?_, _≢?_, _or_, _and_, pick, outside, first, any, sumTo, sameText, Answer, Fine, Refused, andThen}
-use Rattle.meaning.specs.Image.{absent, wordAt, mostOf, countAt, offsetAt, startOf, part, field, listWord, nameOf, signalWidth, exprWidth, constantWords, firstPort, hasSecond, secondPort}
+use Rattle.meaning.specs.Image.{absent, wordAt, mostOf, countAt, offsetAt, startOf, part, field, listWord, nameOf, signalWidth, exprWidth, constantWords, wordWidth, styleField, latencyField, firstPort, hasSecond, secondPort}
 
 -- ---- 3: the header ----
 
@@ -15,7 +15,7 @@ wrongCount s k = mostOf k <? countAt s k or (k ≡? 6 and startOf s 7 ≢? lengt
 -- field 0 is the edition, 1 the total, then a count and an offset for each section
 unfoldable pub wrongField : List ℕ → ℕ → Bool
 wrongField s i =
-    pick (i ≡? 0) (wordAt s 0 ≢? 1)
+    pick (i ≡? 0) (wordAt s 0 ≢? 2)
     (pick (i ≡? 1) (wordAt s 4 ≢? length s)
     (pick (i % 2 ≡? 0) (wrongCount s ((i - 2) / 2)) (offsetAt s ((i - 2) / 2) ≢? startOf s ((i - 2) / 2))))
 
@@ -192,14 +192,16 @@ badSecond s r n w =
     (pick (n ≡? 1) (badPort s r secondPort w or field s 5 r (secondPort + 1) ≡? field s 5 r (firstPort + 1))
     true)
 
--- "all read and write data of a memory have one width": that of the first port's read data
+-- "all read and write data of a memory have one width": that of the first port's read data. "A width that differs from the read data's is
+-- refused under 4" (document 02): the word width of the record
 unfoldable pub badMemory : List ℕ → ℕ → Bool
 badMemory s r =
     let w = signalWidth s (field s 5 r (firstPort + 1)) in
     badName s 5 r or nameTaken s 5 r
     or outside (field s 5 r 2) 1 65536
-    or 2 <? field s 5 r 3
-    or field s 5 r 4 ≢? 1
+    or 2 <? field s 5 r styleField
+    or field s 5 r latencyField ≢? 1
+    or field s 5 r wordWidth ≢? w
     or badPort s r firstPort w
     or badSecond s r (field s 5 r hasSecond) w
 

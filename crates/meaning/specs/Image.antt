@@ -19,7 +19,7 @@ wordAt s at = getD s at 0 + getD s (at + 1) 0 * 256 + getD s (at + 2) 0 * 65536 
 
 -- sections: 0 signals, 1 expressions, 2 list, 3 assignments, 4 registers, 5 memories, 6 names; bytes of a record, most records
 unfoldable pub sizeOf : ℕ → ℕ
-sizeOf k = getD (16 ∷ 20 ∷ 4 ∷ 16 ∷ 48 ∷ 104 ∷ 1 ∷ []) k 0
+sizeOf k = getD (16 ∷ 20 ∷ 4 ∷ 16 ∷ 48 ∷ 108 ∷ 1 ∷ []) k 0
 
 unfoldable pub mostOf : ℕ → ℕ
 mostOf k = getD (512 ∷ 2048 ∷ 8192 ∷ 1024 ∷ 256 ∷ 16 ∷ 16384 ∷ []) k 0
@@ -58,15 +58,24 @@ signalWidth s r = field s 0 r 2
 unfoldable pub exprWidth : List ℕ → ℕ → ℕ
 exprWidth s r = field s 1 r 1
 
--- where a memory's two ports begin, and the field that says whether there is a second
+-- a memory's 27 fields: name, depth, then these; ten fields make a port
+abbrev pub wordWidth : ℕ
+wordWidth = 3
+
+abbrev pub styleField : ℕ
+styleField = 4
+
+abbrev pub latencyField : ℕ
+latencyField = 5
+
 abbrev pub firstPort : ℕ
-firstPort = 5
+firstPort = 6
 
 abbrev pub hasSecond : ℕ
-hasSecond = 15
+hasSecond = 16
 
 abbrev pub secondPort : ℕ
-secondPort = 16
+secondPort = 17
 
 -- ---- the module ----
 
@@ -144,7 +153,7 @@ portOf f = record {
 unfoldable pub memoryAt : List ℕ → ℕ → R.Memory
 memoryAt s r = record {
   depth = field s 5 r 2;
-  style = field s 5 r 3;
+  style = field s 5 r styleField;
   first = portOf (λ i. field s 5 r (firstPort + i));
   second = pick (field s 5 r hasSecond ≡? 0) none (some (portOf (λ i. field s 5 r (secondPort + i))));
 }

@@ -6,7 +6,7 @@ use mathlib.Core.Path.{_≡_, refl, sym, _∙_}
 use native.Mathlib.Omega.{arith}
 use Rattle.rules.specs.Rules.{_≡?_, first}
 use Rattle.rules.specs.Laws.{or-no, no-lt, no-eq, no-ne, yes-eq, eq-yes, eq-no, inside, none as first-none}
-use Rattle.meaning.specs.Image.{countAt, field, signalWidth, exprWidth, firstPort, hasSecond, secondPort}
+use Rattle.meaning.specs.Image.{countAt, field, signalWidth, exprWidth, wordWidth, styleField, latencyField, firstPort, hasSecond, secondPort}
 use Rattle.meaning.specs.Checks.{badName, nameTaken, badAddress, badPort, badSecond, badMemory}
 use Rattle.names.specs.Names.{wrongName}
 use Rattle.shared.specs.Tests.{pick-yes, pick-no}
@@ -92,8 +92,9 @@ good-second s r k w h = record {
 pub record GoodRest (s : List ℕ) (r w : ℕ) : Type 0 where
   pub depth-least : 1 ≤ field s 5 r 2
   pub depth-most : field s 5 r 2 ≤ 65536
-  pub style : field s 5 r 3 ≤ 2
-  pub latency : field s 5 r 4 ≡ 1
+  pub style : field s 5 r styleField ≤ 2
+  pub latency : field s 5 r latencyField ≡ 1
+  pub word : field s 5 r wordWidth ≡ w
   pub first-port : GoodPort s r firstPort w
   pub second-port : GoodSecond s r (field s 5 r hasSecond) w
 
@@ -102,13 +103,15 @@ unfolding badRest
 good-rest s r h =
     let b = or-no (or-no h .1) in
     let c = or-no (b .1) in
-    let d = or-no (c .1) in
+    let g = or-no (c .1) in
+    let d = or-no (g .1) in
     let i = inside _ _ _ (or-no h .0) in
     record {
       depth-least = i .0;
       depth-most = i .1;
       style = no-lt _ _ (b .0);
       latency = no-ne _ _ (c .0);
+      word = no-ne _ _ (g .0);
       first-port = good-port s r firstPort _ (d .0);
       second-port = good-second s r _ _ (d .1);
     }

@@ -5,7 +5,7 @@ use mathlib.Core.List.{List}
 use mathlib.Core.Path.{_≡_, sym}
 use Rattle.rules.specs.Rules.{_<?_, _≢?_, _or_, outside, first}
 use Rattle.rules.specs.Laws.{or-no}
-use Rattle.meaning.specs.Image.{countAt, field, signalWidth, firstPort, hasSecond}
+use Rattle.meaning.specs.Image.{countAt, field, signalWidth, wordWidth, styleField, latencyField, firstPort, hasSecond}
 use Rattle.meaning.specs.Checks.{noSignal, badBit, badControl, badOptional, badValue, driven, badAddress, badPort, badSecond, badMemory}
 use Rattle.names.specs.Names.{wrongName}
 use Rattle.shared.specs.Good.{is-signal}
@@ -34,8 +34,9 @@ port-halves s r f w = simp or-assoc
 unfoldable pub badRest : List ℕ → ℕ → Bool
 badRest s r =
     outside (field s 5 r 2) 1 65536
-    or 2 <? field s 5 r 3
-    or field s 5 r 4 ≢? 1
+    or 2 <? field s 5 r styleField
+    or field s 5 r latencyField ≢? 1
+    or field s 5 r wordWidth ≢? signalWidth s (field s 5 r (firstPort + 1))
     or badPort s r firstPort (signalWidth s (field s 5 r (firstPort + 1)))
     or badSecond s r (field s 5 r hasSecond) (signalWidth s (field s 5 r (firstPort + 1)))
 

@@ -21,7 +21,7 @@ fn bad_address(s: &[u8], e: u32) -> bool
 
 // What the port of memory r whose fields begin at f reads, into signal p of width w.
 fn bad_read(s: &[u8], r: u32, f: u32, w: u32, p: u32) -> bool
-    requires { ⌜ f ≤ 16 ⌝ }
+    requires { ⌜ f ≤ 17 ⌝ }
     ensures { λ b. ⌜ b ≡ badRead (now (s .entry)) r f w p ⌝ }
 {
     if bad_address(s, fields::record_field(s, 5, r, f)) {
@@ -38,7 +38,7 @@ fn bad_read(s: &[u8], r: u32, f: u32, w: u32, p: u32) -> bool
 
 // What that port writes, and its clock.
 fn bad_write(s: &[u8], r: u32, f: u32, w: u32) -> bool
-    requires { ⌜ f ≤ 16 ⌝ }
+    requires { ⌜ f ≤ 17 ⌝ }
     ensures { λ b. ⌜ b ≡ badWrite (now (s .entry)) r f w ⌝ }
 {
     if bad_address(s, fields::record_field(s, 5, r, f + 4)) {
@@ -58,7 +58,7 @@ fn bad_write(s: &[u8], r: u32, f: u32, w: u32) -> bool
 
 // The port of memory r whose fields begin at f; the bits that the assignments, the registers and the memories before it drive are marked.
 fn bad_port(s: &[u8], firsts: &[u32], taken: &[u8], r: u32, f: u32, w: u32) -> bool
-    requires { ⌜ (Firsts (now s) (now firsts)) × (Marks (now s) (countAt (now s) 3) (countAt (now s) 4) r (now taken)) × (f ≤ 16) ⌝ }
+    requires { ⌜ (Firsts (now s) (now firsts)) × (Marks (now s) (countAt (now s) 3) (countAt (now s) 4) r (now taken)) × (f ≤ 17) ⌝ }
     ensures { λ b. ⌜ b ≡ badPort (now (s .entry)) r f w ⌝ }
 {
     let p = fields::record_field(s, 5, r, f + 1);
@@ -77,16 +77,16 @@ fn bad_second(s: &[u8], firsts: &[u32], taken: &[u8], r: u32, k: u32, w: u32) ->
     ensures { λ b. ⌜ b ≡ badSecond (now (s .entry)) r k w ⌝ }
 {
     if k == 0 {
-        return shared::not_zero(s, 5, r, drivers::SECOND_PORT, 10);
+        return shared::not_zero(s, 5, r, fields::SECOND_PORT, 10);
     }
     if k != 1 {
         return true;
     }
-    if bad_port(s, firsts, taken, r, drivers::SECOND_PORT, w) {
+    if bad_port(s, firsts, taken, r, fields::SECOND_PORT, w) {
         return true;
     }
-    fields::record_field(s, 5, r, drivers::SECOND_DATA)
-        == fields::record_field(s, 5, r, drivers::FIRST_DATA)
+    fields::record_field(s, 5, r, fields::SECOND_DATA)
+        == fields::record_field(s, 5, r, fields::FIRST_DATA)
 }
 
 // Memory r but for its name.
@@ -97,17 +97,20 @@ fn bad_rest(s: &[u8], firsts: &[u32], taken: &[u8], r: u32) -> bool
     if fields::is_outside(fields::record_field(s, 5, r, 2), 1, 65536) {
         return true;
     }
-    if 2 < fields::record_field(s, 5, r, 3) {
+    if 2 < fields::record_field(s, 5, r, fields::STYLE) {
         return true;
     }
-    if fields::record_field(s, 5, r, 4) != 1 {
+    if fields::record_field(s, 5, r, fields::LATENCY) != 1 {
         return true;
     }
-    let w = fields::signal_width(s, fields::record_field(s, 5, r, drivers::FIRST_DATA));
-    if bad_port(s, firsts, taken, r, drivers::FIRST_PORT, w) {
+    let w = fields::signal_width(s, fields::record_field(s, 5, r, fields::FIRST_DATA));
+    if fields::record_field(s, 5, r, fields::WORD_WIDTH) != w {
         return true;
     }
-    let k = fields::record_field(s, 5, r, drivers::HAS_SECOND);
+    if bad_port(s, firsts, taken, r, fields::FIRST_PORT, w) {
+        return true;
+    }
+    let k = fields::record_field(s, 5, r, fields::HAS_SECOND);
     bad_second(s, firsts, taken, r, k, w)
 }
 
@@ -116,12 +119,12 @@ fn mark_memory(s: &[u8], firsts: &[u32], taken: &mut [u8], r: u32)
     requires { ⌜ (Firsts (now s) (now firsts)) × (Marks (now s) (countAt (now s) 3) (countAt (now s) 4) r (now taken)) × (badRest (now s) r ≡ false) ⌝ }
     ensures { λ _. ⌜ Marks (now (s .entry)) (countAt (now (s .entry)) 3) (countAt (now (s .entry)) 4) (r + 1) (now (taken .exit)) ⌝ }
 {
-    let p = fields::record_field(s, 5, r, drivers::FIRST_DATA);
+    let p = fields::record_field(s, 5, r, fields::FIRST_DATA);
     drivers::mark_signal(s, firsts, taken, p);
-    if fields::record_field(s, 5, r, drivers::HAS_SECOND) != 1 {
+    if fields::record_field(s, 5, r, fields::HAS_SECOND) != 1 {
         return;
     }
-    let q = fields::record_field(s, 5, r, drivers::SECOND_DATA);
+    let q = fields::record_field(s, 5, r, fields::SECOND_DATA);
     drivers::mark_signal(s, firsts, taken, q);
 }
 

@@ -9,7 +9,7 @@ use native.Mathlib.Omega.{arith}
 use lib.ListN.{length, getD, List·getD-eq-default}
 use Rattle.rules.specs.Rules.{_≡?_, _or_, pick, each, listOf}
 use Rattle.rules.specs.Laws.{lt-yes, lt-no, eq-yes, eq-no, pick-hit, pick-skip}
-use Rattle.meaning.specs.Image.{absent, field, nameOf, signalWidth}
+use Rattle.meaning.specs.Image.{absent, field, nameOf, signalWidth, firstPort}
 use Rattle.meaning.specs.NetlistImage.{nodeWord}
 use Rattle.meaning.specs.Listing.{text, decimal, line, together, kindWord, bitName, signalName, registerName, memoryName, owned, inputs, netLine}
 use Rattle.text.specs.Text.{Wrote, wrote-same, spaced, line-spaced, spaced-append, Writing, writing-all, writing-more, writing-done}
@@ -66,14 +66,14 @@ module _ {o : List ℕ} {at : ℕ} {o′ : List ℕ} {r : ℕ} where
   unfolding registerName
   register-wrote s g bit e q f h = rw (e, f, q) at h
 
-  pub memory-wrote : (s : List ℕ) (m bit : ℕ) {name : List ℕ} {p w : ℕ} → name ≡ nameOf s 5 m → p ≡ field s 5 m 6 → w ≡ signalWidth s p
+  pub memory-wrote : (s : List ℕ) (m bit : ℕ) {name : List ℕ} {p w : ℕ} → name ≡ nameOf s 5 m → p ≡ field s 5 m (firstPort + 1) → w ≡ signalWidth s p
       → bit < w → Wrote o at (32 ∷ bitName name w bit) o′ r → Wrote o at (32 ∷ memoryName s m bit) o′ r
   unfolding memoryName
   memory-wrote s m bit e q f l h =
       let i = f ∙ ap (signalWidth s) q in
       wrote-same (ap (λ (t : List ℕ). 32 ∷ t) (sym (pick-hit _ (lt-yes _ _ (rw i at l)) refl))) (rw (e, i) at h)
 
-  pub second-wrote : (s : List ℕ) (m bit : ℕ) {name : List ℕ} {p w : ℕ} → name ≡ nameOf s 5 m → p ≡ field s 5 m 6 → w ≡ signalWidth s p
+  pub second-wrote : (s : List ℕ) (m bit : ℕ) {name : List ℕ} {p w : ℕ} → name ≡ nameOf s 5 m → p ≡ field s 5 m (firstPort + 1) → w ≡ signalWidth s p
       → w ≤ bit → Wrote o at (32 ∷ secondName name w (bit - w)) o′ r → Wrote o at (32 ∷ memoryName s m bit) o′ r
   unfolding memoryName secondName
   second-wrote s m bit e q f l h =

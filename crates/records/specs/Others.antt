@@ -104,6 +104,6 @@ port-way p r f ra rd wa wd c e x y e0 e1 ex e4 e5 ey e8 e9 =
     let z : ra ≡ fieldIn p 5 r (f + 0) = e0 ∙ ap (fieldIn p 5 r) (omega arith) in
     rw (z, e1, ex, e4, e5, ey, e8, e9, a, b)
 
-pub memory-way : (s : List ℕ) (r : ℕ) (p : List ℕ) (d y : ℕ) (x : MemoryPort) (z : SecondPort) → p ≡ image.part s 5 → d ≡ fieldIn p 5 r 2 → y ≡ fieldIn p 5 r 3 → portMeans x ≡ portIn p r 5 → secondMeans z ≡ secondIn p r → memoryMeans (record { depth = d; style = y; first = x; second = z }) ≡ image.memoryAt s r
+pub memory-way : (s : List ℕ) (r : ℕ) (p : List ℕ) (d y : ℕ) (x : MemoryPort) (z : SecondPort) → p ≡ image.part s 5 → d ≡ fieldIn p 5 r 2 → y ≡ fieldIn p 5 r image.styleField → portMeans x ≡ portIn p r image.firstPort → secondMeans z ≡ secondIn p r → memoryMeans (record { depth = d; style = y; first = x; second = z }) ≡ image.memoryAt s r
 unfolding memoryMeans image.memoryAt image.field portIn secondIn fieldIn
 memory-way s r p d y x z ep ed ey ex ez = rw (ed, ey, ex, ez, ep)

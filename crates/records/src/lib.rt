@@ -343,7 +343,7 @@ pub fn register_at(s: &[u8], r: u32) -> Register
 
 // The port of memory r whose fields begin at f.
 fn port_in(part: &[u8], r: u32, f: u32) -> MemoryPort
-    requires { ⌜ f ≤ 16 ⌝ }
+    requires { ⌜ f ≤ 17 ⌝ }
     ensures { λ x. ⌜ portMeans x ≡ portIn (now (part .entry)) r f ⌝ }
 {
     let read_address = fields::field(part, 5, r, f);
@@ -370,10 +370,10 @@ fn port_in(part: &[u8], r: u32, f: u32) -> MemoryPort
 fn second_in(part: &[u8], r: u32) -> SecondPort
     ensures { λ x. ⌜ secondMeans x ≡ secondIn (now (part .entry)) r ⌝ }
 {
-    if fields::field(part, 5, r, 15) == 0 {
+    if fields::field(part, 5, r, fields::HAS_SECOND) == 0 {
         return SecondPort::Absent;
     }
-    SecondPort::Present(port_in(part, r, 16))
+    SecondPort::Present(port_in(part, r, fields::SECOND_PORT))
 }
 
 // Memory r of the image.
@@ -382,8 +382,8 @@ pub fn memory_at(s: &[u8], r: u32) -> Memory
 {
     let part = fields::section(s, 5);
     let depth = fields::field(part, 5, r, 2);
-    let style = fields::field(part, 5, r, 3);
-    let first = port_in(part, r, 5);
+    let style = fields::field(part, 5, r, fields::STYLE);
+    let first = port_in(part, r, fields::FIRST_PORT);
     let second = second_in(part, r);
     Memory {
         depth,

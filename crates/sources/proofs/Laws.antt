@@ -8,7 +8,7 @@ use lib.Seq.{sets, length-sets, sets-eq, take-at, getD-take}
 use Rattle.rules.specs.Rules.{pick}
 use Rattle.rules.specs.Laws.{eq-yes, eq-no}
 use Rattle.rtl.specs.Rtl as R
-use Rattle.meaning.specs.Image.{countAt, field, signalWidth, signalAt, registerOf, registerAt, portOf, memoryAt, decode}
+use Rattle.meaning.specs.Image.{countAt, field, signalWidth, firstPort, hasSecond, secondPort, signalAt, registerOf, registerAt, portOf, memoryAt, decode}
 use Rattle.records.specs.Others.{directionMeans, signalMeans}
 use Rattle.records.specs.declared.Signal.{Signal}
 use Rattle.records.specs.declared.Direction.{Direction}
@@ -144,12 +144,12 @@ register-target s k = refl
 
 -- ---- memories ----
 
-first-data : (s : List ℕ) (k : ℕ) → field s 5 k 6 ≡ memoryAt s k .first .readData
+first-data : (s : List ℕ) (k : ℕ) → field s 5 k (firstPort + 1) ≡ memoryAt s k .first .readData
 unfolding memoryAt portOf
 first-data s k = refl
 
 -- the first port, then the second
-module _ (s net w net₁ w₁ : List ℕ) (k p : ℕ) (x : Lowered) (e : p ≡ field s 5 k 6) (a : Phase (reserveBits (decode s) 9 k 0 p (walkState s net w)) s net w x net₁ w₁) where
+module _ (s net w net₁ w₁ : List ℕ) (k p : ℕ) (x : Lowered) (e : p ≡ field s 5 k (firstPort + 1)) (a : Phase (reserveBits (decode s) 9 k 0 p (walkState s net w)) s net w x net₁ w₁) where
   one : Phase (reserveBits (decode s) 9 k 0 (memoryAt s k .first .readData) (walkState s net w)) s net w x net₁ w₁
   one = phase-as _ _ s net w net₁ w₁ x (ap (λ (q : ℕ). reserveBits (decode s) 9 k 0 q (walkState s net w)) (sym (e ∙ first-data s k))) a
 
@@ -164,23 +164,23 @@ module _ (s net w net₁ w₁ : List ℕ) (k p : ℕ) (x : Lowered) (e : p ≡ f
       phase-then _ (secondAt s k) s net w net₁ w₁ x r net₂ w₂ d one
       (phase-as _ _ s net₁ w₁ net₂ w₂ r (ap (λ (z : ℕ). reserveSecond (decode s) k z (memoryAt s k .second) (walkState s net₁ w₁)) v) c)
 
-pub first-there : (s : List ℕ) (k : ℕ) → Accepted s → k < countAt s 5 → field s 5 k 6 < countAt s 0
+pub first-there : (s : List ℕ) (k : ℕ) → Accepted s → k < countAt s 5 → field s 5 k (firstPort + 1) < countAt s 0
 first-there s k a h = a .memories k h .rest .first-port .read-there
 
 module _ (s net w : List ℕ) (k b : ℕ) where
-  pub second-none : field s 5 k 15 ≡ 0 → Ready s net w → Phase (reserveSecond (decode s) k b (memoryAt s k .second) (walkState s net w)) s net w Done net w
+  pub second-none : field s 5 k hasSecond ≡ 0 → Ready s net w → Phase (reserveSecond (decode s) k b (memoryAt s k .second) (walkState s net w)) s net w Done net w
   unfolding memoryAt pick
   second-none e h = phase-as _ _ s net w net w Done (rw (eq-yes _ _ e)) (phase-none s net w h)
 
-  module _ (some-port : field s 5 k 15 ≡ 0 → ⊥) where
-    pub second-there : Accepted s → k < countAt s 5 → field s 5 k 17 < countAt s 0
+  module _ (some-port : field s 5 k hasSecond ≡ 0 → ⊥) where
+    pub second-there : Accepted s → k < countAt s 5 → field s 5 k (secondPort + 1) < countAt s 0
     second-there a h = let m = a .memories k h .rest .second-port in m .some (yes _ (m .known) some-port) .port .read-there
       where
         yes : (n : ℕ) → n ≤ 1 → (n ≡ 0 → ⊥) → n ≡ 1
         yes zero l q = absurd (q refl)
         yes (suc n) l q = omega arith
 
-    pub second-some : (q : ℕ) (r : Lowered) (net′ w′ : List ℕ) → q ≡ field s 5 k 17 → Phase (reserveBits (decode s) 9 k b q (walkState s net w)) s net w r net′ w′
+    pub second-some : (q : ℕ) (r : Lowered) (net′ w′ : List ℕ) → q ≡ field s 5 k (secondPort + 1) → Phase (reserveBits (decode s) 9 k b q (walkState s net w)) s net w r net′ w′
         → Phase (reserveSecond (decode s) k b (memoryAt s k .second) (walkState s net w)) s net w r net′ w′
     unfolding memoryAt pick portOf
     second-some q r net′ w′ e a =

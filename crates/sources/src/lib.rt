@@ -136,10 +136,10 @@ fn reserve_second(image: &[u8], net: &mut [u32], scr: &mut [u32], k: u32, b: u32
     requires { ⌜ (Ready (now image) (now net) (now scr)) × (k < countAt (now image) 5) × (b ≤ 1024) ⌝ }
     ensures { λ r. ⌜ Phase (reserveSecond (decode (now (image .entry))) k b (memoryAt (now (image .entry)) k .second) (walkState (now (image .entry)) (now (net .entry)) (now (scr .entry)))) (now (image .entry)) (now (net .entry)) (now (scr .entry)) r (now (net .exit)) (now (scr .exit)) ⌝ }
 {
-    if fields::record_field(image, 5, k, 15) == 0 {
+    if fields::record_field(image, 5, k, fields::HAS_SECOND) == 0 {
         return Lowered::Done;
     }
-    let q = fields::record_field(image, 5, k, 17);
+    let q = fields::record_field(image, 5, k, fields::SECOND_DATA);
     reserve_bits(image, net, scr, 9, k, b, q)
 }
 
@@ -148,7 +148,7 @@ fn reserve_memory(image: &[u8], net: &mut [u32], scr: &mut [u32], k: u32) -> Low
     requires { ⌜ (Ready (now image) (now net) (now scr)) × (k < countAt (now image) 5) ⌝ }
     ensures { λ r. ⌜ Phase (dataAt (now (image .entry)) k (walkState (now (image .entry)) (now (net .entry)) (now (scr .entry)))) (now (image .entry)) (now (net .entry)) (now (scr .entry)) r (now (net .exit)) (now (scr .exit)) ⌝ }
 {
-    let p = fields::record_field(image, 5, k, 6);
+    let p = fields::record_field(image, 5, k, fields::FIRST_DATA);
     let x = reserve_bits(image, net, scr, 9, k, 0, p);
     let Lowered::Done = x else {
         return x;

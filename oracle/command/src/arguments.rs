@@ -4,6 +4,7 @@ use crate::MOST;
 
 pub const HELP: &str = "\
 usage: ./lower FILE [--nets N] [--words P] [--image-out F] [--words-out F]
+       ./lower --from-edition-1 IMAGE [--image-out F] ..
 
 Lowers the module in FILE and prints its netlist, or why it is refused.
 FILE is a text of the form in corpus/README.md or a module image: a file whose
@@ -12,6 +13,9 @@ name ends in .img, or any file with a byte 0. - is standard input.
   --nets N         at most N nets (65535)
   --words P        at most P list words (65535)
   --image-out F    also writes the module image to F
+  --from-edition-1 takes FILE for a module image of edition 1, which is no longer
+                   read, and turns it into one of edition 2: each memory gets its
+                   word width. With --image-out F, F is the image of edition 2
   --words-out F    also writes the netlist's 16 + 6N + P words to F, four bytes
                    each, low first, if the module is accepted
   --netlist W      lends a netlist buffer of W words (as many as needed)
@@ -37,6 +41,8 @@ pub enum Request {
 #[derive(Clone, Debug, PartialEq, Eq)]
 pub struct Wish {
     pub file: String,
+    /// The file is a module image of edition 1.
+    pub from_edition_1: bool,
     pub nets: u32,
     pub words: u32,
     pub image_out: Option<String>,
@@ -51,6 +57,7 @@ impl Wish {
     pub fn of(file: &str) -> Wish {
         Wish {
             file: file.to_string(),
+            from_edition_1: false,
             nets: MOST,
             words: MOST,
             image_out: None,
@@ -80,6 +87,7 @@ pub fn request(words: &[String]) -> Result<Request, String> {
             "--words" => wish.words = number(word, &value()?)?,
             "--netlist" => wish.netlist = Some(room(word, &value()?)?),
             "--scratch" => wish.scratch = Some(room(word, &value()?)?),
+            "--from-edition-1" => wish.from_edition_1 = true,
             "--image-out" => wish.image_out = Some(value()?),
             "--words-out" => wish.words_out = Some(value()?),
             option if option.starts_with("--") => return Err(format!("unknown option {option}")),

@@ -1,5 +1,5 @@
 //! A refusal in words: which limit, buffer, field, record, signal or register,
-//! and which rule of document 01.
+//! and which rule of documents 01 and 02.
 
 use crate::arguments::Wish;
 use crate::lowering::{Room, taken};
@@ -68,7 +68,7 @@ fn scratch_short(image: &[u8], wish: &Wish, room: &Room) -> String {
 
 // Whoever writes the image.
 
-/// The rule that a header field or a record breaks, in document 01's words.
+/// The rule that a header field or a record breaks, in the documents' words.
 fn rule(image: &[u8]) -> String {
     reading::cause(image).map_or(String::new(), |cause| format!(": \"{}\"", cause.rule))
 }
@@ -80,6 +80,7 @@ fn field(image: &[u8], field: u32) -> String {
     };
     let value = header.get(field as usize).copied().unwrap_or(0);
     let more = match field {
+        0 if value == 1 => ", which --from-edition-1 takes".to_string(),
         0 => String::new(),
         1 => format!(", the image has {bytes} bytes"),
         _ if field % 2 == 0 => format!(", at most {}", MOST_RECORDS[section_of(field)]),

@@ -93,8 +93,10 @@ fn refusals_of_the_caller() {
 #[test]
 fn refusals_of_the_header() {
     let with = |line: &str| format!("{INVERTER}{line}\n");
-    let edition = "refused 3 0 0: header field 0 (edition) is 7: \"edition 1\"\n";
+    let edition = "refused 3 0 0: header field 0 (edition) is 7: \"Edition 2 of the module image\"\n";
     expect(&with("header 0 7"), &[], 1, edition);
+    let before = "refused 3 0 0: header field 0 (edition) is 1, which --from-edition-1 takes: \"Edition 1 is no longer read\"\n";
+    expect(&with("edition 1"), &[], 1, before);
     let length = "refused 3 1 0: header field 1 (total bytes) is 154, the image has 155 bytes: \
                   \"the slice is not the total length\"\n";
     expect(&with("append \"x\""), &[], 1, length);
@@ -128,6 +130,42 @@ fn refusals_of_records() {
     let output = run(&["-"], memory.as_bytes());
     assert!(text(&output.stdout).starts_with(data), "{}", text(&output.stdout));
     assert_eq!(output.status.code(), Some(1));
+    let width = "refused 4 5 0: memory 0 (m): \"A width that differs from the read data's is refused under 4\"\n  \
+                 memory m depth 4 width 2 style auto port raddr e0 rdata q waddr e1 wdata e2 wenable c high clock c rising\n";
+    let memory = "input c 1\nwire q 1\nmemory m depth 4 width 2 port raddr c rdata q waddr c wdata c wenable c clock c\n";
+    expect(memory, &[], 1, width);
+}
+
+/// Images that edition 1's assembler wrote, and the texts they come from.
+#[test]
+fn images_of_edition_1() {
+    let stored = PathBuf::from(env!("CARGO_MANIFEST_DIR")).join("../image/tests/edition-1");
+    let mut images = 0;
+    for entry in std::fs::read_dir(stored).expect("stored images") {
+        let path = entry.expect("an entry").path();
+        if path.extension().is_none_or(|extension| extension != "img") {
+            continue;
+        }
+        let name = path.file_stem().expect("a name").to_str().expect("text");
+        let (file, made, assembled) = (path.to_str().expect("text"), Temporary::new(name), Temporary::new(&format!("{name}-text")));
+        let refused = run(&[file], b"");
+        assert!(text(&refused.stdout).starts_with("refused 3 0 0: "), "{name}");
+        let taken = run(&["--from-edition-1", file, "--image-out", made.path()], b"");
+        let written = run(&[&corpus(&format!("{name}.txt")), "--image-out", assembled.path()], b"");
+        assert_eq!(taken.stdout, written.stdout, "{name}");
+        assert_eq!(taken.status.code(), written.status.code(), "{name}");
+        let bytes = |file: &Temporary| std::fs::read(file.path()).expect("an image");
+        assert_eq!(bytes(&made), bytes(&assembled), "{name}");
+        images += 1;
+    }
+    assert!(images >= 6, "only {images}");
+}
+
+#[test]
+fn only_images_of_edition_1_are_taken_from_it() {
+    let output = run(&["--from-edition-1", "-"], INVERTER.as_bytes());
+    assert_eq!(text(&output.stderr), "lower: -: no module image of edition 1\n");
+    assert_eq!(output.status.code(), Some(2));
 }
 
 #[test]

@@ -1,7 +1,8 @@
 //! Makes an image smaller while something about it persists: drops records,
 //! reduces widths and fields, and tidies list and names.
 
-use image::{constant_words, kind, set_word, Image, ABSENT, HEADER_BYTES};
+use image::memory_field::{FIRST_PORT, HAS_SECOND, SECOND_PORT, WORD_WIDTH};
+use image::{constant_words, kind, port_field, set_word, Image, ABSENT, HEADER_BYTES, MEMORY_FIELDS};
 use std::time::{Duration, Instant};
 
 const MOST_ATTEMPTS: usize = 60_000;
@@ -228,7 +229,7 @@ fn for_each_expression_name(image: &mut Image, visit: &mut dyn FnMut(&mut u32)) 
         }
     }
     for fields in &mut image.memories {
-        for port in ports(fields[15]) {
+        for port in ports(fields[HAS_SECOND]) {
             [0, 4, 5].into_iter().for_each(|field| visit(&mut fields[port + field]));
         }
     }
@@ -240,7 +241,7 @@ fn mark(marks: &mut [bool], start: u32, count: usize) {
 
 /// First fields of the ports that are there.
 fn ports(present: u32) -> &'static [usize] {
-    if present == 1 { &[5, 16] } else { &[5] }
+    if present == 1 { &[FIRST_PORT, SECOND_PORT] } else { &[FIRST_PORT] }
 }
 
 fn drop_unused_expressions(image: &mut Image) {
@@ -306,7 +307,7 @@ fn for_each_signal_name(image: &mut Image, visit: &mut dyn FnMut(&mut u32)) {
         [2, 4, 6, 8].into_iter().for_each(|field| visit(&mut fields[field]));
     }
     for fields in &mut image.memories {
-        for port in ports(fields[15]) {
+        for port in ports(fields[HAS_SECOND]) {
             [1, 2, 6, 8].into_iter().for_each(|field| visit(&mut fields[port + field]));
         }
     }
@@ -347,7 +348,9 @@ fn narrow_width(image: &Image, place: usize) -> Vec<Image> {
             let signals = copy.signals.iter_mut().map(|fields| &mut fields[2]);
             let expressions = copy.expressions.iter_mut().map(|fields| &mut fields[1]);
             let assignments = copy.assignments.iter_mut().map(|fields| &mut fields[2]);
-            for field in signals.chain(expressions).chain(assignments).filter(|field| **field == width) {
+            let memories = copy.memories.iter_mut().map(|fields| &mut fields[WORD_WIDTH]);
+            let fields = signals.chain(expressions).chain(assignments).chain(memories);
+            for field in fields.filter(|field| **field == width) {
                 *field = narrower;
             }
         })
@@ -437,10 +440,12 @@ fn absent_from(image: &Image, place: usize) -> Option<Image> {
         return Some(copy);
     }
     let place = place - 12 * image.registers.len();
-    let memory = copy.memories.get_mut(place / 26)?;
-    match place % 26 {
-        field @ (7 | 18) => memory[field..field + 2].copy_from_slice(&[ABSENT, 0]),
-        15 => memory[15..].fill(0),
+    let memory = copy.memories.get_mut(place / MEMORY_FIELDS)?;
+    match place % MEMORY_FIELDS {
+        HAS_SECOND => memory[HAS_SECOND..].fill(0),
+        field if [FIRST_PORT, SECOND_PORT].map(|port| port + port_field::READ_ENABLE).contains(&field) => {
+            memory[field..field + 2].copy_from_slice(&[ABSENT, 0]);
+        }
         _ => return None,
     }
     Some(copy)
@@ -485,6 +490,22 @@ mod tests {
         let small = Image::decode(&small).unwrap();
         assert_eq!(small.expressions.len(), 2);
         assert!(small.signals.len() <= 1 && small.signal_bits() <= 1);
+    }
+
+    #[test]
+    fn memories_are_narrowed_with_their_words() {
+        let mut builder = Builder::new();
+        let clock = builder.input("clock", 1);
+        let data = builder.input("data", 8);
+        let read = builder.output("read", 8);
+        let (address, write) = (builder.read(clock), builder.read(data));
+        let first = image::port(address, read, write, clock);
+        builder.memory("m", image::Memory { depth: 2, style: 0, first, second: None });
+        let kept = |bytes: &[u8]| {
+            reference::scratch_words(bytes, 1).is_some() && Image::decode(bytes).is_some_and(|image| image.memories.len() == 1)
+        };
+        let small = Image::decode(&shrink(&builder.finish().encode(), &mut |bytes| kept(bytes))).unwrap();
+        assert_eq!(small.memories[0][WORD_WIDTH], 1);
     }
 
     #[test]

@@ -74,6 +74,17 @@ pub fn lower_limited(image: &[u8], n: u32, p: u32, observable: bool) -> Answer {
     guarded(|| lower_patched(image, n, p, observable))
 }
 
+/// What struo's own validation says of an image's module, whose `Memory::word`
+/// is the word width of the record.
+///
+/// # Errors
+///
+/// The image cannot be read, or what the validation finds.
+pub fn validate(image: &[u8]) -> Result<(), String> {
+    let module = rtl::module(&ModuleImage::decode(image)?)?;
+    module.validate().map_err(|error| format!("{error:?}"))
+}
+
 fn lower_patched(image: &[u8], n: u32, p: u32, observable: bool) -> Result<Answer, String> {
     use limited::inside;
     let image = ModuleImage::decode(image)?;

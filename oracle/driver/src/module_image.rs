@@ -1,15 +1,15 @@
-//! Document 01's module image, read into plain records. Only what keeps the
+//! The module image of documents 01 and 02, read into plain records. Only what keeps the
 //! reading itself in bounds is tested here; the image's rules are not.
 
 use crate::ABSENT;
 
-const EDITION: u32 = 1;
+const EDITION: u32 = 2;
 const HEADER_FIELDS: usize = 16;
 const SIGNAL_FIELDS: usize = 4;
 const EXPRESSION_FIELDS: usize = 5;
 const ASSIGNMENT_FIELDS: usize = 4;
 const REGISTER_FIELDS: usize = 12;
-const MEMORY_FIELDS: usize = 26;
+const MEMORY_FIELDS: usize = 27;
 const PORT_FIELDS: usize = 10;
 
 pub(crate) const INPUT: u32 = 1;
@@ -70,6 +70,8 @@ pub(crate) struct Register {
 pub(crate) struct Memory {
     pub name: String,
     pub depth: u32,
+    /// The width of its words, as the record has it.
+    pub word: u32,
     pub style: u32,
     pub latency: u32,
     pub ports: Vec<Port>,
@@ -143,11 +145,6 @@ impl ModuleImage {
         })
     }
 
-    /// The width of a memory's words.
-    pub fn word_width(&self, memory: &Memory) -> u32 {
-        self.signals[memory.ports[0].read_data as usize].width
-    }
-
     pub fn signal_bit_name(&self, signal: u32, bit: u32) -> String {
         let signal = &self.signals[signal as usize];
         bit_name(&signal.name, signal.width, bit)
@@ -162,7 +159,7 @@ impl ModuleImage {
     /// The name of a read data bit; the second port's bits number on.
     pub fn memory_bit_name(&self, memory: u32, bit: u32) -> String {
         let memory = &self.memories[memory as usize];
-        let width = self.word_width(memory);
+        let width = memory.word;
         if bit < width {
             bit_name(&memory.name, width, bit)
         } else {
@@ -256,7 +253,7 @@ fn register(names: &[u8], f: &[u32]) -> Result<Register, String> {
 }
 
 fn memory(names: &[u8], f: &[u32]) -> Result<Memory, String> {
-    let (first, rest) = f[5..].split_at(PORT_FIELDS);
+    let (first, rest) = f[6..].split_at(PORT_FIELDS);
     let mut ports = vec![port(first)?];
     if rest[0] == 1 {
         ports.push(port(&rest[1..])?);
@@ -264,8 +261,9 @@ fn memory(names: &[u8], f: &[u32]) -> Result<Memory, String> {
     Ok(Memory {
         name: name(names, f[0], f[1])?,
         depth: f[2],
-        style: f[3],
-        latency: f[4],
+        word: f[3],
+        style: f[4],
+        latency: f[5],
         ports,
     })
 }

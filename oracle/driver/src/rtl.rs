@@ -198,7 +198,7 @@ impl<'a> Builder<'a> {
         let second = memory.ports.get(1).map(|port| self.memory_port(port));
         Ok(Memory {
             name: memory.name.clone(),
-            word: word_type(self.image.word_width(memory))?,
+            word: word_type(memory.word)?,
             depth: memory.depth,
             style: pick(&STYLES, memory.style)?,
             read_latency: u8::try_from(memory.latency).map_err(|_| "latency above 255")?,

@@ -4,7 +4,7 @@
 
 use std::collections::{BTreeMap, BTreeSet};
 
-use image::{ABSENT, Image, constant_words, kind};
+use image::{ABSENT, Image, MEMORY_FIELDS, constant_words, kind, memory_field};
 
 use crate::clocked;
 use crate::names::Names;
@@ -234,11 +234,11 @@ impl<'a> Writer<'a> {
         self.event_port.bit(event, &self.signals[signal as usize])
     }
 
-    fn memory(&mut self, record: &[u32; 26], name: &str) -> String {
+    fn memory(&mut self, record: &[u32; MEMORY_FIELDS], name: &str) -> String {
         let memory = clocked::Memory {
             name: name.to_string(),
-            width: self.image.signals[record[6] as usize][2],
-            depth: record[2],
+            width: record[memory_field::WORD_WIDTH],
+            depth: record[memory_field::DEPTH],
             ports: ports(record).map(|port| self.memory_port(port)).collect(),
         };
         clocked::memory(&memory, &mut self.names)

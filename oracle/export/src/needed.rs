@@ -2,7 +2,8 @@
 //! Slice takes is read by bit, and a driver is needed whole (document 01, step
 //! rule). The others may hold loops or undriven bits and are not written.
 
-use image::{ABSENT, Image, kind};
+use image::memory_field::{FIRST_PORT, HAS_SECOND, SECOND_PORT};
+use image::{ABSENT, Image, MEMORY_FIELDS, kind};
 
 /// For each assignment whether a value that can be seen rests on it.
 pub fn needed_assignments(image: &Image) -> Vec<bool> {
@@ -50,9 +51,9 @@ fn root_signals(image: &Image) -> Vec<u32> {
 }
 
 /// The ports of a memory, ten fields each.
-pub fn ports(memory: &[u32; 26]) -> impl Iterator<Item = &[u32]> {
-    let second = (memory[15] == 1).then_some(&memory[16..26]);
-    std::iter::once(&memory[5..15]).chain(second)
+pub fn ports(memory: &[u32; MEMORY_FIELDS]) -> impl Iterator<Item = &[u32]> {
+    let second = (memory[HAS_SECOND] == 1).then_some(&memory[SECOND_PORT..]);
+    std::iter::once(&memory[FIRST_PORT..HAS_SECOND]).chain(second)
 }
 
 struct Search<'a> {

@@ -2,7 +2,8 @@
 //! what our simulators show; Yosys proves both equal for all settings.
 
 use driver::{Answer, Contents, ModuleSim, NetlistSim, NoRun, Observation, Setting, lower, words};
-use image::{Image, MOST_LIMIT, Random, disassemble, kind};
+use image::memory_field::{DEPTH, WORD_WIDTH};
+use image::{Image, MEMORY_FIELDS, MOST_LIMIT, Random, disassemble, kind};
 
 use crate::bench::{Run, bench};
 use crate::netlist::Netlist;
@@ -113,7 +114,7 @@ fn witness_run(
 
 fn memory_bits(image: &Image) -> usize {
     let bits =
-        |memory: &[u32; 26]| memory[2] as usize * image.signals[memory[6] as usize][2] as usize;
+        |memory: &[u32; MEMORY_FIELDS]| memory[DEPTH] as usize * memory[WORD_WIDTH] as usize;
     image.memories.iter().map(bits).sum()
 }
 

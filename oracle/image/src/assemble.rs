@@ -1,6 +1,7 @@
 //! The assembler: text to image, one record a line. It gives names their
 //! numbers and infers widths; it does not judge the image.
 
+use crate::edition::to_edition_1;
 use crate::format::*;
 use crate::text::{small, tokens, Token};
 use std::collections::HashMap;
@@ -72,6 +73,8 @@ pub struct Assembler {
     pub image: Image,
     pub signals: HashMap<String, u32>,
     pub expressions: HashMap<String, u32>,
+    /// Whether the bytes are to be those of edition 1.
+    edition_1: bool,
     patches: Vec<(usize, Patch)>,
     number: usize,
 }
@@ -106,6 +109,7 @@ impl Assembler {
             "list" => self.list(&mut words),
             "names" => words.text().map(|bytes| self.image.names.extend(bytes)),
             "raw" => self.raw(&mut words),
+            "edition" => self.edition(&mut words),
             "header" | "truncate" | "append" => self.patch(&statement, &mut words),
             other => Err(format!("unknown statement '{other}'")),
         }?;
@@ -114,7 +118,11 @@ impl Assembler {
 
     /// The bytes of the image, with all patches applied.
     fn finish(self) -> Result<Vec<u8>, (usize, String)> {
-        let mut bytes = self.image.encode();
+        let mut bytes = if self.edition_1 {
+            to_edition_1(&self.image)
+        } else {
+            self.image.encode()
+        };
         for (line, patch) in self.patches {
             match patch {
                 Patch::Header(field, value) if 4 * field + 4 <= bytes.len() => {
@@ -213,26 +221,33 @@ impl Assembler {
 
     fn memory(&mut self, words: &mut Words) -> Result<(), String> {
         let label = words.word("a memory's name")?;
-        let mut record = [0; 26];
+        let mut record = [0; MEMORY_FIELDS];
         (record[0], record[1]) = self.name(words, &label)?;
         words.keyword("depth")?;
-        record[2] = words.field()?;
-        record[3] = if words.take("style") {
+        record[memory_field::DEPTH] = words.field()?;
+        let width = if words.take("width") {
+            Some(words.field()?)
+        } else {
+            None
+        };
+        record[memory_field::STYLE] = if words.take("style") {
             words.style()?
         } else {
             0
         };
-        record[4] = if words.take("latency") {
+        record[memory_field::LATENCY] = if words.take("latency") {
             words.field()?
         } else {
             1
         };
         words.keyword("port")?;
-        record[5..15].copy_from_slice(&self.port(words)?);
+        record[memory_field::FIRST_PORT..][..10].copy_from_slice(&self.port(words)?);
         if words.take("port") {
-            record[15] = 1;
-            record[16..26].copy_from_slice(&self.port(words)?);
+            record[memory_field::HAS_SECOND] = 1;
+            record[memory_field::SECOND_PORT..].copy_from_slice(&self.port(words)?);
         }
+        let read_data_width = self.image.read_data_width(&record);
+        record[memory_field::WORD_WIDTH] = width.unwrap_or(read_data_width);
         self.image.memories.push(record);
         Ok(())
     }
@@ -332,6 +347,16 @@ impl Assembler {
             .get(&word)
             .or_else(|| self.signals.get(&word));
         known.copied().ok_or(format!("nothing is named '{word}'"))
+    }
+
+    /// The edition of the bytes: 2 where no statement says otherwise.
+    fn edition(&mut self, words: &mut Words) -> Result<(), String> {
+        match words.field()? {
+            1 => self.edition_1 = true,
+            EDITION => self.edition_1 = false,
+            other => return Err(format!("there is no edition {other}")),
+        }
+        Ok(())
     }
 
     fn patch(&mut self, statement: &str, words: &mut Words) -> Result<(), String> {

@@ -64,7 +64,7 @@ pub struct Port {
     pub falling: bool,
 }
 
-/// A memory without its name.
+/// A memory without its name; its word width is the read data's.
 #[derive(Clone, Copy, Debug)]
 pub struct Memory {
     pub depth: u32,
@@ -231,14 +231,15 @@ impl Builder {
     }
 
     pub fn memory(&mut self, name: &str, memory: Memory) {
-        let mut record = [0; 26];
-        record[2] = memory.depth;
-        record[3] = memory.style;
-        record[4] = 1;
-        record[5..15].copy_from_slice(&port_fields(&memory.first));
+        let mut record = [0; MEMORY_FIELDS];
+        record[memory_field::DEPTH] = memory.depth;
+        record[memory_field::WORD_WIDTH] = self.signal_width(memory.first.read_data);
+        record[memory_field::STYLE] = memory.style;
+        record[memory_field::LATENCY] = 1;
+        record[memory_field::FIRST_PORT..][..10].copy_from_slice(&port_fields(&memory.first));
         if let Some(second) = &memory.second {
-            record[15] = 1;
-            record[16..26].copy_from_slice(&port_fields(second));
+            record[memory_field::HAS_SECOND] = 1;
+            record[memory_field::SECOND_PORT..].copy_from_slice(&port_fields(second));
         }
         self.image.memories.push(record);
         self.memory_names.push(name.as_bytes().to_vec());

@@ -304,14 +304,15 @@ impl Writer<'_> {
     fn memory(&mut self, number: usize) {
         let record = self.image.memories[number];
         self.before_name(record[0], record[1]);
-        let style = STYLES.get(record[3] as usize).unwrap_or(&"?");
-        let mut rest = format!(" depth {} style {style}", record[2]);
-        if record[4] != 1 {
-            rest += &format!(" latency {}", record[4]);
+        let (depth, width) = (record[memory_field::DEPTH], record[memory_field::WORD_WIDTH]);
+        let style = STYLES.get(record[memory_field::STYLE] as usize).unwrap_or(&"?");
+        let mut rest = format!(" depth {depth} width {width} style {style}");
+        if record[memory_field::LATENCY] != 1 {
+            rest += &format!(" latency {}", record[memory_field::LATENCY]);
         }
-        rest += &self.port(&record[5..15]);
-        if record[15] == 1 {
-            rest += &self.port(&record[16..26]);
+        rest += &self.port(&record[memory_field::FIRST_PORT..][..10]);
+        if record[memory_field::HAS_SECOND] == 1 {
+            rest += &self.port(&record[memory_field::SECOND_PORT..]);
         }
         self.named("memory", &format!("m{number}"), &record, &rest);
     }

@@ -1,12 +1,14 @@
 //! The byte format of a module image: counts, limits, enums, and the way
 //! between records and bytes.
 
+/// The edition of a module image, header field 0.
+pub const EDITION: u32 = 2;
 /// Stands in a field for "not there".
 pub const ABSENT: u32 = u32::MAX;
 pub const HEADER_FIELDS: usize = 16;
 pub const HEADER_BYTES: usize = 4 * HEADER_FIELDS;
 /// Bytes of one record of each section, in section order.
-pub const RECORD_BYTES: [usize; 7] = [16, 20, 4, 16, 48, 104, 1];
+pub const RECORD_BYTES: [usize; 7] = [16, 20, 4, 16, 48, 4 * MEMORY_FIELDS, 1];
 /// The most records of each section, in section order.
 pub const MOST: [usize; 7] = [512, 2048, 8192, 1024, 256, 16, 16384];
 pub const MOST_WIDTH: u32 = 1024;
@@ -25,6 +27,26 @@ pub const ASSIGNMENTS: usize = 3;
 pub const REGISTERS: usize = 4;
 pub const MEMORIES: usize = 5;
 pub const NAMES: usize = 6;
+
+pub const MEMORY_FIELDS: usize = 27;
+
+/// Fields of a memory; fields 0 and 1 are its name's place and length.
+pub mod memory_field {
+    pub const DEPTH: usize = 2;
+    pub const WORD_WIDTH: usize = 3;
+    pub const STYLE: usize = 4;
+    pub const LATENCY: usize = 5;
+    /// Each port has ten fields.
+    pub const FIRST_PORT: usize = 6;
+    pub const HAS_SECOND: usize = 16;
+    pub const SECOND_PORT: usize = 17;
+}
+
+/// Fields of a memory's port, counted from its first.
+pub mod port_field {
+    pub const READ_DATA: usize = 1;
+    pub const READ_ENABLE: usize = 2;
+}
 
 /// Expression kinds, field 0 of an expression.
 pub mod kind {
@@ -84,7 +106,7 @@ pub struct Image {
     pub list: Vec<u32>,
     pub assignments: Vec<[u32; 4]>,
     pub registers: Vec<[u32; 12]>,
-    pub memories: Vec<[u32; 26]>,
+    pub memories: Vec<[u32; MEMORY_FIELDS]>,
     pub names: Vec<u8>,
 }
 
@@ -111,7 +133,7 @@ impl Image {
             header[3 + 2 * section] = offset as u32;
             offset += count * RECORD_BYTES[section];
         }
-        header[0] = 1;
+        header[0] = EDITION;
         header[1] = offset as u32;
         header
     }
@@ -129,11 +151,11 @@ impl Image {
         bytes
     }
 
-    /// The image these bytes lay out: edition 1, right total, every section
+    /// The image these bytes lay out: edition 2, right total, every section
     /// at its place and within its most. Records are taken as they are.
     pub fn decode(bytes: &[u8]) -> Option<Image> {
         let header = read_header(bytes)?;
-        if header[0] != 1 || header[1] as usize != bytes.len() {
+        if header[0] != EDITION || header[1] as usize != bytes.len() {
             return None;
         }
         let mut rest = &bytes[HEADER_BYTES..];
@@ -159,6 +181,14 @@ impl Image {
             memories: records(sections[MEMORIES]),
             names: sections[NAMES].to_vec(),
         })
+    }
+
+    /// The width of a memory's read data, its first port's; 0 if there is no
+    /// such signal.
+    pub fn read_data_width(&self, memory: &[u32; MEMORY_FIELDS]) -> u32 {
+        let read_data = memory[memory_field::FIRST_PORT + port_field::READ_DATA];
+        let signal = self.signals.get(read_data as usize);
+        signal.map_or(0, |signal| signal[2])
     }
 
     pub fn signal_bits(&self) -> usize {

@@ -1,4 +1,4 @@
-//! Module images of edition 1: the records, their bytes, and tools to make,
+//! Module images of edition 2: the records, their bytes, and tools to make,
 //! write, read and damage them. Nothing here judges an image.
 
 mod assemble;
@@ -6,6 +6,7 @@ mod borders;
 mod builder;
 mod chain;
 mod disassemble;
+mod edition;
 mod format;
 mod generate;
 pub mod heavy;
@@ -21,6 +22,7 @@ pub use borders::{borders, port, Border};
 pub use builder::{Builder, Control, Expr, Memory, Port, Register, Reset, Signal};
 pub use chain::{deepest, deepest_behind};
 pub use disassemble::disassemble;
+pub use edition::{from_edition_1, to_edition_1};
 pub use format::*;
 pub use generate::{generate, Size};
 pub use input::read;

@@ -22,7 +22,8 @@ pub fn mutate(seed: u64, bytes: &[u8]) -> Vec<u8> {
 fn damage(random: &mut Random, bytes: &mut Vec<u8>) {
     match random.below(100) {
         0..=11 => header_field(random, bytes),
-        12..=44 => record_field(random, bytes),
+        12..=41 => record_field(random, bytes),
+        42..=44 => word_width(random, bytes),
         45..=59 => nudge(random, bytes),
         60..=66 => swap_records(random, bytes),
         67..=73 => copy_record(random, bytes),
@@ -86,7 +87,7 @@ fn header_field(random: &mut Random, bytes: &mut [u8]) {
         0 => border_value(random),
         1 => old.wrapping_add(1),
         2 => old.wrapping_sub(1),
-        3 => old.wrapping_add(random.pick(&[4, 16, 20, 48, 104])),
+        3 => old.wrapping_add(random.pick(&[4, 16, 20, 48, 104, 108])),
         _ => MOST[random.below(7)] as u32 + 1,
     };
     set_word(bytes, field, new);
@@ -115,6 +116,35 @@ fn record_field(random: &mut Random, bytes: &mut [u8]) {
         let value = border_value(random);
         set_word(bytes, start + random.below(fields), value);
     }
+}
+
+/// The word width of a memory: another one, most often that of some signal or a
+/// neighbour of its own.
+fn word_width(random: &mut Random, bytes: &mut [u8]) {
+    let Some(header) = read_header(bytes) else {
+        return;
+    };
+    let (count, start) = (header[2 + 2 * MEMORIES] as usize, header[3 + 2 * MEMORIES] as usize);
+    if count == 0 || start + count * RECORD_BYTES[MEMORIES] > bytes.len() {
+        return;
+    }
+    let memory = start / 4 + random.below(count) * MEMORY_FIELDS;
+    let field = memory + memory_field::WORD_WIDTH;
+    let old = word(bytes, field);
+    let new = match random.below(4) {
+        0 => border_value(random),
+        1 => old.wrapping_add(1),
+        2 => old.wrapping_sub(1),
+        _ => some_width(random, &header, bytes).unwrap_or(old),
+    };
+    set_word(bytes, field, new);
+}
+
+/// The width of some signal.
+fn some_width(random: &mut Random, header: &[u32; HEADER_FIELDS], bytes: &[u8]) -> Option<u32> {
+    let (count, start) = (header[2] as usize, header[3] as usize);
+    let signal = (count > 0).then(|| start / 4 + random.below(count) * 4)?;
+    (4 * (signal + 3) <= bytes.len()).then(|| word(bytes, signal + 2))
 }
 
 fn nudge(random: &mut Random, bytes: &mut [u8]) {

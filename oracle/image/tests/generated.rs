@@ -1,7 +1,9 @@
 //! What the generator promises: valid images, mostly accepted, every kind
 //! and operator among them; and what damage does to them.
 
-use image::{deepest, generate, kind, mutate, netlist_words, table, Image, Size};
+use image::{
+    deepest, generate, kind, memory_field, mutate, netlist_words, table, Image, Size,
+};
 use std::collections::BTreeMap;
 
 const N: u32 = 65_535;
@@ -113,8 +115,8 @@ fn note(image: &Image, seen: &mut BTreeMap<String, usize>) {
         }
     }
     for memory in &image.memories {
-        note(format!("ports {}", memory[15]));
-        note(format!("style {}", memory[3]));
+        note(format!("ports {}", memory[memory_field::HAS_SECOND]));
+        note(format!("style {}", memory[memory_field::STYLE]));
     }
 }
 
@@ -169,6 +171,28 @@ fn damage_is_mostly_refused_but_not_always() {
         count(3) > 400 && count(4) > 1200 && count(0) > 300,
         "{counts:?}"
     );
+}
+
+/// Some of the damage is a word width that alone makes the image wrong.
+#[test]
+fn damage_reaches_the_word_width() {
+    let mut alone = 0;
+    for seed in 0..20_000 {
+        let image = generate(seed % 97, size(seed));
+        let Some(damaged) = Image::decode(&mutate(seed, &image.encode())) else {
+            continue;
+        };
+        let mut mended = damaged.clone();
+        for memory in &mut mended.memories {
+            memory[memory_field::WORD_WIDTH] = damaged.read_data_width(memory);
+        }
+        let answer = check(&damaged.encode(), usize::MAX);
+        if check(&mended.encode(), usize::MAX)[0] == 0 && answer[0] != 0 {
+            assert_eq!(answer[..2], [4, 5], "seed {seed}");
+            alone += 1;
+        }
+    }
+    assert!(alone > 100, "only {alone}");
 }
 
 #[test]

@@ -1,6 +1,6 @@
 //! The text form: what statements give, and which line a mistake is in.
 
-use image::{assemble, kind, Image, ABSENT};
+use image::{assemble, disassemble, kind, memory_field, Image, ABSENT};
 
 fn image(text: &str) -> Image {
     let bytes = assemble(text).unwrap_or_else(|error| panic!("{error}"));
@@ -36,9 +36,31 @@ fn registers_and_memories_have_their_fields_in_order() {
            waddr v wdata n wenable c clock c falling\n",
     );
     assert_eq!(image.registers, [[3, 1, 1, 0, 0, 1, 0, 1, 0, 1, 1, 1]]);
-    let mut memory = [0; 26];
-    memory[..15].copy_from_slice(&[4, 1, 5, 1, 1, 0, 2, 0, 1, 1, 0, 0, 0, 0, 1]);
+    let mut memory = [0; 27];
+    memory[..16].copy_from_slice(&[4, 1, 5, 1, 1, 1, 0, 2, 0, 1, 1, 0, 0, 0, 0, 1]);
     assert_eq!(image.memories, [memory]);
+}
+
+#[test]
+fn a_memory_has_the_width_that_is_written_or_its_read_datas() {
+    let width = |written: &str, read_data: &str| {
+        let image = image(&format!(
+            "input c 1\nwire q 5\nexpr n = signal c\nmemory m depth 2{written} style block \\\n\
+             port raddr n rdata {read_data} waddr n wdata n wenable c clock c\n"
+        ));
+        image.memories[0][memory_field::WORD_WIDTH]
+    };
+    assert_eq!(width("", "q"), 5);
+    assert_eq!(width(" width 5", "q"), 5);
+    assert_eq!(width(" width 7", "q"), 7);
+    assert_eq!(width("", "@9"), 0);
+}
+
+#[test]
+fn the_text_of_a_memory_has_its_width() {
+    let text = "input c 1\nwire q 5\nexpr n = signal c\n\
+        memory m depth 2 port raddr n rdata q waddr n wdata n wenable c clock c\n";
+    assert!(disassemble(&image(text)).contains("memory m depth 2 width 5 style auto port"));
 }
 
 #[test]
@@ -74,9 +96,9 @@ fn wide_constants_and_decimal_values() {
 
 #[test]
 fn patches_change_the_finished_bytes() {
-    let bytes = assemble("input a 1\nheader 0 2\nappend \"xy\"\n").expect("bytes");
+    let bytes = assemble("input a 1\nheader 0 7\nappend \"xy\"\n").expect("bytes");
     assert_eq!(bytes.len(), 64 + 16 + 1 + 2);
-    assert_eq!(bytes[0], 2);
+    assert_eq!(bytes[0], 7);
     assert_eq!(assemble("truncate 3\n").map(|bytes| bytes.len()), Ok(3));
 }
 
@@ -109,6 +131,8 @@ fn mistakes_are_answered_with_their_line() {
             "input a 1\nwire q 1\nmemory m depth 2 \\\nport raddr a\\\n rdata b\n",
             3,
         ),
+        ("input a 1\nwire q 1\nmemory m depth 1 width port\n", 3),
+        ("edition 3\n", 1),
         ("raw expr 1 2 3\n", 1),
         ("raw signal 0 0 0 0 0\n", 1),
         ("expr x = not @7\n", 1),

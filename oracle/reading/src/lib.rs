@@ -1,13 +1,15 @@
-//! Refusals 1 to 5, written from document 01 alone, as a second reading of its
-//! rules beside `oracle/reference`: two readings made apart, held against each
-//! other, show where one of them misread a sentence or where a sentence can be
-//! read in two ways. Nothing here is taken from another implementation, except
-//! the numbers that document 01 does not give (`declared`, see QUESTIONS.md).
+//! Refusals 1 to 5, written from document 01 and request Q-1 of document 02
+//! alone, as a second reading of their rules beside `oracle/reference`: two
+//! readings made apart, held against each other, show where one of them misread a
+//! sentence or where a sentence can be read in two ways. Nothing here is taken
+//! from another implementation, except the numbers that document 01 does not give
+//! (`declared`, see QUESTIONS.md).
 //!
-//! Each rule carries the words of document 01 that it stands for. Those in
-//! comments follow the name of the section they are in: "Image" is "The module
-//! image", "Refusals" is "Refusals, by who can cause them"; those of the rules of
-//! header and records are handed back with a refusal by 3 or 4 (`cause`).
+//! Each rule carries the words that it stands for. Those in comments follow the
+//! name of the place they are in: "Image" is "The module image" of document 01,
+//! "Refusals" its "Refusals, by who can cause them", "Q-1" the request of document
+//! 02; those of the rules of header and records are handed back with a refusal by
+//! 3 or 4 (`cause`).
 
 use std::collections::HashSet;
 
@@ -18,17 +20,20 @@ const ABSENT: u32 = 4_294_967_295;
 const HEADER_FIELDS: usize = 16;
 const HEADER_BYTES: u64 = 64;
 
+/// Q-1: "Edition 2 of the module image".
+const EDITION: u32 = 2;
+
 /// Image: "count and byte offset of seven sections: signals, expressions, list,
 /// assignments, registers, memories, names (count in bytes)". For each of them
-/// the bytes of one record (4 for each of its fields) and, of the paragraph
-/// "Most", the most records.
+/// the bytes of one record (4 for each of its fields; of a memory's, by Q-1, "27
+/// fields") and, of the paragraph "Most", the most records.
 const SECTIONS: [Section; 7] = [
     Section { record_bytes: 4 * 4, most: 512 },
     Section { record_bytes: 4 * 5, most: 2_048 },
     Section { record_bytes: 4, most: 8_192 },
     Section { record_bytes: 4 * 4, most: 1_024 },
     Section { record_bytes: 4 * 12, most: 256 },
-    Section { record_bytes: 4 * 26, most: 16 },
+    Section { record_bytes: 4 * 27, most: 16 },
     Section { record_bytes: 1, most: 16_384 },
 ];
 
@@ -147,8 +152,8 @@ pub fn refusal(
 pub struct Cause {
     /// Number and place.
     pub refusal: [u32; 3],
-    /// The words of document 01 that the field or the record breaks. A record
-    /// that breaks several rules has one of them here.
+    /// The words of document 01 or Q-1 that the field or the record breaks. A
+    /// record that breaks several rules has one of them here.
     pub rule: &'static str,
 }
 
@@ -209,8 +214,10 @@ impl Header {
             Some(bytes) => fields::<HEADER_FIELDS>(bytes),
             None => return Err(wrong(0, "under 64 bytes, 0")),
         };
-        if fields[0] != 1 {
-            return Err(wrong(0, "edition 1"));
+        match fields[0] {
+            EDITION => {}
+            1 => return Err(wrong(0, "Edition 1 is no longer read")),
+            _ => return Err(wrong(0, "Edition 2 of the module image")),
         }
         // Image: "total bytes"; refusals, 3: "wrong length, 1".
         let total = u64::from(fields[1]);
@@ -274,7 +281,7 @@ fn records<const COUNT: usize>(section: &[u8]) -> Vec<[u32; COUNT]> {
     section.chunks_exact(4 * COUNT).map(fields::<COUNT>).collect()
 }
 
-// The records, by the names of their fields in document 01.
+// The records, by the names of their fields in document 01 and Q-1.
 
 struct Name {
     offset: u32,
@@ -325,10 +332,12 @@ struct Control {
 }
 
 /// Image: "Memory, 26: name offset and length, depth, style, latency, ten port
-/// fields, second port present (0 or 1), ten more (0 if none)".
+/// fields, second port present (0 or 1), ten more (0 if none)"; Q-1: "puts the
+/// word width in the memory record after the depth, 27 fields".
 struct Memory {
     name: Name,
     depth: u32,
+    word_width: u32,
     style: u32,
     latency: u32,
     first_port: [u32; 10],
@@ -437,18 +446,19 @@ impl<'a> Module<'a> {
                 .collect(),
             memories: records(header.section(image, 5))
                 .into_iter()
-                .map(|record: [u32; 26]| {
+                .map(|record: [u32; 27]| {
                     let mut first_port = [0; 10];
                     let mut second_port = [0; 10];
-                    first_port.copy_from_slice(&record[5..15]);
-                    second_port.copy_from_slice(&record[16..26]);
+                    first_port.copy_from_slice(&record[6..16]);
+                    second_port.copy_from_slice(&record[17..27]);
                     Memory {
                         name: Name { offset: record[0], length: record[1] },
                         depth: record[2],
-                        style: record[3],
-                        latency: record[4],
+                        word_width: record[3],
+                        style: record[4],
+                        latency: record[5],
                         first_port,
-                        second_port_present: record[15],
+                        second_port_present: record[16],
                         second_port,
                     }
                 })
@@ -488,7 +498,7 @@ fn each<Record>(
     Ok(())
 }
 
-/// A rule is broken: its words in document 01.
+/// A rule is broken: its words in document 01 or Q-1.
 struct Broken(&'static str);
 
 type Judgement = Result<(), Broken>;
@@ -665,6 +675,11 @@ impl<'a> Check<'a> {
         enum_value(memory.style, declared::STYLES)?;
         rule("latency 1", memory.latency == LATENCY)?;
         let first_width = self.port(&Port::of(memory.first_port))?;
+        // A second port's read data has the first's width, by the rule below.
+        rule(
+            "A width that differs from the read data's is refused under 4",
+            memory.word_width == first_width,
+        )?;
         match memory.second_port_present {
             0 => rule("ten more (0 if none)", memory.second_port == [0; 10]),
             1 => {

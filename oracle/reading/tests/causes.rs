@@ -1,7 +1,8 @@
-//! The words of document 01 that come with a refusal by 3 or 4: one text for
-//! each rule of the header and the records.
+//! The words of document 01 and of Q-1 in document 02 that come with a refusal by
+//! 3 or 4: one text for each rule of the header and the records.
 
-use image::assemble;
+use image::memory_field::{DEPTH, FIRST_PORT, HAS_SECOND, LATENCY, WORD_WIDTH};
+use image::{MEMORY_FIELDS, assemble};
 use reading::{Cause, cause, refusal};
 
 /// Signals c, a, b, y (1, 8, 8, 8 bits) and expressions 0, 1, 2 that read c, a
@@ -25,7 +26,7 @@ fn expect(line: &str, refused: [u32; 3], rule: &str) {
 
 #[test]
 fn good_images_have_no_cause() {
-    let good = ["", "assign y = add ra rb", "expr e = mux rc ra rb", "expr e = shl ra rc", "header 0 1"];
+    let good = ["", "assign y = add ra rb", "expr e = mux rc ra rb", "expr e = shl ra rc", "header 0 2"];
     for line in good {
         assert_eq!(cause(&assemble(&format!("{BEFORE}{line}")).unwrap()), None, "{line}");
     }
@@ -34,7 +35,9 @@ fn good_images_have_no_cause() {
 #[test]
 fn header() {
     expect("truncate 63", [3, 0, 0], "under 64 bytes, 0");
-    expect("header 0 2", [3, 0, 0], "edition 1");
+    expect("header 0 1", [3, 0, 0], "Edition 1 is no longer read");
+    expect("header 0 0", [3, 0, 0], "Edition 2 of the module image");
+    expect("header 0 3", [3, 0, 0], "Edition 2 of the module image");
     expect("append \"x\"", [3, 1, 0], "the slice is not the total length");
     expect("header 2 513", [3, 2, 0], "a count above its most");
     expect("header 5 0", [3, 5, 0], "Sections follow the header in this order, without gaps");
@@ -132,16 +135,25 @@ fn memories() {
     expect(&format!("memory m depth 1 {port}"), [4, 5, 0], one_width);
     let second = PORT.replace("rdata y", "rdata z").replace("wdata rb", "wdata rc");
     expect(&format!("wire z 1\nmemory m depth 1 {PORT} {second}"), [4, 5, 0], one_width);
-    let mut fields = [0u32; 26];
+    let mut fields = [0u32; MEMORY_FIELDS];
     fields[1] = 1;
-    fields[2] = 1;
-    fields[4] = 1;
-    fields[5..15].copy_from_slice(&[1, 3, u32::MAX, 0, 1, 2, 0, 0, 0, 0]);
-    let raw = |fields: [u32; 26]| fields.iter().fold("raw memory".to_string(), |text, field| format!("{text} {field}"));
-    fields[15] = 2;
+    fields[DEPTH] = 1;
+    fields[WORD_WIDTH] = 8;
+    fields[LATENCY] = 1;
+    fields[FIRST_PORT..HAS_SECOND].copy_from_slice(&[1, 3, u32::MAX, 0, 1, 2, 0, 0, 0, 0]);
+    let raw = |fields: [u32; MEMORY_FIELDS]| {
+        fields.iter().fold("raw memory".to_string(), |text, field| format!("{text} {field}"))
+    };
+    assert_eq!(cause(&assemble(&format!("{BEFORE}{}", raw(fields))).unwrap()), None);
+    for width in [7, 9] {
+        fields[WORD_WIDTH] = width;
+        expect(&raw(fields), [4, 5, 0], "A width that differs from the read data's is refused under 4");
+    }
+    fields[WORD_WIDTH] = 8;
+    fields[HAS_SECOND] = 2;
     expect(&raw(fields), [4, 5, 0], "second port present (0 or 1)");
-    fields[15] = 0;
-    fields[25] = 1;
+    fields[HAS_SECOND] = 0;
+    fields[MEMORY_FIELDS - 1] = 1;
     expect(&raw(fields), [4, 5, 0], "ten more (0 if none)");
 }
 

@@ -3,7 +3,8 @@
 //! one is put behind those that were right. So the last records are met as
 //! often as the first, in all mixtures of right and wrong fields.
 
-use image::{Image, Random};
+use image::memory_field::SECOND_PORT;
+use image::{Image, MEMORY_FIELDS, Random};
 
 const ABSENT: u32 = u32::MAX;
 const GROWN: u64 = 1_500;
@@ -183,17 +184,20 @@ impl Growth {
         [self.signal_of(1), self.mostly(polarity)]
     }
 
-    fn memory(&mut self) -> [u32; 26] {
+    fn memory(&mut self) -> [u32; MEMORY_FIELDS] {
         let width = self.width();
         let [offset, length] = self.name();
         let depth = self.random.pick(&[1, 16, 65_536]);
+        // Of the read data, or of its own.
+        let word_width = if self.random.chance(90) { width } else { self.width() };
         let style = self.random.range(0, 2);
-        let mut fields = vec![offset, length, self.mostly(depth), self.mostly(style), self.mostly(1)];
+        let mut fields = vec![offset, length, self.mostly(depth), self.mostly(word_width)];
+        fields.extend([self.mostly(style), self.mostly(1)]);
         fields.extend(self.port(width));
         if self.random.chance(40) {
             fields.push(self.mostly(0));
             fields.extend([0; 10]);
-            let field = 16 + self.random.below(10);
+            let field = SECOND_PORT + self.random.below(10);
             fields[field] = self.mostly(0);
         } else {
             fields.push(self.mostly(1));
@@ -201,7 +205,7 @@ impl Growth {
             let width = if self.random.chance(70) { width } else { self.width() };
             fields.extend(self.port(width));
         }
-        fields.try_into().expect("26 fields")
+        fields.try_into().expect("27 fields")
     }
 
     fn port(&mut self, width: u32) -> [u32; 10] {

@@ -1,6 +1,6 @@
 //! Each refusal from 1 to 5 and its place, each limit at its most and one past
-//! it, on small images built by hand from the text of document 01. The reference
-//! checks must answer alike on each of them.
+//! it, on small images built by hand from the text of document 01 and of Q-1 in
+//! document 02. The reference checks must answer alike on each of them.
 
 /// This reading's answer, once the reference has given the same.
 fn refusal(image: &[u8], n: u32, p: u32, netlist_words: usize, scratch_words: usize) -> [u32; 3] {
@@ -11,6 +11,8 @@ fn refusal(image: &[u8], n: u32, p: u32, netlist_words: usize, scratch_words: us
 }
 
 const ABSENT: u32 = 4_294_967_295;
+
+const EDITION: u32 = 2;
 
 const INTERNAL: u32 = 0;
 const INPUT: u32 = 1;
@@ -36,6 +38,21 @@ const BINARY_OPERATORS: u32 = 19;
 
 const STYLES: u32 = 3;
 
+// Fields of a memory, and those of a port from its first.
+const MEMORY_FIELDS: usize = 27;
+const DEPTH: usize = 2;
+const WORD_WIDTH: usize = 3;
+const STYLE: usize = 4;
+const LATENCY: usize = 5;
+const FIRST_PORT: usize = 6;
+const HAS_SECOND: usize = 16;
+const SECOND_PORT: usize = 17;
+
+const READ_ADDRESS: usize = 0;
+const READ_DATA: usize = 1;
+const WRITE_ADDRESS: usize = 4;
+const WRITE_DATA: usize = 5;
+
 const N: u32 = 100;
 const P: u32 = 200;
 const NETLIST: usize = 16 + 600 + 200;
@@ -50,7 +67,7 @@ struct Image {
     list: Vec<u32>,
     assignments: Vec<[u32; 4]>,
     registers: Vec<[u32; 12]>,
-    memories: Vec<[u32; 26]>,
+    memories: Vec<[u32; MEMORY_FIELDS]>,
     names: Vec<u8>,
 }
 
@@ -103,7 +120,7 @@ impl Image {
         let sections = self.sections();
         let total = 64 + sections.iter().map(|(_, bytes)| bytes.len()).sum::<usize>();
         let mut image = Vec::new();
-        image.extend_from_slice(&1u32.to_le_bytes());
+        image.extend_from_slice(&EDITION.to_le_bytes());
         image.extend_from_slice(&(total as u32).to_le_bytes());
         let mut offset = 64;
         for (count, bytes) in &sections {
@@ -115,6 +132,19 @@ impl Image {
             image.extend_from_slice(&bytes);
         }
         image
+    }
+
+    /// The bytes in edition 1, where a memory has no word width.
+    fn edition_1(&self) -> Vec<u8> {
+        image::to_edition_1(&image::Image {
+            signals: self.signals.clone(),
+            expressions: self.expressions.clone(),
+            list: self.list.clone(),
+            assignments: self.assignments.clone(),
+            registers: self.registers.clone(),
+            memories: self.memories.clone(),
+            names: self.names.clone(),
+        })
     }
 
     fn judged(&self) -> [u32; 3] {
@@ -166,23 +196,38 @@ fn register() -> Image {
 }
 
 /// A clock (signal 0), a control (1), an 8-bit signal for each port's read data
-/// (2, 3), 4-bit address (signal 4, expression 0), 8-bit data (signal 5,
-/// expression 1), with a memory of two ports.
+/// (2, 3), a 4-bit address (expression 0), 8-bit data (1), with a memory of two
+/// ports.
 fn memory() -> Image {
+    memory_of(8)
+}
+
+/// The same with data of another width.
+fn memory_of(width: u32) -> Image {
     let mut image = Image::default();
     let clock = image.signal("clock", 1, INPUT);
     let control = image.signal("control", 1, INPUT);
-    let first = image.signal("first", 8, OUTPUT);
-    let second = image.signal("second", 8, OUTPUT);
+    let first = image.signal("first", width, OUTPUT);
+    let second = image.signal("second", width, OUTPUT);
     let address = image.value(4);
-    let data = image.value(8);
+    let data = image.value(width);
     let [offset, length] = image.name("m");
-    let mut record = vec![offset, length, 16, 0, 1];
+    let mut record = vec![offset, length, 16, width, 0, 1];
     record.extend([address, first, control, 0, address, data, control, 0, clock, 0]);
     record.push(1);
     record.extend([address, second, control, 0, address, data, control, 0, clock, 0]);
     image.memories.push(record.try_into().unwrap());
     image
+}
+
+/// Puts another memory, with read data of its own, behind those of `memory`.
+fn another_memory(image: &mut Image) {
+    let number = image.memories.len();
+    let mut record = image.memories[0];
+    [record[0], record[1]] = image.name(&format!("m{number}"));
+    record[FIRST_PORT + READ_DATA] = image.signal(&format!("first{number}"), 8, INTERNAL);
+    record[SECOND_PORT + READ_DATA] = image.signal(&format!("second{number}"), 8, INTERNAL);
+    image.memories.push(record);
 }
 
 /// The judgement after one field of a record was changed.
@@ -238,7 +283,7 @@ fn order_of_checks() {
     let mut bad = inverter();
     bad.signals[1][2] = 0;
     let bad_record = bad.bytes();
-    let bad_header = with_field(&bad_record, 0, 2);
+    let bad_header = with_field(&bad_record, 0, 1);
     assert_eq!(refusal(&bad_header, 0, 0, 0, 0), [1, 0, 0]);
     assert_eq!(refusal(&bad_header, 1, 0, 21, 0), [2, 0, 0]);
     assert_eq!(refusal(&bad_header, 1, 0, 22, 0), [3, 0, 0]);
@@ -262,11 +307,46 @@ fn under_64_bytes() {
 #[test]
 fn edition() {
     let image = inverter().bytes();
-    for edition in [0, 2, 256, u32::MAX] {
+    assert_eq!(field(&image, 0), EDITION);
+    assert_eq!(judged(&image), ACCEPTED);
+    for edition in [0, 1, 3, 256, 258, 1 << 31 | 2, u32::MAX] {
         assert_eq!(judged(&with_field(&image, 0, edition)), [3, 0, 0]);
     }
     // The first wrong field is told.
-    assert_eq!(judged(&with_field(&with_field(&image, 0, 2), 1, 0)), [3, 0, 0]);
+    for edition in [0, 1, 3] {
+        assert_eq!(judged(&with_field(&with_field(&image, 0, edition), 1, 0)), [3, 0, 0]);
+    }
+}
+
+#[test]
+fn edition_1() {
+    // Without memories the editions differ in field 0 alone.
+    for image in [Image::default(), inverter(), register()] {
+        let old = image.edition_1();
+        assert_eq!(judged(&old), [3, 0, 0]);
+        assert_eq!(with_field(&old, 0, EDITION), image.bytes());
+        assert_eq!(judged(&image.bytes()), ACCEPTED);
+    }
+    // With one, edition 2 wants a field more than there is.
+    let mut image = memory();
+    let old = image.edition_1();
+    assert_eq!(old.len(), image.bytes().len() - 4);
+    assert_eq!(judged(&old), [3, 0, 0]);
+    assert_eq!(judged(&with_field(&old, 0, EDITION)), [3, 14, 0]);
+    assert_eq!(judged(&with_field(&image.bytes(), 0, 1)), [3, 0, 0]);
+    // Also where its records were not right.
+    image.memories[0][DEPTH] = 0;
+    assert_eq!(judged(&image.edition_1()), [3, 0, 0]);
+    assert_eq!(judged(&with_field(&image.edition_1(), 0, EDITION)), [3, 14, 0]);
+    // Where the first bytes of the names are given to the memory, the header is
+    // right, and the style is read as the width.
+    let mut image = memory();
+    image.names.extend(b"more");
+    let old = image.edition_1();
+    let (count, offset) = (field(&old, 14), field(&old, 15));
+    let old = with_field(&with_field(&old, 14, count - 4), 15, offset + 4);
+    assert_eq!(judged(&old), [3, 0, 0]);
+    assert_eq!(judged(&with_field(&old, 0, EDITION)), [4, 5, 0]);
 }
 
 #[test]
@@ -351,12 +431,8 @@ fn counts_at_their_most() {
     assert_eq!(registers.judged(), [3, 10, 0]);
 
     let mut memories = memory();
-    for number in 1..16 {
-        let mut record = memories.memories[0];
-        [record[0], record[1]] = memories.name(&format!("m{number}"));
-        record[6] = memories.signal(&format!("first{number}"), 8, INTERNAL);
-        record[17] = memories.signal(&format!("second{number}"), 8, INTERNAL);
-        memories.memories.push(record);
+    for _ in 1..16 {
+        another_memory(&mut memories);
     }
     assert_eq!(memories.judged(), ACCEPTED);
     memories.memories.push(memories.memories[15]);
@@ -475,8 +551,8 @@ fn equal_names() {
     [image.memories[0][0], image.memories[0][1]] = [image.signals[0][0], image.signals[0][1]];
     assert_eq!(image.judged(), ACCEPTED);
     let mut second = image.memories[0];
-    second[6] = image.signal("third", 8, INTERNAL);
-    second[15..].fill(0);
+    second[FIRST_PORT + READ_DATA] = image.signal("third", 8, INTERNAL);
+    second[HAS_SECOND..].fill(0);
     image.memories.push(second);
     assert_eq!(image.judged(), [4, 5, 1]);
     [image.memories[1][0], image.memories[1][1]] = image.name("m1");
@@ -857,25 +933,149 @@ fn memories() {
         (65_537, [4, 5, 0]),
         (u32::MAX, [4, 5, 0]),
     ] {
-        assert_eq!(put(2, depth), expected);
+        assert_eq!(put(DEPTH, depth), expected);
     }
     for style in 0..STYLES {
-        assert_eq!(put(3, style), ACCEPTED);
+        assert_eq!(put(STYLE, style), ACCEPTED);
     }
-    assert_eq!(put(3, STYLES), [4, 5, 0]);
-    assert_eq!(put(3, ABSENT), [4, 5, 0]);
+    assert_eq!(put(STYLE, STYLES), [4, 5, 0]);
+    assert_eq!(put(STYLE, ABSENT), [4, 5, 0]);
     for latency in [0, 2, ABSENT] {
-        assert_eq!(put(4, latency), [4, 5, 0]);
+        assert_eq!(put(LATENCY, latency), [4, 5, 0]);
     }
     for present in [2, ABSENT] {
-        assert_eq!(put(15, present), [4, 5, 0]);
+        assert_eq!(put(HAS_SECOND, present), [4, 5, 0]);
     }
+}
+
+#[test]
+fn word_widths() {
+    for width in [1, 8, 16, 1_024] {
+        let two_ports = memory_of(width);
+        let mut one_port = two_ports.clone();
+        one_port.memories[0][HAS_SECOND..].fill(0);
+        for image in [two_ports, one_port] {
+            assert_eq!(image.judged(), ACCEPTED);
+            // One more and less, no width, the clock's, the address's, the
+            // depth, the most and one past it, and the same low bits.
+            let wrong = [width + 1, width - 1, 0, 1, 4, 16, 1_024, 1_025, ABSENT];
+            let wrong = wrong.into_iter().chain([8, 16, 31].map(|bit| width ^ 1 << bit));
+            for wrong in wrong.filter(|&wrong| wrong != width) {
+                let judged = changed(&image, |image| &mut image.memories, 0, WORD_WIDTH, wrong);
+                assert_eq!(judged, [4, 5, 0], "{wrong} for {width}");
+            }
+        }
+    }
+}
+
+#[test]
+fn word_width_follows_the_read_data() {
+    // Read data of another width, the write data and then the width after it.
+    let mut image = memory();
+    image.memories[0][HAS_SECOND..].fill(0);
+    image.signals[2][2] = 9;
+    assert_eq!(image.judged(), [4, 5, 0]);
+    image.memories[0][FIRST_PORT + WRITE_DATA] = image.value(9);
+    assert_eq!(image.judged(), [4, 5, 0]);
+    image.memories[0][WORD_WIDTH] = 9;
+    assert_eq!(image.judged(), ACCEPTED);
+    // Write data of 8 bits again: neither width will do.
+    image.memories[0][FIRST_PORT + WRITE_DATA] = 1;
+    assert_eq!(image.judged(), [4, 5, 0]);
+    image.memories[0][WORD_WIDTH] = 8;
+    assert_eq!(image.judged(), [4, 5, 0]);
+}
+
+#[test]
+fn word_width_and_another_fault_of_the_record() {
+    let faults = [
+        (1, 0),
+        (DEPTH, 0),
+        (STYLE, STYLES),
+        (LATENCY, 2),
+        (FIRST_PORT + READ_ADDRESS, ABSENT),
+        (FIRST_PORT + READ_DATA, 0),
+        (FIRST_PORT + READ_DATA, 3),
+        (FIRST_PORT + READ_DATA, 4),
+        (FIRST_PORT + READ_DATA, ABSENT),
+        (FIRST_PORT + WRITE_DATA, 0),
+        (FIRST_PORT + WRITE_DATA, ABSENT),
+        (HAS_SECOND, 0),
+        (HAS_SECOND, 2),
+        (SECOND_PORT + READ_DATA, 0),
+        (SECOND_PORT + READ_DATA, 2),
+        (SECOND_PORT + READ_DATA, ABSENT),
+        (SECOND_PORT + WRITE_DATA, 0),
+    ];
+    for (field, value) in faults {
+        let mut image = memory();
+        image.memories[0][field] = value;
+        for width in [0, 1, 4, 7, 8, 9, 1_025, ABSENT] {
+            image.memories[0][WORD_WIDTH] = width;
+            assert_eq!(image.judged(), [4, 5, 0], "field {field} is {value}, the width {width}");
+        }
+    }
+    // Two ports of 8 and 4 bits, each in itself right.
+    let mut image = memory();
+    image.signals[3][2] = 4;
+    image.memories[0][SECOND_PORT + WRITE_DATA] = 0;
+    for width in [4, 8, 12] {
+        image.memories[0][WORD_WIDTH] = width;
+        assert_eq!(image.judged(), [4, 5, 0]);
+    }
+}
+
+#[test]
+fn word_width_and_a_fault_elsewhere() {
+    let mut image = memory();
+    for _ in 1..16 {
+        another_memory(&mut image);
+    }
+    // The first of the memories that are wrong, whatever is wrong there.
+    image.memories[15][WORD_WIDTH] = 9;
+    assert_eq!(image.judged(), [4, 5, 15]);
+    image.memories[2][DEPTH] = 0;
+    assert_eq!(image.judged(), [4, 5, 2]);
+    image.memories[1][FIRST_PORT + READ_DATA] = 2;
+    assert_eq!(image.judged(), [4, 5, 1]);
+    image.memories[0][WORD_WIDTH] = 7;
+    assert_eq!(image.judged(), [4, 5, 0]);
+    image.memories = vec![image.memories[0]; 16];
+    assert_eq!(image.judged(), [4, 5, 0]);
+    // Sections before the memories.
+    let [offset, length] = image.name("r");
+    image.registers.push([offset, length, 2, 1, 0, 2, ABSENT, 0, ABSENT, 0, 0, 0]);
+    assert_eq!(image.judged(), [4, 4, 0]);
+    image.assignments.push([2, 0, 7, 1]);
+    assert_eq!(image.judged(), [4, 3, 0]);
+    image.expressions[1][0] = 7;
+    assert_eq!(image.judged(), [4, 1, 1]);
+    image.signals[3][2] = 0;
+    assert_eq!(image.judged(), [4, 0, 3]);
+    // The header, and the checks before and after.
+    let bytes = image.bytes();
+    let total = field(&bytes, 1);
+    assert_eq!(judged(&with_field(&bytes, 1, total - 4)), [3, 1, 0]);
+    let mut image = memory();
+    image.memories[0][WORD_WIDTH] = 9;
+    assert_eq!(refusal(&image.bytes(), N, P, NETLIST - 1, 0), [2, 0, 0]);
+    assert_eq!(refusal(&image.bytes(), N, P, NETLIST, 0), [4, 5, 0]);
+}
+
+#[test]
+fn word_widths_are_in_no_sum() {
+    let mut image = memory_of(1_024);
+    image.signal("rest", 1_024, INPUT);
+    image.signal("last", 1_022, INPUT);
+    assert_eq!(image.judged(), ACCEPTED);
+    image.signals[5][2] = 1_023;
+    assert_eq!(image.judged(), [4, 0, 5]);
 }
 
 #[test]
 fn ports() {
     let image = memory();
-    for port in [5, 16] {
+    for port in [FIRST_PORT, SECOND_PORT] {
         let put =
             |field, value| changed(&image, |image| &mut image.memories, 0, port + field, value);
         // Edge and polarities.
@@ -905,7 +1105,7 @@ fn ports() {
         }
         assert_eq!(put(5, 0), [4, 5, 0]);
         let mut input = image.clone();
-        input.signals[2 + usize::from(port == 16)][3] = INPUT;
+        input.signals[2 + usize::from(port == SECOND_PORT)][3] = INPUT;
         assert_eq!(input.judged(), [4, 5, 0]);
     }
 }
@@ -915,10 +1115,12 @@ fn address_widths() {
     for (width, expected) in
         [(1, ACCEPTED), (32, ACCEPTED), (33, [4, 5, 0]), (1_024, [4, 5, 0])]
     {
-        for field in [5, 9, 16, 20] {
-            let mut image = memory();
-            image.memories[0][field] = image.value(width);
-            assert_eq!(image.judged(), expected);
+        for port in [FIRST_PORT, SECOND_PORT] {
+            for address in [READ_ADDRESS, WRITE_ADDRESS] {
+                let mut image = memory();
+                image.memories[0][port + address] = image.value(width);
+                assert_eq!(image.judged(), expected);
+            }
         }
     }
 }
@@ -928,21 +1130,21 @@ fn data_of_one_width() {
     // Each port in itself, but the two apart.
     let mut image = memory();
     image.signals[3][2] = 4;
-    image.memories[0][21] = 0;
+    image.memories[0][SECOND_PORT + WRITE_DATA] = 0;
     assert_eq!(image.judged(), [4, 5, 0]);
     // The first port alone.
-    image.memories[0][15..].fill(0);
+    image.memories[0][HAS_SECOND..].fill(0);
     assert_eq!(image.judged(), ACCEPTED);
 }
 
 #[test]
 fn second_port() {
     let mut image = memory();
-    image.memories[0][15] = 0;
+    image.memories[0][HAS_SECOND] = 0;
     assert_eq!(image.judged(), [4, 5, 0]);
-    image.memories[0][15..].fill(0);
+    image.memories[0][HAS_SECOND..].fill(0);
     assert_eq!(image.judged(), ACCEPTED);
-    for field in 16..26 {
+    for field in SECOND_PORT..MEMORY_FIELDS {
         assert_eq!(changed(&image, |image| &mut image.memories, 0, field, 1), [4, 5, 0]);
         assert_eq!(changed(&image, |image| &mut image.memories, 0, field, ABSENT), [4, 5, 0]);
     }
@@ -952,7 +1154,7 @@ fn second_port() {
 fn read_data_drives() {
     // Both ports the same signal.
     let mut image = memory();
-    image.memories[0][17] = 2;
+    image.memories[0][SECOND_PORT + READ_DATA] = 2;
     assert_eq!(image.judged(), [4, 5, 0]);
     // An assignment to one of its bits before it.
     let mut image = memory();

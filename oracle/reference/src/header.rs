@@ -15,7 +15,7 @@ pub fn first_wrong_field(image: &[u8]) -> Option<u32> {
 fn field_is_right(image: &[u8], field: usize) -> bool {
     let section = (field.max(2) - 2) / 2;
     match field {
-        0 => edition_is_1(image),
+        0 => edition_is_2(image),
         1 => slice_has_the_total_length(image),
         14 => count_is_at_most_its_most(image, NAMES) && names_end_at_the_total(image),
         _ if field % 2 == 0 => count_is_at_most_its_most(image, section),
@@ -23,9 +23,9 @@ fn field_is_right(image: &[u8], field: usize) -> bool {
     }
 }
 
-/// "Edition 1."
-fn edition_is_1(image: &[u8]) -> bool {
-    header_field(image, 0) == 1
+/// "Edition 1 is no longer read" (document 02).
+fn edition_is_2(image: &[u8]) -> bool {
+    header_field(image, 0) == 2
 }
 
 /// "Total bytes"; "wrong length, 1".

@@ -15,7 +15,7 @@ pub const NAMES: usize = 6;
 pub const SECTIONS: usize = 7;
 
 /// Bytes of one record (one word, one byte) of each section.
-pub const RECORD_BYTES: [u64; SECTIONS] = [16, 20, 4, 16, 48, 104, 1];
+pub const RECORD_BYTES: [u64; SECTIONS] = [16, 20, 4, 16, 48, 108, 1];
 
 /// "Most: 512 signals, 2,048 expressions, 8,192 list words, 1,024 assignments,
 /// 256 registers, 16 memories, 16,384 name bytes."

@@ -306,23 +306,34 @@ fn reset_is_good_or_absent(module: &Module, target: u32, reset: [u32; 4]) -> boo
 
 const STYLES: u32 = 3;
 const PORT_FIELDS: usize = 10;
-const FIRST_PORT: usize = 5;
-const SECOND_PRESENT: usize = 15;
-const SECOND_PORT: usize = 16;
+const DEPTH: usize = 2;
+const WORD_WIDTH: usize = 3;
+const STYLE: usize = 4;
+const LATENCY: usize = 5;
+const FIRST_PORT: usize = 6;
+const SECOND_PRESENT: usize = FIRST_PORT + PORT_FIELDS;
+const SECOND_PORT: usize = SECOND_PRESENT + 1;
+const READ_DATA: usize = 1;
 
 fn memory_keeps_rules(module: &Module, record: u32, drivers: &mut Drivers) -> bool {
     let field = |number| module.field(MEMORIES, record, number);
     let port = |first| std::array::from_fn::<u32, PORT_FIELDS, _>(|i| field(first + i));
     has_good_name(module, MEMORIES, record)
-        && depth_is_in_range(field(2))
-        && is_value_of_enum(field(3), STYLES)
-        && latency_is_1(field(4))
+        && depth_is_in_range(field(DEPTH))
+        && word_width_is_the_read_datas(module, field(WORD_WIDTH), field(FIRST_PORT + READ_DATA))
+        && is_value_of_enum(field(STYLE), STYLES)
+        && latency_is_1(field(LATENCY))
         && ports_keep_rules(module, port(FIRST_PORT), field(SECOND_PRESENT), port(SECOND_PORT), drivers)
 }
 
 /// "Depth 1 to 65,536."
 fn depth_is_in_range(depth: u32) -> bool {
     (1..=65_536).contains(&depth)
+}
+
+/// "A width that differs from the read data's is refused under 4" (document 02).
+fn word_width_is_the_read_datas(module: &Module, width: u32, read_data: u32) -> bool {
+    module.signal_width(read_data) == Some(width)
 }
 
 /// "Latency 1."
@@ -338,7 +349,7 @@ fn ports_keep_rules(
     second: [u32; PORT_FIELDS],
     drivers: &mut Drivers,
 ) -> bool {
-    let Some(data_width) = module.signal_width(first[1]) else { return false };
+    let Some(data_width) = module.signal_width(first[READ_DATA]) else { return false };
     port_keeps_rules(module, first, data_width, drivers)
         && match present {
             0 => second == [0; PORT_FIELDS],

@@ -15,7 +15,7 @@ struct Rows {
     list: Vec<u32>,
     assignments: Vec<[u32; 4]>,
     registers: Vec<[u32; 12]>,
-    memories: Vec<[u32; 26]>,
+    memories: Vec<[u32; 27]>,
     names: Vec<u8>,
 }
 
@@ -36,10 +36,10 @@ impl Rows {
             (self.list.len(), 4),
             (self.assignments.len(), 16),
             (self.registers.len(), 48),
-            (self.memories.len(), 104),
+            (self.memories.len(), 108),
             (self.names.len(), 1),
         ];
-        let mut header = vec![1, 64 + 4 * words.len() as u32 + self.names.len() as u32];
+        let mut header = vec![2, 64 + 4 * words.len() as u32 + self.names.len() as u32];
         let mut offset = 64;
         for (count, bytes) in sizes {
             header.extend([count as u32, offset]);
@@ -104,7 +104,7 @@ fn base() -> Rows {
     rows.registers = vec![[offset, length, STATE, 7, CLOCK, 0, CLOCK, 1, CLOCK, 0, 1, 1]];
     let [offset, length] = rows.name("ram");
     let port = |data| [8, data, ABSENT, 0, 9, 0, CLOCK, 0, CLOCK, 0];
-    let memory = [vec![offset, length, 16, 0, 1], port(DATA_A).to_vec(), vec![1], port(DATA_B).to_vec()].concat();
+    let memory = [vec![offset, length, 16, 8, 0, 1], port(DATA_A).to_vec(), vec![1], port(DATA_B).to_vec()].concat();
     rows.memories = vec![memory.try_into().unwrap()];
     rows
 }
@@ -202,8 +202,19 @@ fn short_and_wrong_length() {
 fn edition_before_length() {
     let mut image = base().bytes();
     image.push(0);
-    set_field(&mut image, 0, 2);
+    set_field(&mut image, 0, 1);
     assert_eq!(judge(&image), [3, 0, 0]);
+}
+
+#[test]
+fn editions() {
+    let image = base().bytes();
+    assert_eq!(judge(&image), FINE);
+    for edition in [0, 1, 3, 0x0102, 0x0200, 0x0200_0000, u32::MAX] {
+        let mut image = image.clone();
+        set_field(&mut image, 0, edition);
+        assert_eq!(judge(&image), [3, 0, 0], "edition {edition}");
+    }
 }
 
 #[test]
@@ -301,10 +312,9 @@ fn equal_names_of_registers_and_memories() {
     rows.registers[1][2] = SPARE;
     assert_eq!(judge_rows(&rows), [4, 4, 1]);
     let mut rows = base();
-    rows.memories[0][15] = 0;
     rows.memories[0][16..].fill(0);
     rows.memories.push(rows.memories[0]);
-    rows.memories[1][6] = SPARE;
+    rows.memories[1][7] = SPARE;
     assert_eq!(judge_rows(&rows), [4, 5, 1]);
     let name = rows.name("other");
     rows.memories[1][..2].copy_from_slice(&name);
@@ -558,18 +568,44 @@ fn two_registers_of_one_target() {
 fn memories() {
     let refused = [4, 5, 0];
     let with = |field: usize, value: u32| after(|rows| rows.memories[0][field] = value);
-    for (field, value) in [(2, 1), (2, 65_536), (3, 1), (3, 2)] {
+    for (field, value) in [(2, 1), (2, 65_536), (4, 1), (4, 2)] {
         assert_eq!(with(field, value), FINE, "field {field} = {value}");
     }
-    for (field, value) in [(2, 0), (2, 65_537), (3, 3), (4, 0), (4, 2), (15, 0), (15, 2)] {
+    for (field, value) in [(2, 0), (2, 65_537), (4, 3), (5, 0), (5, 2), (16, 0), (16, 2)] {
         assert_eq!(with(field, value), refused, "field {field} = {value}");
     }
 }
 
 #[test]
+fn word_width_of_memories() {
+    let refused = [4, 5, 0];
+    let with = |width: u32| after(|rows| rows.memories[0][3] = width);
+    assert_eq!(with(8), FINE);
+    for width in [0, 1, 7, 9, 1024, 1025, 0x0108, 0x0800_0000, ABSENT] {
+        assert_eq!(with(width), refused, "width {width}");
+    }
+    // all data 4 bits wide: the width that is written follows or is refused
+    let narrow = |width: u32| {
+        after(|rows| {
+            rows.signals[DATA_A as usize][2] = 4;
+            rows.signals[DATA_B as usize][2] = 4;
+            for first in [6, 17] {
+                rows.memories[0][first + 5] = 8;
+            }
+            rows.memories[0][3] = width;
+        })
+    };
+    assert_eq!(narrow(4), FINE);
+    assert_eq!(narrow(8), refused);
+    // with another fault of the record, and after one of an earlier record
+    assert_eq!(after(|rows| rows.memories[0][2..4].copy_from_slice(&[0, 9])), refused);
+    assert_eq!(after(|rows| (rows.memories[0][3], rows.registers[0][5]) = (9, 2)), [4, 4, 0]);
+}
+
+#[test]
 fn ports_of_memories() {
     let refused = [4, 5, 0];
-    for first in [5, 16] {
+    for first in [6, 17] {
         let with = |field: usize, value: u32| after(|rows| rows.memories[0][first + field] = value);
         let good = [(0, 0), (0, 3), (4, 0), (5, 1), (7, 1), (9, 1), (1, SPARE)];
         let bad = [
@@ -599,7 +635,7 @@ fn address_widths() {
         after(|rows| {
             rows.signals[SPARE as usize][2] = 64;
             rows.expressions.push([0, width, SPARE, 0, 0]);
-            rows.memories[0][5] = EXPRESSIONS;
+            rows.memories[0][6] = EXPRESSIONS;
         })
     };
     assert_eq!(with_width(32), FINE);
@@ -608,20 +644,20 @@ fn address_widths() {
 
 #[test]
 fn second_port() {
-    assert_eq!(after(|rows| rows.memories[0][15..].fill(0)), FINE);
-    for field in 16..26 {
+    assert_eq!(after(|rows| rows.memories[0][16..].fill(0)), FINE);
+    for field in 17..27 {
         let odd = after(|rows| {
-            rows.memories[0][15..].fill(0);
+            rows.memories[0][16..].fill(0);
             rows.memories[0][field] = 1;
         });
         assert_eq!(odd, [4, 5, 0], "field {field}");
     }
     // both ports' read data the same signal: a second driver in one record
-    assert_eq!(after(|rows| rows.memories[0][17] = DATA_A), [4, 5, 0]);
+    assert_eq!(after(|rows| rows.memories[0][18] = DATA_A), [4, 5, 0]);
     // data of both ports have one width
     let narrow = after(|rows| {
         rows.signals[DATA_B as usize][2] = 4;
-        rows.memories[0][16 + 5] = 8;
+        rows.memories[0][17 + 5] = 8;
     });
     assert_eq!(narrow, [4, 5, 0]);
 }
@@ -635,7 +671,7 @@ fn first_record_in_image_order() {
     let break_later_expression = |rows: &mut Rows| rows.expressions[5][0] = 9;
     let break_assignment = |rows: &mut Rows| rows.assignments[1][3] = 99;
     let break_register = |rows: &mut Rows| rows.registers[0][5] = 2;
-    let break_memory = |rows: &mut Rows| rows.memories[0][4] = 0;
+    let break_memory = |rows: &mut Rows| rows.memories[0][5] = 0;
     let mut rows = base();
     break_memory(&mut rows);
     assert_eq!(judge_rows(&rows), [4, 5, 0]);

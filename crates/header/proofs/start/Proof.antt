@@ -11,7 +11,7 @@ use Rattle.header.specs.Header.{start-more, start-none}
 use denote.Ref.{now}
 
 abbrev Inv-loop : tie.InvT-loop
-Inv-loop s k at₀ j₀ at j = (j ≤ k) × (at ≡ startOf s j) × (at ≤ 64 + j * 446676598784)
+Inv-loop s k at₀ j₀ at j = (j ≤ k) × (at ≡ startOf s j) × (at ≤ 64 + j * 463856467968)
 
 abbrev μ-loop : tie.MeasureT-loop
 μ-loop s k at₀ j₀ at j = k - j

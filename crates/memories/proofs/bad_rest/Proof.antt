@@ -42,24 +42,22 @@ record-field-requires-4 c κs = search needs
 signal-width-requires : tie.Need-signal-width-requires
 signal-width-requires c κs = search needs
 
-bad-port-requires : tie.Need-bad-port-requires
-bad-port-requires c κs = search needs
+record-field-requires-5 : tie.Need-record-field-requires-5
+record-field-requires-5 c κs = search needs
 
 returns-4 : tie.Need-returns-4
 unfolding badRest
 returns-4 c =
     let c4 = c .before .before .before .before in
     let c8 = c4 .before .before .before .before in
+    let w = rw (c .before .before .before .record-field4 .ensures) at (c .before .before .signal-width .ensures) in
     or-skip (sym (rw (c8 .before .before .record-field .ensures) at (c8 .before .is-outside .ensures)) ∙ c8 .if1 .left)
     (or-skip (lt-no _ _ (rw (c4 .before .before .before .record-field2 .ensures) at (c4 .before .before .if2 .left)))
     (or-skip (ne-no _ _ (sym (c4 .before .record-field3 .ensures) ∙ c4 .if3 .left))
-    (or-hit _ (sym (rw (c .before .before .signal-width .ensures, c .before .before .before .record-field4 .ensures) at (c .before .bad-port .ensures)) ∙ c .if4 .taken))))
+    (or-hit _ (ne-yes _ _ (λ e. c .if4 .taken (c .before .record-field5 .ensures ∙ e ∙ sym w))))))
 
-record-field-requires-5 : tie.Need-record-field-requires-5
-record-field-requires-5 c κs = search needs
-
-bad-second-requires : tie.Need-bad-second-requires
-bad-second-requires c κs = search needs
+bad-port-requires : tie.Need-bad-port-requires
+bad-port-requires c κs = search needs
 
 returns-5 : tie.Need-returns-5
 unfolding badRest
@@ -67,11 +65,32 @@ returns-5 c =
     let c4 = c .before .before .before .before in
     let c8 = c4 .before .before .before .before in
     let c12 = c8 .before .before .before .before in
+    let w = rw (c4 .before .record-field4 .ensures) at (c4 .signal-width .ensures) in
     or-skip (sym (rw (c12 .record-field .ensures) at (c8 .before .before .before .is-outside .ensures)) ∙ c8 .before .before .if1 .left)
     (or-skip (lt-no _ _ (rw (c8 .before .record-field2 .ensures) at (c8 .if2 .left)))
     (or-skip (ne-no _ _ (sym (c4 .before .before .before .record-field3 .ensures) ∙ c4 .before .before .if3 .left))
-    (or-skip (sym (rw (c4 .signal-width .ensures, c4 .before .record-field4 .ensures) at (c .before .before .before .bad-port .ensures)) ∙ c .before .before .if4 .left)
-    (rw (c .before .record-field5 .ensures, c4 .signal-width .ensures, c4 .before .record-field4 .ensures) at (c .bad-second .ensures)))))
+    (or-skip (ne-no _ _ (sym (c .before .before .before .record-field5 .ensures) ∙ c .before .before .if4 .left ∙ w))
+    (or-hit _ (sym (rw (c4 .signal-width .ensures, c4 .before .record-field4 .ensures) at (c .before .bad-port .ensures)) ∙ c .if5 .taken)))))
+
+record-field-requires-6 : tie.Need-record-field-requires-6
+record-field-requires-6 c κs = search needs
+
+bad-second-requires : tie.Need-bad-second-requires
+bad-second-requires c κs = search needs
+
+returns-6 : tie.Need-returns-6
+unfolding badRest
+returns-6 c =
+    let c4 = c .before .before .before .before in
+    let c8 = c4 .before .before .before .before in
+    let c12 = c8 .before .before .before .before in
+    let w = rw (c4 .before .before .before .record-field4 .ensures) at (c4 .before .before .signal-width .ensures) in
+    or-skip (sym (rw (c12 .before .before .record-field .ensures) at (c12 .before .is-outside .ensures)) ∙ c12 .if1 .left)
+    (or-skip (lt-no _ _ (rw (c8 .before .before .before .record-field2 .ensures) at (c8 .before .before .if2 .left)))
+    (or-skip (ne-no _ _ (sym (c8 .before .record-field3 .ensures) ∙ c8 .if3 .left))
+    (or-skip (ne-no _ _ (sym (c4 .before .record-field5 .ensures) ∙ c4 .if4 .left ∙ w))
+    (or-skip (sym (rw (c4 .before .before .signal-width .ensures, c4 .before .before .before .record-field4 .ensures) at (c .before .before .before .bad-port .ensures)) ∙ c .before .before .if5 .left)
+    (rw (c .before .record-field6 .ensures, c4 .before .before .signal-width .ensures, c4 .before .before .before .record-field4 .ensures) at (c .bad-second .ensures))))))
 
 pub bad-rest-spec : {M : Type 1} → statement M
 bad-rest-spec =
@@ -86,8 +105,10 @@ bad-rest-spec =
     returns-3
     record-field-requires-4
     signal-width-requires
-    bad-port-requires
-    returns-4
     record-field-requires-5
+    returns-4
+    bad-port-requires
+    returns-5
+    record-field-requires-6
     bad-second-requires
-    returns-5)
+    returns-6)

@@ -4,7 +4,7 @@
 use calls::Library;
 use compare::limits::Limits;
 use compare::subject::Subject;
-use image::{Image, ABSENT};
+use image::{memory_field, port_field, Image, ABSENT, MEMORY_FIELDS};
 use std::hint::black_box;
 use std::time::Instant;
 
@@ -112,10 +112,15 @@ fn expression(number: u32) -> [u32; 5] {
     }
 }
 
-fn memory(number: u32) -> [u32; 26] {
-    let mut fields = [32 * number, 32, 16, 0, 1, 0, 0, 0, 0, 0, 0, 0, 0, 0, 0, 1, 0, 0, 0, 0, 0, 0, 0, 0, 0, 0];
-    fields[6] = 385 + 2 * number;
-    fields[17] = 386 + 2 * number;
-    fields[18] = ABSENT;
+fn memory(number: u32) -> [u32; MEMORY_FIELDS] {
+    let mut fields = [0; MEMORY_FIELDS];
+    fields[..2].copy_from_slice(&[32 * number, 32]);
+    fields[memory_field::DEPTH] = 16;
+    fields[memory_field::WORD_WIDTH] = 1;
+    fields[memory_field::LATENCY] = 1;
+    fields[memory_field::HAS_SECOND] = 1;
+    fields[memory_field::FIRST_PORT + port_field::READ_DATA] = 385 + 2 * number;
+    fields[memory_field::SECOND_PORT + port_field::READ_DATA] = 386 + 2 * number;
+    fields[memory_field::SECOND_PORT + port_field::READ_ENABLE] = ABSENT;
     fields
 }

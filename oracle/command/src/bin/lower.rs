@@ -1,7 +1,7 @@
 //! `lower FILE`: see `--help`. The script ./lower builds and starts it.
 
 use command::arguments::{HELP, Request, Wish, request};
-use command::input::image_in;
+use command::input::{image_in, image_of_edition_1_in};
 use command::lowering::{Outcome, lower};
 use command::refusal::in_words;
 use command::{ACCEPTED, Answer};
@@ -29,7 +29,7 @@ fn main() -> ExitCode {
 }
 
 fn run(wish: &Wish) -> Result<Answer, String> {
-    let image = image_in(&wish.file)?;
+    let image = if wish.from_edition_1 { image_of_edition_1_in(&wish.file) } else { image_in(&wish.file) }?;
     if let Some(file) = &wish.image_out {
         write(file, &image)?;
     }

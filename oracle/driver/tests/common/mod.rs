@@ -28,7 +28,7 @@ pub struct Builder {
     pub list: Vec<u32>,
     pub assignments: Vec<[u32; 4]>,
     pub registers: Vec<[u32; 12]>,
-    pub memories: Vec<[u32; 26]>,
+    pub memories: Vec<[u32; 27]>,
     pub names: Vec<u8>,
 }
 
@@ -174,12 +174,13 @@ impl Builder {
 
     pub fn memory(&mut self, name: &str, depth: u32, first: &Port, second: Option<&Port>) {
         let (offset, length) = self.name(name);
-        let mut record = [0; 26];
-        record[..5].copy_from_slice(&[offset, length, depth, 1, 1]);
-        record[5..15].copy_from_slice(&first.fields());
+        let word = self.signals[first.read_data as usize][2];
+        let mut record = [0; 27];
+        record[..6].copy_from_slice(&[offset, length, depth, word, 1, 1]);
+        record[6..16].copy_from_slice(&first.fields());
         if let Some(second) = second {
-            record[15] = 1;
-            record[16..].copy_from_slice(&second.fields());
+            record[16] = 1;
+            record[17..].copy_from_slice(&second.fields());
         }
         self.memories.push(record);
     }
@@ -193,7 +194,7 @@ impl Builder {
             (self.registers.len(), self.registers.concat()),
             (self.memories.len(), self.memories.concat()),
         ];
-        let mut header = vec![1, 0];
+        let mut header = vec![2, 0];
         let mut offset = 64;
         for (count, fields) in &sections {
             header.extend([*count as u32, offset]);

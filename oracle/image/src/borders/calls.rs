@@ -2,7 +2,7 @@
 
 use super::bases::{full, inverter, swept};
 use super::{Cases, LIST_WORDS, MOST_SCRATCH, NETS};
-use crate::format::{netlist_words, set_word, Image, ABSENT, MOST_LIMIT};
+use crate::format::{netlist_words, set_word, Image, ABSENT, EDITION, MOST_LIMIT};
 
 pub fn add(cases: &mut Cases) {
     limits(cases);
@@ -77,7 +77,7 @@ fn order(cases: &mut Cases) {
         let scratch = image.scratch_words(n) - usize::from(wrong(5));
         let mut bytes = image.encode();
         if wrong(3) {
-            set_word(&mut bytes, 0, 2);
+            set_word(&mut bytes, 0, EDITION - 1);
         }
         cases.cases.push((
             format!("checks wrong {set:05b}"),

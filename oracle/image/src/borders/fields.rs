@@ -122,7 +122,7 @@ fn expression(kind: u32) -> [Field; 5] {
 }
 
 fn memory() -> Vec<Field> {
-    let mut fields = vec![NameOffset, NameLength, Depth, Enum(2), Latency];
+    let mut fields = vec![NameOffset, NameLength, Depth, Width, Enum(2), Latency];
     fields.extend(PORT);
     fields.push(Enum(1));
     fields.extend(PORT);

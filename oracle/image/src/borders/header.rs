@@ -3,6 +3,7 @@
 use super::bases::{full, inverter};
 use super::Cases;
 use crate::builder::Builder;
+use crate::edition::to_edition_1;
 use crate::format::*;
 
 pub fn add(cases: &mut Cases) {
@@ -14,8 +15,24 @@ pub fn add(cases: &mut Cases) {
         single_fields(cases, label, &image);
         pairs(cases, label, &image);
     }
+    editions(cases);
     lengths(cases);
     counts(cases);
+}
+
+/// The bytes of edition 1, and such bytes that say they are of edition 2: with a
+/// memory the names do not begin where its longer record ends.
+fn editions(cases: &mut Cases) {
+    for (label, image) in [
+        ("empty", Image::default()),
+        ("inverter", inverter()),
+        ("full", full()),
+    ] {
+        let mut bytes = to_edition_1(&image);
+        cases.bytes(format!("{label}, edition 1"), bytes.clone());
+        set_word(&mut bytes, 0, EDITION);
+        cases.bytes(format!("{label}, edition 1, header field 0 is 2"), bytes);
+    }
 }
 
 fn single_fields(cases: &mut Cases, label: &str, image: &Image) {

@@ -24,17 +24,22 @@ pub fn port(address: Expr, read_data: Signal, write_data: Expr, clock: Signal) -
 
 pub fn add(cases: &mut Cases) {
     for depth in [0, 1, 2, 65_535, 65_536, 65_537, ABSENT] {
-        changed(cases, format!("depth {depth}"), |memory| memory[2] = depth);
+        changed(cases, format!("depth {depth}"), |memory| {
+            memory[memory_field::DEPTH] = depth
+        });
     }
     for latency in [0, 1, 2, 256, 257, ABSENT] {
         changed(cases, format!("latency {latency}"), |memory| {
-            memory[4] = latency
+            memory[memory_field::LATENCY] = latency
         });
     }
     for style in [0, 1, 2, 3, ABSENT] {
-        changed(cases, format!("style {style}"), |memory| memory[3] = style);
+        changed(cases, format!("style {style}"), |memory| {
+            memory[memory_field::STYLE] = style
+        });
     }
     addresses(cases);
+    word_widths(cases);
     data(cases);
     absent(cases);
     second_port(cases);
@@ -75,7 +80,7 @@ fn plain() -> Image {
     two_ports([2; 4], [8; 2], [8; 2])
 }
 
-fn changed(cases: &mut Cases, name: String, change: impl Fn(&mut [u32; 26])) {
+fn changed(cases: &mut Cases, name: String, change: impl Fn(&mut [u32; MEMORY_FIELDS])) {
     let mut image = plain();
     change(&mut image.memories[0]);
     cases.image(format!("memory, {name}"), &image);
@@ -88,6 +93,53 @@ fn addresses(cases: &mut Cases) {
             widths[place] = width;
             let image = two_ports(widths, [8; 2], [8; 2]);
             cases.image(format!("memory, address {place} of width {width}"), &image);
+        }
+    }
+}
+
+/// The word width beside read data of 8 bits, alone and with each other fault
+/// that a memory can have; and beside read data of other widths, or of none.
+fn word_widths(cases: &mut Cases) {
+    use memory_field::*;
+    for width in [0, 1, 7, 8, 9, 256 + 8, 1024, 1025, 0x8000_0008, ABSENT] {
+        changed(cases, format!("word width {width}"), |memory| {
+            memory[WORD_WIDTH] = width
+        });
+        for (field, value) in [
+            (0, ABSENT),
+            (1, 0),
+            (DEPTH, 0),
+            (STYLE, 3),
+            (LATENCY, 2),
+            (FIRST_PORT, ABSENT),
+            (FIRST_PORT + port_field::READ_DATA, ABSENT),
+            (HAS_SECOND, 2),
+            (SECOND_PORT + port_field::READ_DATA, ABSENT),
+        ] {
+            changed(
+                cases,
+                format!("word width {width}, field {field} is {value}"),
+                |memory| {
+                    memory[WORD_WIDTH] = width;
+                    memory[field] = value;
+                },
+            );
+        }
+    }
+    for read in [1, 2, 7, 8, 9, 1023, 1024] {
+        for width in [read - 1, read, read + 1, 16] {
+            let mut image = two_ports([2; 4], [read; 2], [read; 2]);
+            image.memories[0][WORD_WIDTH] = width;
+            let name = format!("memory, word width {width}, data of width {read}");
+            cases.image(name, &image);
+        }
+    }
+    for (read, written) in [([8, 9], [8, 9]), ([9, 8], [9, 8]), ([8, 8], [9, 9]), ([9, 9], [8, 8])] {
+        for width in [8, 9] {
+            let mut image = two_ports([2; 4], read, written);
+            image.memories[0][WORD_WIDTH] = width;
+            let name = format!("memory, word width {width}, reads {read:?}, writes {written:?}");
+            cases.image(name, &image);
         }
     }
 }
@@ -141,7 +193,7 @@ fn data_in_groups(cases: &mut Cases) {
 fn data_of_one_port(cases: &mut Cases) {
     for (read, write) in [(7, 8), (8, 7), (1, 2), (2, 1), (1023, 1024), (1024, 1024)] {
         let mut image = two_ports([2; 4], [read, 8], [write, 8]);
-        image.memories[0][15..].fill(0);
+        image.memories[0][memory_field::HAS_SECOND..].fill(0);
         let name = format!("memory of one port, reads {read} bits, writes {write}");
         cases.image(name, &image);
     }
@@ -149,12 +201,14 @@ fn data_of_one_port(cases: &mut Cases) {
 
 /// Absent in every field, and what must be 0 beside an absent control.
 fn absent(cases: &mut Cases) {
-    for field in 0..26 {
+    for field in 0..MEMORY_FIELDS {
         changed(cases, format!("field {field} absent"), |memory| {
             memory[field] = ABSENT
         });
     }
-    for (enable, level) in [(7, 8), (18, 19)] {
+    for port in [memory_field::FIRST_PORT, memory_field::SECOND_PORT] {
+        let enable = port + port_field::READ_ENABLE;
+        let level = enable + 1;
         for value in [0, 1, 2, ABSENT] {
             changed(
                 cases,
@@ -180,19 +234,19 @@ fn absent(cases: &mut Cases) {
 fn second_port(cases: &mut Cases) {
     for present in [0, 1, 2, ABSENT] {
         changed(cases, format!("second port is {present}"), |memory| {
-            memory[15] = present
+            memory[memory_field::HAS_SECOND] = present
         });
     }
     changed(cases, "no second port".to_string(), |memory| {
-        memory[15..].fill(0)
+        memory[memory_field::HAS_SECOND..].fill(0)
     });
-    for field in 16..26 {
+    for field in memory_field::SECOND_PORT..MEMORY_FIELDS {
         for value in [1, 2, ABSENT] {
             changed(
                 cases,
                 format!("no second port but field {field} is {value}"),
                 |memory| {
-                    memory[15..].fill(0);
+                    memory[memory_field::HAS_SECOND..].fill(0);
                     memory[field] = value;
                 },
             );
