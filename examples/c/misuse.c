@@ -17,7 +17,7 @@ static void expect(const char *what, uint32_t got, uint32_t wanted)
 }
 
 /* The image without records: its header alone. */
-static const uint8_t empty[64] = {1, 0, 0, 0, 64, 0, 0, 0, 0, 0, 0, 0, 64, 0, 0, 0, 0, 0, 0, 0, 64, 0, 0, 0, 0, 0, 0, 0, 64, 0, 0, 0,
+static const uint8_t empty[64] = {2, 0, 0, 0, 64, 0, 0, 0, 0, 0, 0, 0, 64, 0, 0, 0, 0, 0, 0, 0, 64, 0, 0, 0, 0, 0, 0, 0, 64, 0, 0, 0,
                                   0, 0, 0, 0, 64, 0, 0, 0, 0, 0, 0, 0, 64, 0, 0, 0, 0, 0, 0, 0, 64, 0, 0, 0, 0, 0, 0, 0, 64, 0, 0, 0};
 
 static uint32_t netlist[ROOM], scratch[ROOM], answer[ROOM];

@@ -1,8 +1,10 @@
 //! Subjects with a deliberate fault, for the self-test.
 
 use crate::limits::Limits;
+use crate::run::with_word_widths;
 use crate::subject::{Subject, Witness};
 use crate::{Answer, ACCEPTED};
+use image::from_edition_1;
 
 /// What is wrong with a subject.
 #[derive(Clone, Copy, Debug, PartialEq, Eq)]
@@ -11,6 +13,10 @@ pub enum Fault {
     ExpressionPlace,
     /// Names that do not end at the total are blamed on field 15.
     NamesEndPlace,
+    /// A memory's word width is not looked at.
+    WordWidth,
+    /// Edition 1 is still read.
+    EditionOne,
     /// A scratch one word short is taken.
     ShortScratch,
     /// The net limit 65,536 is taken.
@@ -33,7 +39,14 @@ pub enum Fault {
     UnclearedNetlist,
 }
 
-pub const CHECK_FAULTS: [Fault; 4] = [Fault::ExpressionPlace, Fault::NamesEndPlace, Fault::ShortScratch, Fault::NetLimit];
+pub const CHECK_FAULTS: [Fault; 6] = [
+    Fault::ExpressionPlace,
+    Fault::NamesEndPlace,
+    Fault::WordWidth,
+    Fault::EditionOne,
+    Fault::ShortScratch,
+    Fault::NetLimit,
+];
 
 pub const LOWER_FAULTS: [Fault; 8] = [
     Fault::LoopAsUndriven,
@@ -57,7 +70,12 @@ impl Subject for Faulty {
             Fault::NetLimit if limits.n == 65_536 => limits.n = 65_535,
             _ => {}
         }
-        let answer = Witness.check(image, &limits);
+        let other = match self.0 {
+            Fault::WordWidth => Some(with_word_widths(image)),
+            Fault::EditionOne => from_edition_1(image).map(|image| image.encode()),
+            _ => None,
+        };
+        let answer = Witness.check(other.as_deref().unwrap_or(image), &limits);
         match (self.0, answer) {
             (Fault::ExpressionPlace, [4, 1, record]) => [4, 1, record + 1],
             (Fault::NamesEndPlace, [3, 14, 0]) => [3, 15, 0],

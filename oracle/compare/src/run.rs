@@ -6,7 +6,7 @@ use crate::limits::{for_check, for_lower, Recipe, Taken};
 use crate::shrunk::Shrunk;
 use crate::subject::Subject;
 use crate::Answer;
-use image::Random;
+use image::{Image, Random};
 use std::fmt;
 
 /// Which images are compared.
@@ -18,12 +18,13 @@ pub struct Plan {
     pub size: SizeChoice,
 }
 
-/// What was compared: images, and calls by outcome (0 accepted, 1 to 10). Of
-/// lowered images the adders that are narrowed, and those that are by the rows
-/// of Or and Xor.
+/// What was compared: images, those in which only word widths of memories are
+/// wrong, and calls by outcome (0 accepted, 1 to 10). Of lowered images the
+/// adders that are narrowed, and those that are by the rows of Or and Xor.
 #[derive(Clone, Debug, Default, PartialEq, Eq)]
 pub struct Tally {
     pub images: u64,
+    pub word_widths: u64,
     pub outcomes: [u64; 11],
     pub narrowed: u64,
     pub by_rows: u64,
@@ -32,6 +33,14 @@ pub struct Tally {
 impl Tally {
     pub(crate) fn count(&mut self, answer: Answer) {
         self.outcomes[answer[0] as usize] += 1;
+    }
+
+    /// An image that would pass 3 and 4 with the read data's widths.
+    fn count_word_widths(&mut self, image: &[u8]) {
+        let with_widths = with_word_widths(image);
+        if with_widths != image && reference::scratch_words(&with_widths, 1).is_some() {
+            self.word_widths += 1;
+        }
     }
 
     /// Adders of an image that passes 3 and 4.
@@ -54,6 +63,9 @@ impl fmt::Display for Tally {
         write!(f, "{} images, {} calls: accepted {}", self.images, self.calls(), self.outcomes[0])?;
         for (number, count) in self.outcomes.iter().enumerate().skip(1) {
             write!(f, ", refused {number}: {count}")?;
+        }
+        if self.word_widths > 0 {
+            write!(f, "; {} images wrong by a word width alone", self.word_widths)?;
         }
         if self.narrowed > 0 {
             write!(f, "; {} adders narrowed, {} of them by the rows of Or and Xor", self.narrowed, self.by_rows)?;
@@ -86,6 +98,7 @@ pub fn run(subject: &dyn Subject, what: What, plan: &Plan) -> Result<Tally, Box<
         let case = case(&mut random, number, what, plan.size);
         let taken = taken(what, &case.image);
         tally.images += 1;
+        tally.count_word_widths(&case.image);
         if what == What::Lower {
             tally.count_adders(&case.image);
         }
@@ -112,6 +125,13 @@ fn recipes(what: What, case: &Case, random: &mut Random) -> Vec<Recipe> {
     }
     recipes.extend(case.limits.as_ref().map(Recipe::given));
     recipes
+}
+
+/// The image with the read data's widths as word widths of its memories.
+pub(crate) fn with_word_widths(image: &[u8]) -> Vec<u8> {
+    let Some(mut decoded) = Image::decode(image) else { return image.to_vec() };
+    decoded.set_word_widths();
+    decoded.encode()
 }
 
 /// One way to call the subject, for the image found and those shrunk from it.

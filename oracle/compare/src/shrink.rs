@@ -453,7 +453,7 @@ fn absent_from(image: &Image, place: usize) -> Option<Image> {
 
 #[cfg(test)]
 mod tests {
-    use super::shrink;
+    use super::{shrink, WORD_WIDTH};
     use image::{kind, Builder, Image};
 
     fn wide_image() -> Image {

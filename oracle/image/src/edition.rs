@@ -33,9 +33,7 @@ pub fn from_edition_1(bytes: &[u8]) -> Option<Image> {
         set_word(&mut bytes, field, header[field].wrapping_add(4 * count as u32));
     }
     let mut image = Image::decode(&bytes)?;
-    for memory in 0..count {
-        image.memories[memory][memory_field::WORD_WIDTH] = image.read_data_width(&image.memories[memory]);
-    }
+    image.set_word_widths();
     Some(image)
 }
 

@@ -191,6 +191,14 @@ impl Image {
         signal.map_or(0, |signal| signal[2])
     }
 
+    /// Gives each memory the width of its read data as word width.
+    pub fn set_word_widths(&mut self) {
+        for memory in 0..self.memories.len() {
+            let width = self.read_data_width(&self.memories[memory]);
+            self.memories[memory][memory_field::WORD_WIDTH] = width;
+        }
+    }
+
     pub fn signal_bits(&self) -> usize {
         self.signals.iter().map(|signal| signal[2] as usize).sum()
     }

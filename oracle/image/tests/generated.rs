@@ -183,9 +183,7 @@ fn damage_reaches_the_word_width() {
             continue;
         };
         let mut mended = damaged.clone();
-        for memory in &mut mended.memories {
-            memory[memory_field::WORD_WIDTH] = damaged.read_data_width(memory);
-        }
+        mended.set_word_widths();
         let answer = check(&damaged.encode(), usize::MAX);
         if check(&mended.encode(), usize::MAX)[0] == 0 && answer[0] != 0 {
             assert_eq!(answer[..2], [4, 5], "seed {seed}");
