@@ -3,7 +3,8 @@
  * `rt staticlib struo` writes target/staticlib/libstruo.a, for x86-64 Linux. The functions call nothing of the C library, ask for no
  * memory and keep nothing between calls, so threads may call them at the same time. Each is proved to end, and to keep its contract,
  * for all bytes, limits and buffer lengths. The contracts stand in crates/struo/src/lib.rt and crates/meaning/specs/Promise.antt; here
- * they are in words. The formats are document 01's, the module image in edition 2, where a memory's record has its word width (document 02).
+ * they are in words. The formats are document 01's, with edition 2 of the module image, where a memory's record has its word width
+ * (document 02).
  *
  * Nothing is asked of the image's bytes: any bytes are answered.
  *

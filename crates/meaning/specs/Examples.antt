@@ -1,6 +1,6 @@
 -- Demand 3 is no empty claim. The smallest image, y = ~a: its checks, listing, module; demand 3 holds for its netlist words and
 -- fails for words in which the output reads a where it should read ~a. A register: a netlist right at the start only fails it.
-use Prim.Native.Nat.{ℕ, zero, suc, _+_}
+use Prim.Native.Nat.{ℕ, zero, suc}
 use mathlib.Core.Path.{_≡_, refl, sym, ap, _∙_, fun-ext}
 use mathlib.Core.Bool.{Bool, true, false}
 use mathlib.Core.List.{List, [], _∷_}

@@ -1,10 +1,9 @@
 -- The module image of document 01: its fields, header, sections and records, and the module that it stands for.
 -- Readers are total: a byte past the end is 0. Assumes nothing.
-use Prim.Native.Nat.{ℕ, zero, suc, _+_, _*_, _^_, _/_, _%_}
-use mathlib.Core.Bool.{Bool, true, false}
+use Prim.Native.Nat.{ℕ, _+_, _*_, _^_, _/_, _%_}
 use mathlib.Core.List.{List, [], _∷_}
 use mathlib.Core.Option.{Option, none, some}
-use lib.ListN.{length, take, drop, getD}
+use lib.ListN.{take, drop, getD}
 use Rattle.rtl.specs.Rtl as R
 use Rattle.rtl.specs.Rtl.{Module}
 use Rattle.rules.specs.Rules.{_≡?_, pick, sumTo, listOf}

@@ -1,9 +1,8 @@
 -- The listing program's text, from the bytes it read, the answer for them and the netlist words. Assumes nothing.
-use Prim.Native.Nat.{ℕ, zero, suc, _+_, _*_, _-_, _/_, _%_}
+use Prim.Native.Nat.{ℕ, zero, suc, _+_, _-_, _/_, _%_}
 use Prim.Native.String as Str
 use Prim.Native.String.{String}
-use Prim.Native.Char.{Char, code}
-use mathlib.Core.Bool.{Bool, true, false}
+use Prim.Native.Char.{code}
 use mathlib.Core.List.{List, [], _∷_, _++_, map}
 use lib.ListN.{take, drop, getD, replicate}
 use Rattle.rtl.specs.Rtl.{Module}

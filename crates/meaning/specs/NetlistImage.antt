@@ -1,12 +1,12 @@
 -- The netlist image of document 01, read from its words alone: nodes, list records, and the netlist that they make.
 -- Readers are total: a word past the end is 0. Assumes nothing.
 use Prim.Native.Nat.{ℕ, zero, suc, _+_, _*_}
-use mathlib.Core.Bool.{Bool, true, false, not}
+use mathlib.Core.Bool.{Bool, false, not}
 use mathlib.Core.List.{List, [], _∷_, map}
 use mathlib.Core.Option.{Option, none, some}
 use lib.ListN.{length, take, drop, getD}
 use Rattle.rtl.specs.Rtl.{Control, Register}
-use Rattle.rules.specs.Rules.{_<?_, _≡?_, _≢?_, _or_, _and_, pick, any, listOf, only}
+use Rattle.rules.specs.Rules.{_<?_, _≡?_, _≢?_, _or_, pick, any, listOf, only}
 use Rattle.meaning.specs.Image.{optional, controlOf, registerOf}
 
 -- a node, in `NodeKind`'s order; nets are numbers. An output node's signal and bit are read by `notOutput`

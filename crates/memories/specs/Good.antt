@@ -12,7 +12,7 @@ use Rattle.names.specs.Names.{wrongName}
 use Rattle.shared.specs.Tests.{pick-yes, pick-no}
 use Rattle.shared.specs.Good.{GoodBit, GoodValue, GoodControl, GoodOptional, is-signal, is-expr, good-bit, good-value, good-control, all-zero, good-optional}
 use Rattle.drivers.specs.Good.{Undriven, undriven}
-use Rattle.memories.specs.Memory.{badRead, badWrite, badRest, port-halves, name-or-rest}
+use Rattle.memories.specs.Memory.{badRead, badWrite, badShape, badRest, port-halves, name-or-rest}
 
 -- expression e is there and 1 to 32 wide
 pub record GoodAddress (s : List ℕ) (e : ℕ) : Type 0 where
@@ -92,26 +92,26 @@ good-second s r k w h = record {
 pub record GoodRest (s : List ℕ) (r w : ℕ) : Type 0 where
   pub depth-least : 1 ≤ field s 5 r 2
   pub depth-most : field s 5 r 2 ≤ 65536
+  pub word : field s 5 r wordWidth ≡ w
   pub style : field s 5 r styleField ≤ 2
   pub latency : field s 5 r latencyField ≡ 1
-  pub word : field s 5 r wordWidth ≡ w
   pub first-port : GoodPort s r firstPort w
   pub second-port : GoodSecond s r (field s 5 r hasSecond) w
 
 pub good-rest : (s : List ℕ) (r : ℕ) → badRest s r ≡ false → GoodRest s r (signalWidth s (field s 5 r (firstPort + 1)))
-unfolding badRest
+unfolding badShape badRest
 good-rest s r h =
-    let b = or-no (or-no h .1) in
+    let a = or-no (or-no h .0) in
+    let b = or-no (a .1) in
     let c = or-no (b .1) in
-    let g = or-no (c .1) in
-    let d = or-no (g .1) in
-    let i = inside _ _ _ (or-no h .0) in
+    let d = or-no (or-no h .1) in
+    let i = inside _ _ _ (a .0) in
     record {
       depth-least = i .0;
       depth-most = i .1;
-      style = no-lt _ _ (b .0);
-      latency = no-ne _ _ (c .0);
-      word = no-ne _ _ (g .0);
+      word = no-ne _ _ (b .0);
+      style = no-lt _ _ (c .0);
+      latency = no-ne _ _ (c .1);
       first-port = good-port s r firstPort _ (d .0);
       second-port = good-second s r _ _ (d .1);
     }

@@ -1,8 +1,8 @@
--- The rules of a memory but for its name, a port in two halves: where either is first broken is the earlier of two places.
+-- The rules of a memory but for its name, in parts, a port in two halves: where name or rest is first broken is the earlier of two places.
 use Prim.Native.Nat.{ℕ, _+_, _<_}
 use mathlib.Core.Bool.{Bool, false}
 use mathlib.Core.List.{List}
-use mathlib.Core.Path.{_≡_, sym}
+use mathlib.Core.Path.{_≡_}
 use Rattle.rules.specs.Rules.{_<?_, _≢?_, _or_, outside, first}
 use Rattle.rules.specs.Laws.{or-no}
 use Rattle.meaning.specs.Image.{countAt, field, signalWidth, wordWidth, styleField, latencyField, firstPort, hasSecond}
@@ -31,18 +31,22 @@ pub port-halves : (s : List ℕ) (r f w : ℕ) → (badRead s r f w (field s 5 r
 unfolding badRead badWrite badPort
 port-halves s r f w = simp or-assoc
 
-unfoldable pub badRest : List ℕ → ℕ → Bool
-badRest s r =
+-- its depth, word width, style and latency, where the read data have w bits
+unfoldable pub badShape : List ℕ → ℕ → ℕ → Bool
+badShape s r w =
     outside (field s 5 r 2) 1 65536
+    or field s 5 r wordWidth ≢? w
     or 2 <? field s 5 r styleField
     or field s 5 r latencyField ≢? 1
-    or field s 5 r wordWidth ≢? signalWidth s (field s 5 r (firstPort + 1))
-    or badPort s r firstPort (signalWidth s (field s 5 r (firstPort + 1)))
-    or badSecond s r (field s 5 r hasSecond) (signalWidth s (field s 5 r (firstPort + 1)))
+
+unfoldable pub badRest : List ℕ → ℕ → Bool
+badRest s r =
+    let w = signalWidth s (field s 5 r (firstPort + 1)) in
+    badShape s r w or badPort s r firstPort w or badSecond s r (field s 5 r hasSecond) w
 
 pub name-or-rest : (s : List ℕ) (r : ℕ) → badMemory s r ≡ (wrongName s 5 r or badRest s r)
-unfolding badMemory wrongName badRest
-name-or-rest s r = sym (or-assoc _ _ _)
+unfolding badMemory wrongName badShape badRest
+name-or-rest s r = simp or-assoc
 
 pub first-earlier : (s : List ℕ) (n : ℕ) → first (badMemory s) n ≡ earlierOf (first (wrongName s 5) n) (first (badRest s) n)
 first-earlier s n = first-either _ _ _ n (name-or-rest s)

@@ -7,7 +7,7 @@ ghost use Rattle.rules.specs.Rules.{first};
 ghost use Rattle.meaning.specs.Image.{countAt};
 ghost use Rattle.meaning.specs.Checks.{badAddress, badPort, badSecond, badMemory};
 ghost use Rattle.drivers.specs.Bits.{Firsts, Marks};
-ghost use Rattle.memories.specs.Memory.{badRead, badWrite, badRest};
+ghost use Rattle.memories.specs.Memory.{badRead, badWrite, badShape, badRest};
 
 // Expression e is not there or no address.
 fn bad_address(s: &[u8], e: u32) -> bool
@@ -89,22 +89,29 @@ fn bad_second(s: &[u8], firsts: &[u32], taken: &[u8], r: u32, k: u32, w: u32) ->
         == fields::record_field(s, 5, r, fields::FIRST_DATA)
 }
 
-// Memory r but for its name.
-fn bad_rest(s: &[u8], firsts: &[u32], taken: &[u8], r: u32) -> bool
-    requires { ⌜ (Firsts (now s) (now firsts)) × (Marks (now s) (countAt (now s) 3) (countAt (now s) 4) r (now taken)) ⌝ }
-    ensures { λ b. ⌜ b ≡ badRest (now (s .entry)) r ⌝ }
+// The depth, word width, style and latency of memory r, whose read data have w bits.
+fn bad_shape(s: &[u8], r: u32, w: u32) -> bool
+    ensures { λ b. ⌜ b ≡ badShape (now (s .entry)) r w ⌝ }
 {
     if fields::is_outside(fields::record_field(s, 5, r, 2), 1, 65536) {
+        return true;
+    }
+    if fields::record_field(s, 5, r, fields::WORD_WIDTH) != w {
         return true;
     }
     if 2 < fields::record_field(s, 5, r, fields::STYLE) {
         return true;
     }
-    if fields::record_field(s, 5, r, fields::LATENCY) != 1 {
-        return true;
-    }
+    fields::record_field(s, 5, r, fields::LATENCY) != 1
+}
+
+// Memory r but for its name.
+fn bad_rest(s: &[u8], firsts: &[u32], taken: &[u8], r: u32) -> bool
+    requires { ⌜ (Firsts (now s) (now firsts)) × (Marks (now s) (countAt (now s) 3) (countAt (now s) 4) r (now taken)) ⌝ }
+    ensures { λ b. ⌜ b ≡ badRest (now (s .entry)) r ⌝ }
+{
     let w = fields::signal_width(s, fields::record_field(s, 5, r, fields::FIRST_DATA));
-    if fields::record_field(s, 5, r, fields::WORD_WIDTH) != w {
+    if bad_shape(s, r, w) {
         return true;
     }
     if bad_port(s, firsts, taken, r, fields::FIRST_PORT, w) {
