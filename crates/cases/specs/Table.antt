@@ -1,8 +1,8 @@
 -- Document 01's bench cases K1 to K12 and its listing example, computed by the checker from the images' bytes: what the call
 -- answers, how many nets it makes, which arithmetic cells. K3, K4 and K10 stand twice: as written, where constant operands fold
 -- (docs/DIFFERENCES.md, 1), and primed, with operands that have those values but no constant nets. Then cases of document 02, Q-5 and Q-1,
--- and two laws of Q-1 for every image.
-use Prim.Native.Nat.{ℕ, _+_}
+-- and that every image of another edition is refused.
+use Prim.Native.Nat.{ℕ}
 use mathlib.Core.Path.{_≡_, refl, sym, ap}
 use mathlib.Core.Bool.{Bool, true, false, cond}
 use mathlib.Core.List.{List, [], _∷_, map}
@@ -13,7 +13,7 @@ use Rattle.rtl.specs.Word.{value}
 use Rattle.rtl.specs.Ops.{tab}
 use Rattle.meaning.specs.Step.{Contents, Machine, ofModule, ofNetlist, perhaps}
 use Rattle.rules.specs.Rules as Rules
-use Rattle.rules.specs.Laws.{pick-hit, pick-skip, or-hit, eq-yes, ne-yes, lt-yes, begins, found}
+use Rattle.rules.specs.Laws.{pick-hit, pick-skip, eq-yes, ne-yes, lt-yes, begins, found}
 use Rattle.meaning.specs.Image as Image
 use Rattle.meaning.specs.Checks as Checks
 use Rattle.meaning.specs.NetlistImage as NetlistImage
@@ -164,16 +164,6 @@ memory-width-wrong = refl
 pub edition-1 : shown Images.edition1 12 48 ≡ refused 3 0 0
 unfolding computing
 edition-1 = refl
-
-later : {b : Bool} (a : Bool) → b ≡ true → Rules._or_ a b ≡ true
-unfolding Rules._or_
-later true e = refl
-later false e = e
-
--- whatever else a memory holds: with another word width than its read data's it breaks a rule
-pub other-width : (s : List ℕ) (r : ℕ) → (Image.field s 5 r Image.wordWidth ≡ Image.signalWidth s (Image.field s 5 r (Image.firstPort + 1)) → ⊥) → Checks.badMemory s r ≡ true
-unfolding Checks.badMemory
-other-width s r h = later _ (later _ (later _ (sym (or-hit _ (ne-yes _ _ h)))))
 
 -- whatever else an image holds, and however short it is: another edition is refused at field 0
 wrong-edition : (s : List ℕ) → (Image.wordAt s 0 ≡ 2 → ⊥) → Checks.firstField s ≡ 0

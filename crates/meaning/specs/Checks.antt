@@ -1,10 +1,10 @@
--- Refusals 1 to 5 of document 01. Each rule is a test that is true where the rule is broken. Assumes nothing.
+-- Refusals 1 to 5 of document 01, for document 02's edition 2. Each rule is a test that is true where the rule is broken. Assumes nothing.
 use Prim.Native.Nat.{ℕ, _+_, _*_, _-_, _/_, _%_}
 use mathlib.Core.Bool.{Bool, true, not}
 use mathlib.Core.List.{List}
 use lib.ListN.{length, getD}
 use Rattle.rules.specs.Rules.{_<?_, _≡?_, _≢?_, _or_, _and_, pick, outside, first, any, sumTo, sameText, Answer, Fine, Refused, andThen}
-use Rattle.meaning.specs.Image.{absent, wordAt, mostOf, countAt, offsetAt, startOf, field, listWord, nameOf, signalWidth, exprWidth, constantWords, wordWidth, styleField, latencyField, firstPort, hasSecond, secondPort}
+use Rattle.meaning.specs.Image.{absent, wordAt, mostOf, countAt, offsetAt, startOf, field, listWord, nameOf, signalWidth, exprWidth, constantWords, widthField, styleField, latencyField, firstPort, hasSecond, secondPort}
 
 -- ---- 3: the header ----
 
@@ -199,7 +199,7 @@ badMemory s r =
     let w = signalWidth s (field s 5 r (firstPort + 1)) in
     badName s 5 r or nameTaken s 5 r
     or outside (field s 5 r 2) 1 65536
-    or field s 5 r wordWidth ≢? w
+    or field s 5 r widthField ≢? w
     or 2 <? field s 5 r styleField
     or field s 5 r latencyField ≢? 1
     or badPort s r firstPort w

@@ -1,4 +1,4 @@
--- The module image of document 01: its fields, header, sections and records, and the module that it stands for.
+-- The module image of document 01, in document 02's edition 2: its fields, header, sections and records, and the module that it stands for.
 -- Readers are total: a byte past the end is 0. Assumes nothing.
 use Prim.Native.Nat.{ℕ, _+_, _*_, _^_, _/_, _%_}
 use mathlib.Core.List.{List, [], _∷_}
@@ -58,8 +58,8 @@ unfoldable pub exprWidth : List ℕ → ℕ → ℕ
 exprWidth s r = field s 1 r 1
 
 -- a memory's 27 fields: name, depth, then these; ten fields make a port
-abbrev pub wordWidth : ℕ
-wordWidth = 3
+abbrev pub widthField : ℕ
+widthField = 3
 
 abbrev pub styleField : ℕ
 styleField = 4

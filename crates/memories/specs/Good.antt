@@ -6,7 +6,7 @@ use mathlib.Core.Path.{_≡_, refl, sym, _∙_}
 use native.Mathlib.Omega.{arith}
 use Rattle.rules.specs.Rules.{_≡?_, first}
 use Rattle.rules.specs.Laws.{or-no, no-lt, no-eq, no-ne, yes-eq, eq-yes, eq-no, inside, none as first-none}
-use Rattle.meaning.specs.Image.{countAt, field, signalWidth, exprWidth, wordWidth, styleField, latencyField, firstPort, hasSecond, secondPort}
+use Rattle.meaning.specs.Image.{countAt, field, signalWidth, exprWidth, widthField, styleField, latencyField, firstPort, hasSecond, secondPort}
 use Rattle.meaning.specs.Checks.{badName, nameTaken, badAddress, badPort, badSecond, badMemory}
 use Rattle.names.specs.Names.{wrongName}
 use Rattle.shared.specs.Tests.{pick-yes, pick-no}
@@ -92,7 +92,7 @@ good-second s r k w h = record {
 pub record GoodRest (s : List ℕ) (r w : ℕ) : Type 0 where
   pub depth-least : 1 ≤ field s 5 r 2
   pub depth-most : field s 5 r 2 ≤ 65536
-  pub word : field s 5 r wordWidth ≡ w
+  pub word : field s 5 r widthField ≡ w
   pub style : field s 5 r styleField ≤ 2
   pub latency : field s 5 r latencyField ≡ 1
   pub first-port : GoodPort s r firstPort w

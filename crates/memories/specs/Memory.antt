@@ -5,7 +5,7 @@ use mathlib.Core.List.{List}
 use mathlib.Core.Path.{_≡_}
 use Rattle.rules.specs.Rules.{_<?_, _≢?_, _or_, outside, first}
 use Rattle.rules.specs.Laws.{or-no}
-use Rattle.meaning.specs.Image.{countAt, field, signalWidth, wordWidth, styleField, latencyField, firstPort, hasSecond}
+use Rattle.meaning.specs.Image.{countAt, field, signalWidth, widthField, styleField, latencyField, firstPort, hasSecond}
 use Rattle.meaning.specs.Checks.{noSignal, badBit, badControl, badOptional, badValue, driven, badAddress, badPort, badSecond, badMemory}
 use Rattle.names.specs.Names.{wrongName}
 use Rattle.shared.specs.Good.{is-signal}
@@ -35,7 +35,7 @@ port-halves s r f w = simp or-assoc
 unfoldable pub badShape : List ℕ → ℕ → ℕ → Bool
 badShape s r w =
     outside (field s 5 r 2) 1 65536
-    or field s 5 r wordWidth ≢? w
+    or field s 5 r widthField ≢? w
     or 2 <? field s 5 r styleField
     or field s 5 r latencyField ≢? 1
 

@@ -219,16 +219,7 @@ fn the_listing_names_all_sorts() {
     let sum = b.binary(ADD, d, e);
     let less = b.binary(LESS_SIGNED, sum, a);
     b.register("r", [q, less, clock, 1, ABSENT, 0, ABSENT, 0, 0, 0]);
-    let port = |read_data| Port {
-        read_address: a,
-        read_data,
-        read_enable: (ABSENT, 0),
-        write_address: a,
-        write_data: a,
-        write_enable: (clock, 1),
-        clock,
-        edge: 0,
-    };
+    let port = |read_data| plain_port(a, read_data, a, (clock, 1), clock);
     b.memory("m", 4, &port(first), Some(&port(second)));
     let text = "\
 nets 12 list 86

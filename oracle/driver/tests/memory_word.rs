@@ -13,16 +13,7 @@ fn memory(read: u32, written: u32) -> Vec<u8> {
     let address = b.input_read("a", 2);
     let data = b.input_read("d", read);
     let (first, second) = (b.signal("q", read, OUTPUT), b.signal("r", read, OUTPUT));
-    let port = |read_data| Port {
-        read_address: address,
-        read_data,
-        read_enable: (ABSENT, 0),
-        write_address: address,
-        write_data: data,
-        write_enable: (clock, 0),
-        clock,
-        edge: 0,
-    };
+    let port = |read_data| plain_port(address, read_data, data, (clock, 0), clock);
     b.memory("m", 4, &port(first), Some(&port(second)));
     b.memories[0][3] = written;
     b.image()

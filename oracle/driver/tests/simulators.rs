@@ -207,16 +207,8 @@ fn both_ports_write_one_word() {
     let address = b.read(far);
     let zero = b.constant(1, 0);
     let (d, e) = (b.signal("d", 1, OUTPUT), b.signal("e", 1, OUTPUT));
-    let port = |read_data, write_data| Port {
-        read_address: address,
-        read_data,
-        read_enable: (ABSENT, 0),
-        write_address: address,
-        write_data,
-        write_enable: (always, 0),
-        clock,
-        edge: 0,
-    };
+    let port =
+        |read_data, write_data| plain_port(address, read_data, write_data, (always, 0), clock);
     b.memory("m", 1, &port(d, one), Some(&port(e, zero)));
     let image = b.image();
     let module = ModuleSim::new(&image).expect("a readable image");

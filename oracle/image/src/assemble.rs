@@ -241,7 +241,7 @@ impl Assembler {
             1
         };
         words.keyword("port")?;
-        record[memory_field::FIRST_PORT..][..10].copy_from_slice(&self.port(words)?);
+        record[memory_field::FIRST_PORT..memory_field::HAS_SECOND].copy_from_slice(&self.port(words)?);
         if words.take("port") {
             record[memory_field::HAS_SECOND] = 1;
             record[memory_field::SECOND_PORT..].copy_from_slice(&self.port(words)?);

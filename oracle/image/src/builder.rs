@@ -236,7 +236,7 @@ impl Builder {
         record[memory_field::WORD_WIDTH] = self.signal_width(memory.first.read_data);
         record[memory_field::STYLE] = memory.style;
         record[memory_field::LATENCY] = 1;
-        record[memory_field::FIRST_PORT..][..10].copy_from_slice(&port_fields(&memory.first));
+        record[memory_field::FIRST_PORT..memory_field::HAS_SECOND].copy_from_slice(&port_fields(&memory.first));
         if let Some(second) = &memory.second {
             record[memory_field::HAS_SECOND] = 1;
             record[memory_field::SECOND_PORT..].copy_from_slice(&port_fields(second));

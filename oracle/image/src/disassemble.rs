@@ -310,7 +310,7 @@ impl Writer<'_> {
         if record[memory_field::LATENCY] != 1 {
             rest += &format!(" latency {}", record[memory_field::LATENCY]);
         }
-        rest += &self.port(&record[memory_field::FIRST_PORT..][..10]);
+        rest += &self.port(&record[memory_field::FIRST_PORT..memory_field::HAS_SECOND]);
         if record[memory_field::HAS_SECOND] == 1 {
             rest += &self.port(&record[memory_field::SECOND_PORT..]);
         }

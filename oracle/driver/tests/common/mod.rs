@@ -61,6 +61,26 @@ impl Port {
     }
 }
 
+/// A port with one address, without read enable, on the rising edge.
+pub fn plain_port(
+    address: u32,
+    read_data: u32,
+    write_data: u32,
+    write_enable: (u32, u32),
+    clock: u32,
+) -> Port {
+    Port {
+        read_address: address,
+        read_data,
+        read_enable: (ABSENT, 0),
+        write_address: address,
+        write_data,
+        write_enable,
+        clock,
+        edge: 0,
+    }
+}
+
 impl Builder {
     fn name(&mut self, name: &str) -> (u32, u32) {
         let offset = self.names.len() as u32;

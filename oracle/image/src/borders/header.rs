@@ -21,7 +21,7 @@ pub fn add(cases: &mut Cases) {
 }
 
 /// The bytes of edition 1, and such bytes that say they are of edition 2: with a
-/// memory the names do not begin where its longer record ends.
+/// memory, whose record would be longer, the names do not end at the total.
 fn editions(cases: &mut Cases) {
     for (label, image) in [
         ("empty", Image::default()),

@@ -40,6 +40,7 @@ pub fn add(cases: &mut Cases) {
     }
     addresses(cases);
     word_widths(cases);
+    word_widths_of_data(cases);
     data(cases);
     absent(cases);
     second_port(cases);
@@ -97,8 +98,8 @@ fn addresses(cases: &mut Cases) {
     }
 }
 
-/// The word width beside read data of 8 bits, alone and with each other fault
-/// that a memory can have; and beside read data of other widths, or of none.
+/// The word width beside read data of 8 bits, alone and with another fault of
+/// the record, read data that name no signal among them.
 fn word_widths(cases: &mut Cases) {
     use memory_field::*;
     for width in [0, 1, 7, 8, 9, 256 + 8, 1024, 1025, 0x8000_0008, ABSENT] {
@@ -126,6 +127,11 @@ fn word_widths(cases: &mut Cases) {
             );
         }
     }
+}
+
+/// The word width beside data of other widths, and of widths that differ.
+fn word_widths_of_data(cases: &mut Cases) {
+    use memory_field::WORD_WIDTH;
     for read in [1, 2, 7, 8, 9, 1023, 1024] {
         for width in [read - 1, read, read + 1, 16] {
             let mut image = two_ports([2; 4], [read; 2], [read; 2]);
