@@ -54,9 +54,10 @@ enum struo_answer {
 #define STRUO_NETLIST_WORDS(n, p) ((size_t)16 + 6 * (size_t)(n) + (size_t)(p))
 
 /* Words that the scratch must have for net limit n and an image whose signals have signal_bits bits in all, whose expressions have
- * expression_bits bits in all, and that has so many expressions. */
+ * expression_bits bits in all, and that has so many expressions (document 02; document 01's sum has 2 * expression_bits, and a scratch of
+ * that length still serves). */
 #define STRUO_SCRATCH_WORDS(signal_bits, expression_bits, expressions, n) \
-    (4 * (size_t)(signal_bits) + 2 * (size_t)(expression_bits) + 8 * (size_t)(expressions) + 4 * (size_t)(n) + 64)
+    (4 * (size_t)(signal_bits) + (size_t)(expression_bits) + 8 * (size_t)(expressions) + 4 * (size_t)(n) + 64)
 
 /* Words of scratch that serve every image with net limit n. */
 #define STRUO_SCRATCH_MOST(n) STRUO_SCRATCH_WORDS(4096, 32768, 2048, n)

@@ -20,6 +20,17 @@ static void expect(const char *what, uint32_t got, uint32_t wanted)
 static const uint8_t empty[64] = {2, 0, 0, 0, 64, 0, 0, 0, 0, 0, 0, 0, 64, 0, 0, 0, 0, 0, 0, 0, 64, 0, 0, 0, 0, 0, 0, 0, 64, 0, 0, 0,
                                   0, 0, 0, 0, 64, 0, 0, 0, 0, 0, 0, 0, 64, 0, 0, 0, 0, 0, 0, 0, 64, 0, 0, 0, 0, 0, 0, 0, 64, 0, 0, 0};
 
+/* y = BitNot a, a and y of one bit: corpus/listing.txt. */
+static const uint8_t inverter[154] = {
+    2, 0, 0, 0, 154, 0, 0, 0, 2, 0, 0, 0, 64, 0, 0, 0, 2, 0, 0, 0, 96, 0, 0, 0, 0, 0, 0, 0, 136, 0, 0, 0,
+    1, 0, 0, 0, 136, 0, 0, 0, 0, 0, 0, 0, 152, 0, 0, 0, 0, 0, 0, 0, 152, 0, 0, 0, 2, 0, 0, 0, 152, 0, 0, 0,
+    0, 0, 0, 0, 1, 0, 0, 0, 1, 0, 0, 0, 1, 0, 0, 0, 1, 0, 0, 0, 1, 0, 0, 0, 1, 0, 0, 0, 2, 0, 0, 0,
+    0, 0, 0, 0, 1, 0, 0, 0, 0, 0, 0, 0, 0, 0, 0, 0, 0, 0, 0, 0, 2, 0, 0, 0, 1, 0, 0, 0, 0, 0, 0, 0,
+    0, 0, 0, 0, 0, 0, 0, 0, 1, 0, 0, 0, 0, 0, 0, 0, 1, 0, 0, 0, 1, 0, 0, 0, 'a', 'y'};
+
+/* What it needs with 3 nets. */
+enum { INVERTER_SCRATCH = STRUO_SCRATCH_WORDS(2, 2, 2, 3) };
+
 static uint32_t netlist[ROOM], scratch[ROOM], answer[ROOM];
 
 static void fill(void)
@@ -126,11 +137,25 @@ static void right_calls(void)
     expect("check, no bytes", answer[0], STRUO_FIELD);
 }
 
+/* The inverter with a scratch of so many words, and its answer's number. */
+static void inverted(const char *what, size_t scr_len, uint32_t wanted)
+{
+    const size_t net_len = STRUO_NETLIST_WORDS(3, 8);
+    fill();
+    expect(what, struo_try_lower(inverter, sizeof inverter, 3, 8, netlist, net_len, scratch, scr_len, answer), STRUO_CALLED);
+    expect(what, answer[0], wanted);
+    expect("inverter, scratch's last word", scratch[INVERTER_SCRATCH - 1], wanted == STRUO_ACCEPTED ? 0 : 0xa5a5a5a5);
+    expect("inverter, scratch word beyond", scratch[INVERTER_SCRATCH], 0xa5a5a5a5);
+}
+
 int main(void)
 {
     wrong_checks();
     wrong_lowerings();
     right_calls();
+    inverted("inverter, scratch one short", INVERTER_SCRATCH - 1, STRUO_SCRATCH_SHORT);
+    inverted("inverter, exact scratch", INVERTER_SCRATCH, STRUO_ACCEPTED);
+    inverted("inverter, longer scratch", ROOM, STRUO_ACCEPTED);
     printf("misuse: %s\n", failures == 0 ? "all found" : "FAILED");
     return failures != 0;
 }

@@ -43,7 +43,7 @@ pub fn netlist_words(n: u32, p: u32) -> usize {
 
 /// Words of scratch that serve every image.
 pub fn most_scratch_words(n: u32) -> usize {
-    4 * 4_096 + 2 * 32_768 + 8 * 2_048 + 4 * n as usize + 64
+    4 * 4_096 + 32_768 + 8 * 2_048 + 4 * n as usize + 64
 }
 
 /// Refusals 1 to 5, for buffers of so many words.

@@ -85,7 +85,7 @@ comparison-stands l q j b =
 
 -- ---- a cell that is found ----
 
-begins-is : (key r : List ℕ) → begins key r ≡ true → r ≡ key ++ drop (length key) r
+pub begins-is : (key r : List ℕ) → begins key r ≡ true → r ≡ key ++ drop (length key) r
 unfolding begins
 begins-is [] r e = refl
 begins-is (x ∷ key) [] e = let z : _≡_ {A = ℕ} 0 1 = cc in absurd (omega arith)

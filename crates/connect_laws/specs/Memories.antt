@@ -47,7 +47,7 @@ second-asked m (some p) g =
     let h = port-asked m p (g p refl) in
     asked-append m (wordSteps p ++ enableSteps p) (bitStep (p .clock)) (asked-append m (wordSteps p) (enableSteps p) (h .0) (h .1)) (tt, tt)
 
-steps-asked : (m : Module) (x : Memory) → GoodPort m (x .first) → ((q : Port) → x .second ≡ some q → GoodPort m q) → AllAsked m (memorySteps x)
+pub steps-asked : (m : Module) (x : Memory) → GoodPort m (x .first) → ((q : Port) → x .second ≡ some q → GoodPort m q) → AllAsked m (memorySteps x)
 steps-asked m x g h =
     let a = port-asked m (x .first) g in
     asked-append m (wordSteps (x .first) ++ bitStep (x .first .clock) ++ enableSteps (x .first)) (secondSteps (x .second))
@@ -61,7 +61,7 @@ pub record Ready (m : Module) (ob : Bool) (st : State) (p : Port) : Type 0 where
   pub write : AllAfter ob st (bitStep (p .writeEnable .signal))
   pub read : AllAfter ob st (controlSteps (p .readEnable))
 
-abbrev ReadySecond : Module → Bool → State → Option Port → Type 0
+abbrev pub ReadySecond : Module → Bool → State → Option Port → Type 0
 ReadySecond m ob st none = Unit {0}
 ReadySecond m ob st (some p) = Ready m ob st p
 
@@ -73,7 +73,7 @@ second-ready m ob st (some p) h =
     let c = after-append ob st (bitStep (p .writeEnable .signal)) (controlSteps (p .readEnable)) (b .1) in
     record { words = b .0; clock = a .1; write = c .0; read = c .1 }
 
-first-ready : (m : Module) (ob : Bool) (st : State) (x : Memory) → AllAfter ob st (memorySteps x) → Ready m ob st (x .first) × ReadySecond m ob st (x .second)
+pub first-ready : (m : Module) (ob : Bool) (st : State) (x : Memory) → AllAfter ob st (memorySteps x) → Ready m ob st (x .first) × ReadySecond m ob st (x .second)
 first-ready m ob st x h =
     let p = x .first in
     let a = after-append ob st (wordSteps p ++ bitStep (p .clock) ++ enableSteps p) (secondSteps (x .second)) h in
@@ -105,15 +105,15 @@ module _ (m : Module) (ob : Bool) (st : State) (i : Inv m st) where
       (optionControl st (p .readEnable)) (netControl st (p .writeEnable)) (signalNet st (p .clock) 0) (p .rising) rest (control-there m ob st i (p .readEnable) (h .read))
 
   -- a memory's record
-  abbrev wordsFor : ℕ → Memory → List ℕ
+  abbrev pub wordsFor : ℕ → Memory → List ℕ
   wordsFor k x = 2 ∷ k ∷ x .depth ∷ x .style ∷ 1 ∷ portsWords m st (x .first) (x .second)
 
-  record Recorded (k : ℕ) (x : Memory) : Type 0 where
+  pub record Recorded (k : ℕ) (x : Memory) : Type 0 where
     pub formed : Formed (wordsFor k x)
     pub index : memoryOf (wordsFor k x) .index ≡ k
     pub same : SameMemory m (st .netlist) (st .signalBits) x (memoryOf (wordsFor k x))
 
-  recorded : (k : ℕ) (x : Memory) → Ready m ob st (x .first) → ReadySecond m ob st (x .second) → Recorded k x
+  pub recorded : (k : ℕ) (x : Memory) → Ready m ob st (x .first) → ReadySecond m ob st (x .second) → Recorded k x
   recorded k x h g = go (x .second) refl g
     where
       at : (r : List ℕ) (o : Option Port) (s : Option N.MemoryPort) → x .second ≡ o → wordsFor k x ≡ r → Formed r

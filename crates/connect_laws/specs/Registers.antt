@@ -37,7 +37,7 @@ reset-asked : (m : Module) (o : Option Reset) → ((x : Reset) → o ≡ some x 
 reset-asked m none h = tt
 reset-asked m (some x) h = (h x refl, (tt, tt))
 
-steps-asked : (m : Module) (k : ℕ) (r : Register) → GoodRegister m k r → AllAsked m (registerSteps r)
+pub steps-asked : (m : Module) (k : ℕ) (r : Register) → GoodRegister m k r → AllAsked m (registerSteps r)
 steps-asked m k r g =
     asked-append m (wholes (r .next ∷ []) ++ bitStep (r .clock) ++ controlSteps (r .enable)) (resetSteps (r .reset))
     (asked-append m (wholes (r .next ∷ []) ++ bitStep (r .clock)) (controlSteps (r .enable)) (g .next, (tt, tt)) (control-asked m (r .enable)))
@@ -56,7 +56,7 @@ ready ob st r h =
     let b = after-append ob st (wholes (r .next ∷ []) ++ bitStep (r .clock)) (controlSteps (r .enable)) (a .0) in
     record { next = b .0 .0; clock = b .0 .1; enable = b .1; reset = a .1 }
 
-words-long : (k b out next clock edge : ℕ) (o : Option Control) (q : Option Reset) → length (k ∷ b ∷ out ∷ next ∷ clock ∷ edge ∷ (controlWords o ++ resetWords q)) ≡ 12
+pub words-long : (k b out next clock edge : ℕ) (o : Option Control) (q : Option Reset) → length (k ∷ b ∷ out ∷ next ∷ clock ∷ edge ∷ (controlWords o ++ resetWords q)) ≡ 12
 words-long k b out next clock edge none none = refl
 words-long k b out next clock edge none (some r) = refl
 words-long k b out next clock edge (some c) none = refl

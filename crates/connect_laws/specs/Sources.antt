@@ -59,7 +59,7 @@ some-at [] i n e = absurd (none-some e)
 some-at (x ∷ ns) zero n e = (omega arith, some-eq e)
 some-at (x ∷ ns) (suc i) n e = let r = some-at ns i n e in (suc-le-suc (r .0), r .1)
 
-blank : {A : Type 0} (w : A → ℕ) (xs : List A) (p i : ℕ) → cell {A = Option ℕ} none (map (λ x. replicate (w x) none) xs) p i ≡ none
+pub blank : {A : Type 0} (w : A → ℕ) (xs : List A) (p i : ℕ) → cell {A = Option ℕ} none (map (λ x. replicate (w x) none) xs) p i ≡ none
 blank w [] p i = refl
 blank w (x ∷ xs) zero i = row (w x) i
   where
@@ -69,12 +69,12 @@ blank w (x ∷ xs) zero i = row (w x) i
     row (suc n) (suc i) = row n i
 blank w (x ∷ xs) (suc p) i = blank w xs p i
 
-none-at : {A : Type 0} (xs : List A) (e : ℕ) → getD {A = Option (List ℕ)} (map (λ x. none) xs) e none ≡ none
+pub none-at : {A : Type 0} (xs : List A) (e : ℕ) → getD {A = Option (List ℕ)} (map (λ x. none) xs) e none ≡ none
 none-at [] e = refl
 none-at (x ∷ xs) zero = refl
 none-at (x ∷ xs) (suc e) = none-at xs e
 
-shaped : {A B : Type 0} (b : B) (w : A → ℕ) (xs : List A) (d : A) (wide : ℕ → ℕ) → ((i : ℕ) → wide i ≡ w (getD xs i d))
+pub shaped : {A B : Type 0} (b : B) (w : A → ℕ) (xs : List A) (d : A) (wide : ℕ → ℕ) → ((i : ℕ) → wide i ≡ w (getD xs i d))
     → Shaped (length xs) wide (map (λ x. replicate (w x) b) xs)
 shaped b w xs d wide e = record {
   rows = length-map xs (λ x. replicate (w x) b);

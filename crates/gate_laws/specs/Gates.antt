@@ -15,9 +15,9 @@ use Rattle.meaning.specs.Step.{Setting, Contents, nodeValue}
 use Rattle.model.specs.Words.{absent, Node, node, gate, Netlist}
 use Rattle.model.specs.Builder.{Made, done, nodeForNet, constantOf, constantValue, isValue, isConstant, addCached, addConstant, notBy, addNot, addAnd, addOr, addXor, muxBy, addMux}
 use Rattle.netlist_laws.specs.Meaning.{decode, meaningOf, netValue}
-use Rattle.netlist_laws.specs.Sound.{count, Plain, Wired, Sound, Grew, At, Stands}
+use Rattle.netlist_laws.specs.Sound.{count, Plain, Wired, Sound, At, Stands}
 use Rattle.netlist_laws.specs.Run.{later-trans, stands-as, Run, run-here, run-map}
-use Rattle.netlist_laws.specs.Nodes.{node-grew, later-net}
+use Rattle.netlist_laws.specs.Nodes.{later-net}
 use Rattle.gate_laws.specs.Nodes.{run-if, Is, Bitless, cached-run}
 
 -- ---- what a node is ----
@@ -40,11 +40,6 @@ plain x e f = record { constant = go (eqb (x .kind) 1) refl e; inverter = eqb-fa
     go : (t : Bool) → eqb (x .kind) 1 ≡ t → _≡_ {A = Option Bool} (cond t (some (eqb (x .owner) 1)) none) none → x .kind ≡ 1 → ⊥
     go true k e = let z : _≡_ {A = ℕ} 0 1 = cc in absurd (omega arith)
     go false k e = eqb-false (x .kind) 1 k
-
--- constants stay constants
-pub constant-grew : {l h : Netlist} → Grew l h → (k : ℕ) → k < count l → constantValue h k ≡ constantValue l k
-unfolding constantValue
-constant-grew g k h = ap constantOf (node-grew g k h)
 
 -- a net whose node is a constant, or a Not, in every later netlist
 pub constant-later : (l : Netlist) (k : ℕ) (b : Bool) → k < count l → constantValue l k ≡ some b → Stands l k (λ h s c. b)

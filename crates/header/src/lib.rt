@@ -127,6 +127,6 @@ pub fn scratch_short(s: &[u8], n: u32, words: usize) -> bool
     requires { ⌜ (signalBits (now s) ≤ 4096) × (exprBits (now s) ≤ 32768) ⌝ }
     ensures { λ r. ⌜ r ≡ (words <? scratchNeed (now (s .entry)) n) ⌝ }
 {
-    let bits = 4 * signal_bits(s) + 2 * expr_bits(s);
+    let bits = 4 * signal_bits(s) + expr_bits(s);
     (words as u64) < bits + 8 * (fields::count(s, 1) as u64) + 4 * (n as u64) + 64
 }

@@ -14,7 +14,7 @@ use Rattle.table_view.specs.View.{signalColumn, exprColumn, bitColumn, driverAt
 pub record HeadedAt (s : List ℕ) (n : ℕ) (w : List ℕ) : Type 0 where
   pub image : Sized s
   pub limited : n ≤ 65535
-  pub long : length w ≡ bitColumn s n + 2 * exprBits s
+  pub long : length w ≡ bitColumn s n + exprBits s
   pub limit : getD w 0 0 ≡ n
   pub bits : getD w 1 0 ≡ signalBits s
   pub exprs : getD w 2 0 ≡ exprColumn s n

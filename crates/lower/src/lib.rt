@@ -74,7 +74,7 @@ fn scratch_need(image: &[u8], n: u32) -> usize
     requires { ⌜ Accepted (now image) ⌝ }
     ensures { λ r. ⌜ r ≡ rule.scratchNeed (now (image .entry)) n ⌝ }
 {
-    let bits = 4 * header::signal_bits(image) + 2 * header::expr_bits(image);
+    let bits = 4 * header::signal_bits(image) + header::expr_bits(image);
     let need = bits + 8 * (fields::count(image, 1) as u64) + 4 * (n as u64) + 64;
     need as usize
 }

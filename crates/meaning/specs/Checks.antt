@@ -227,7 +227,7 @@ unfoldable pub exprBits : List ℕ → ℕ
 exprBits s = sumTo (exprWidth s) (countAt s 1)
 
 unfoldable pub scratchNeed : List ℕ → ℕ → ℕ
-scratchNeed s N = 4 * signalBits s + 2 * exprBits s + 8 * countAt s 1 + 4 * N + 64
+scratchNeed s N = 4 * signalBits s + exprBits s + 8 * countAt s 1 + 4 * N + 64
 
 unfoldable pub refuse : Bool → ℕ → Answer
 refuse t n = pick t (Refused n 0 0) Fine

@@ -36,11 +36,11 @@ wrong =
     1 ∷ 3 ∷ 16 ∷ 8 ∷ 34 ∷ 2 ∷ 0 ∷ 0 ∷ 0 ∷ 0 ∷ 0 ∷ 0 ∷ 0 ∷ 0 ∷ 0 ∷ 0 ∷ 0 ∷ 0 ∷ 0 ∷ 4294967295 ∷ 4294967295 ∷ 4294967295 ∷ 5 ∷ 4294967295 ∷ 4294967295 ∷ 0 ∷ 4294967295 ∷ 4294967295 ∷ 8 ∷ 1 ∷ 0 ∷ 0 ∷ 4294967295 ∷ 4294967295 ∷ 0 ∷ 0 ∷ 1 ∷ 0 ∷ 0 ∷ 1
     ∷ 1 ∷ 2 ∷ []
 
-passes : checked image 3 8 42 104 ≡ Fine
+passes : checked image 3 8 42 102 ≡ Fine
 unfolding _<?_ _≡?_ _≢?_ _or_ _and_ pick outside upTo first any sumTo each listOf only sameText andThen wordAt sizeOf mostOf countAt offsetAt bytesOf startOf part field listWord nameOf signalWidth exprWidth direction unaryOf binaryOf constantWords constantOf kindOf controlOf optional signalAt exprAt assignAt registerOf registerAt portOf memoryAt decode wrongCount wrongField firstField header badName nameTaken noSignal noExpr badBit badControl notZero badOptional isInput assigned targeted readInto driven badSignal badUnary badBinary late badConcat badKind badExpr badAssign badValue badReset badRegister badAddress badPort badSecond badMemory section records netlistNeed signalBits exprBits scratchNeed refuse checked
 passes = refl
 
-too-small : checked image 3 8 42 103 ≡ Refused 5 0 0
+too-small : checked image 3 8 42 101 ≡ Refused 5 0 0
 unfolding _<?_ _≡?_ _≢?_ _or_ _and_ pick outside upTo first any sumTo each listOf only sameText andThen wordAt sizeOf mostOf countAt offsetAt bytesOf startOf part field listWord nameOf signalWidth exprWidth direction unaryOf binaryOf constantWords constantOf kindOf controlOf optional signalAt exprAt assignAt registerOf registerAt portOf memoryAt decode wrongCount wrongField firstField header badName nameTaken noSignal noExpr badBit badControl notZero badOptional isInput assigned targeted readInto driven badSignal badUnary badBinary late badConcat badKind badExpr badAssign badValue badReset badRegister badAddress badPort badSecond badMemory section records netlistNeed signalBits exprBits scratchNeed refuse checked
 too-small = refl
 

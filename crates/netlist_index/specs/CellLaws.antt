@@ -119,7 +119,7 @@ bucket-cell m h r e = go (isCell r) refl
     go false q = let z : _≡_ {A = Bool} false true = rw q at e in absurdly (sym z)
 
 -- a record behind the others
-snoc-miss : (k : List ℕ) (rs : List (List ℕ)) (r : List ℕ) → begins k r ≡ false → findCell k (rs ++ (r ∷ [])) ≡ findCell k rs
+pub snoc-miss : (k : List ℕ) (rs : List (List ℕ)) (r : List ℕ) → begins k r ≡ false → findCell k (rs ++ (r ∷ [])) ≡ findCell k rs
 snoc-miss k [] r e = findCell-miss k r [] e
 snoc-miss k (x ∷ rs) r e = go (begins k x) refl (snoc-miss k rs r e)
   where
@@ -127,7 +127,7 @@ snoc-miss k (x ∷ rs) r e = go (begins k x) refl (snoc-miss k rs r e)
     go true q ih = findCell-hit k x (rs ++ (r ∷ [])) q ∙ sym (findCell-hit k x rs q)
     go false q ih = findCell-miss k x (rs ++ (r ∷ [])) q ∙ ih ∙ sym (findCell-miss k x rs q)
 
-snoc-new : (k : List ℕ) (rs : List (List ℕ)) (r : List ℕ) → findCell k rs ≡ none → begins k r ≡ true → findCell k (rs ++ (r ∷ [])) ≡ some (drop (length k) r)
+pub snoc-new : (k : List ℕ) (rs : List (List ℕ)) (r : List ℕ) → findCell k rs ≡ none → begins k r ≡ true → findCell k (rs ++ (r ∷ [])) ≡ some (drop (length k) r)
 snoc-new k [] r z e = findCell-hit k r [] e
 snoc-new k (x ∷ rs) r z e = go (begins k x) refl (snoc-new k rs r)
   where

@@ -1,6 +1,6 @@
 -- Older nodes and records stay as they were, and a net's value is its node's rule at the values below it. Assumes nothing.
 use mathlib.Core.Path.{_≡_, refl, sym, ap, ap₂, _∙_}
-use mathlib.Core.Bool.{Bool, true, false}
+use mathlib.Core.Bool.{Bool, true, false, cond}
 use mathlib.Core.List.{List, [], _∷_, _++_, map, append-nil}
 use mathlib.Core.Logic.{⊎-elim}
 use mathlib.Core.Option.{Option, none, some}
@@ -8,9 +8,10 @@ use Prim.Native.Nat.{ℕ, zero, suc, _+_, _-_, _≤_, _<_}
 use native.Mathlib.Nat.{le-trans, eq-or-lt-of-le, not-suc-le-zero, le-of-suc-le-suc}
 use native.Mathlib.Decide.{ℕ-discrete}
 use native.Mathlib.Omega.{arith}
+use lib.Dec.{ltb}
 use lib.ListN.{length, getD, length-append, List·getD-append}
 use lib.Seq.{getD-append-seam, getD-append-add}
-use borrow.Author.Tests.{lt-ltb}
+use borrow.Author.Tests.{lt-ltb, ltb-true}
 use Rattle.rules.specs.Rules.{_≡?_, pick, only}
 use Rattle.rules.specs.Laws.{eq-yes, eq-no}
 use Rattle.rtl.specs.Table.{Low, entry-is}
@@ -18,7 +19,7 @@ use Rattle.meaning.specs.NetlistImage as N
 use Rattle.meaning.specs.NetlistImage.{arithmeticOf, comparisonOf}
 use Rattle.meaning.specs.Step.{Setting, Contents, nodeValue, perhaps}
 use Rattle.model.specs.Words.{absent, Node, gate, Netlist, used}
-use Rattle.model.specs.Builder.{nodeForNet}
+use Rattle.model.specs.Builder.{nodeForNet, constantOf, constantValue}
 use Rattle.netlist_view.specs.Laws.{empty}
 use Rattle.word_laws.specs.Widths.{map-below}
 use Rattle.netlist_laws.specs.Meaning.{decode, decoded, nodeAt, recordsWith, meaningOf, netValue}
@@ -49,6 +50,24 @@ at-grew g k h = ap decode (node-grew g k h)
 
 pub count-grew : {l l′ : Netlist} → Grew l l′ → count l ≤ count l′
 count-grew {l} {l′} g = omega (arith, ap length (g .nodes), length-append (g .added) (l .nodes))
+
+-- ---- constants ----
+
+-- the net of a constant is there
+pub constant-there : (l : Netlist) (k : ℕ) (b : Bool) → constantValue l k ≡ some b → k < count l
+unfolding constantValue nodeForNet
+constant-there l k b e = go (ltb k (count l)) refl e
+  where
+    go : (t : Bool) → ltb k (count l) ≡ t → constantOf (cond t (getD (l .nodes) (count l - suc k) noNode) noNode) ≡ some b → k < count l
+    go true h e = ltb-true k (count l) h
+    go false h e = let z : _≡_ {A = ℕ} 0 1 = cc in absurd (omega arith)
+
+-- constants stay constants
+pub constant-grew : {l l′ : Netlist} → Grew l l′ → (k : ℕ) → k < count l → constantValue l′ k ≡ constantValue l k
+unfolding constantValue
+constant-grew g k h = ap constantOf (node-grew g k h)
+
+-- ---- decoded nodes ----
 
 pub length-decoded : (ns : List Node) → length (decoded ns) ≡ length ns
 unfolding decoded

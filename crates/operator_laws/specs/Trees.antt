@@ -65,7 +65,7 @@ nothing : Contents
 nothing = record { reg = λ k i. false; dat = λ k second i. false; mem = λ k a i. false }
 
 module _ (g : Gate) where
-  level-run : (xs : List ℕ) (l : Netlist) → Sound l → AllBelow (count l) xs → Run l (λ zs l′. StandsAll l′ zs (λ h s c. pairs (gateOp g) (map (netValue h s c) xs))) (level g xs l)
+  pub level-run : (xs : List ℕ) (l : Netlist) → Sound l → AllBelow (count l) xs → Run l (λ zs l′. StandsAll l′ zs (λ h s c. pairs (gateOp g) (map (netValue h s c) xs))) (level g xs l)
   unfolding level
   level-run [] l q b = run-here q all-nil
   level-run (x ∷ []) l q b = run-here q (all-self (x ∷ []) b)
@@ -112,7 +112,7 @@ module _ (g : Gate) where
 
 -- ---- equality ----
 
-equal-run : (a b : ℕ) (l : Netlist) → Sound l → a < count l → b < count l → Run l (Op2 alike a b) (addEqual a b l)
+pub equal-run : (a b : ℕ) (l : Netlist) → Sound l → a < count l → b < count l → Run l (Op2 alike a b) (addEqual a b l)
 unfolding addEqual
 equal-run a b l q ha hb = run-bind _ (xor-run a b l q ha hb) (λ d l′ y v.
     run-map (not-run d l′ (y .sound) (v .there)) (λ z l″ y′ w. stands-as w (λ h y″ s c. ap not (v .is h (later-trans y′ y″) s c))))

@@ -93,7 +93,7 @@ fn scratch_need(image: &[u8], n: u32) -> usize {
     let signals = least(header::signal_bits(image), 4096);
     let exprs = least(header::expr_bits(image), 32768);
     let count = fields::count(image, 1) as u64;
-    (4 * signals + 2 * exprs + 8 * count + 4 * (n as u64) + 64) as usize
+    (4 * signals + exprs + 8 * count + 4 * (n as u64) + 64) as usize
 }
 
 // Whether an answer is these three numbers.

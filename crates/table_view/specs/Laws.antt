@@ -70,7 +70,7 @@ unset-most (suc x) = omega arith
 
 -- ---- sizes ----
 
-pub need-is : (s : List ℕ) (n : ℕ) → scratchNeed s n ≡ bitColumn s n + 2 * exprBits s
+pub need-is : (s : List ℕ) (n : ℕ) → scratchNeed s n ≡ bitColumn s n + exprBits s
 unfolding scratchNeed
 need-is s n = omega arith
 

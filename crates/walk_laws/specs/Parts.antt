@@ -31,6 +31,9 @@ use Rattle.walk_laws.specs.Wholes.{mux-made}
 
 -- ---- the numbers of a piece: a part of n bits that begins at bit at ----
 
+pub piece-fits : (lo hi at n : ℕ) → lo < hi → at ≤ lo → hi ≤ at + n → lo - at + (hi - lo) ≤ n
+piece-fits lo hi at n a b c = omega arith
+
 piece-low : (lsb at : ℕ) → max lsb at - at ≡ lsb - at
 piece-low lsb at = omega arith
 
@@ -98,12 +101,9 @@ pieces-asked m lsb end at [] h = tt
 pieces-asked m lsb end at (p ∷ ps) h =
     go (ltb (max lsb at) (min end (at + widthAt (m .exprs) p))) refl (pieces-asked m lsb end (at + widthAt (m .exprs) p) ps (h .1))
   where
-    inside : (lo hi at n : ℕ) → lo < hi → at ≤ lo → hi ≤ at + n → lo - at + (hi - lo) ≤ n
-    inside lo hi at n a b c = omega arith
-
     go : (t : Bool) → ltb (max lsb at) (min end (at + widthAt (m .exprs) p)) ≡ t → AllAsked m (pieceSteps (pieces (m .exprs) lsb end (at + widthAt (m .exprs) p) ps))
         → AllAsked m (pieceSteps (cond t (record { part = p; lsb = max lsb at - at; width = min end (at + widthAt (m .exprs) p) - max lsb at } ∷ pieces (m .exprs) lsb end (at + widthAt (m .exprs) p) ps) (pieces (m .exprs) lsb end (at + widthAt (m .exprs) p) ps)))
-    go true t r = ((h .0, inside (max lsb at) (min end (at + widthAt (m .exprs) p)) at (widthAt (m .exprs) p) (ltb-true _ _ t) (omega arith) (omega arith)), r)
+    go true t r = ((h .0, piece-fits (max lsb at) (min end (at + widthAt (m .exprs) p)) at (widthAt (m .exprs) p) (ltb-true _ _ t) (omega arith) (omega arith)), r)
     go false t r = r
 
 -- a gate's operator bit by bit
@@ -167,9 +167,6 @@ module _ (G : Gates) (m : Module) (f : Formed (m .exprs)) (ob : Bool) (st : Stat
           sym (append-slice (lsb - at) (end - max lsb at) (word (m .exprs) v p) (flat (word (m .exprs) v) ps)
           ∙ rw (l, piece-width lsb end at (widthAt (m .exprs) p), rest-low lsb at (widthAt (m .exprs) p), rest-width lsb end at (widthAt (m .exprs) p), piece-low lsb at))
 
-      inside : (lo hi at n : ℕ) → lo < hi → at ≤ lo → hi ≤ at + n → lo - at + (hi - lo) ≤ n
-      inside lo hi at n a b c = omega arith
-
       nothing : (lo hi : ℕ) → hi ≤ lo → hi - lo ≡ 0
       nothing lo hi h = omega arith
 
@@ -183,7 +180,7 @@ module _ (G : Gates) (m : Module) (f : Formed (m .exprs)) (ob : Bool) (st : Stat
           (λ v. sliceW (lsb - at) (end - max lsb at) (word (m .exprs) v p ++ flat (word (m .exprs) v) ps))
       go true t r h =
           holds-as (holds-append (read-range m st i f p (max lsb at - at) (min end (at + widthAt (m .exprs) p) - max lsb at) (b .0)
-          (inside (max lsb at) (min end (at + widthAt (m .exprs) p)) at (widthAt (m .exprs) p) (ltb-true (max lsb at) (min end (at + widthAt (m .exprs) p)) t) (omega arith) (omega arith)) (h .0)) (r (h .1))) cut
+          (piece-fits (max lsb at) (min end (at + widthAt (m .exprs) p)) at (widthAt (m .exprs) p) (ltb-true (max lsb at) (min end (at + widthAt (m .exprs) p)) t) (omega arith) (omega arith)) (h .0)) (r (h .1))) cut
       go false t r h =
           let z = nothing (max lsb at) (min end (at + widthAt (m .exprs) p)) (ltb-false (max lsb at) (min end (at + widthAt (m .exprs) p)) t) in
           holds-as (r h) (λ v. rw z at (cut v))

@@ -1,26 +1,24 @@
 -- What is asked before something is lowered, what is there after it, and that the nets read back have the bits meant. Assumes nothing.
 use mathlib.Core.Path.{_≡_, refl, sym, ap, _∙_}
 use mathlib.Core.Logic.{_⊎_, inl, inr}
-use mathlib.Core.Bool.{Bool, true, false, cond}
+use mathlib.Core.Bool.{Bool, true, false}
 use mathlib.Core.List.{List, [], _∷_, _++_, map}
 use mathlib.Core.Option.{Option, none, some}
 use Prim.Native.Nat.{ℕ, zero, suc, _+_, _-_, _≤_, _<_}
 use native.Mathlib.Nat.{not-suc-le-zero, le-of-suc-le-suc, add-zero}
 use native.Mathlib.Omega.{arith}
-use borrow.Author.Tests.{ltb-true}
-use lib.Dec.{ltb}
 use lib.ListN.{length, getD, take, drop}
 use Rattle.rtl.specs.Ops.{sliceW, tab}
 use Rattle.rtl.specs.Rtl.{Module, Valuation, word}
-use Rattle.model.specs.Words.{Netlist, absent, gate}
-use Rattle.model.specs.Builder.{nodeForNet, constantOf, constantValue, isValue, from}
+use Rattle.model.specs.Words.{Netlist, absent}
+use Rattle.model.specs.Builder.{constantValue, isValue, from}
 use Rattle.model.specs.Ranges.{widthAt}
 use Rattle.model.specs.Lowering.{selected, wholeNet, netsOf, State, Need, Bit, Whole, Range, Step, Always, Unless, cell, whole, wholeNets, rangeNets, rangeBy, rangeKnown, allSome, signalBit, signalNet, signalNets, signalSteps, wholes}
 use Rattle.word_laws.specs.Shift.{tab-ext}
 use Rattle.word_laws.specs.Widths.{AllBelow, Formed, word-width}
 use Rattle.netlist_laws.specs.Meaning.{netValue}
 use Rattle.netlist_laws.specs.Sound.{count, Sound, Later}
-use Rattle.netlist_laws.specs.Nodes.{node-grew}
+use Rattle.netlist_laws.specs.Nodes.{constant-there, constant-grew}
 use Rattle.walk_laws.specs.Tables.{none-some, Has, Known, row-slice, row-below, all-known}
 use Rattle.walk_laws.specs.Kept.{Table, Holds, Held, Inv, Grew}
 use Rattle.walk_laws.specs.Writes.{holds-length}
@@ -60,20 +58,6 @@ AllAfter ob st (s ∷ ss) = StepAfter ob st s × AllAfter ob st ss
 
 -- ---- a condition that is a constant stays one ----
 
--- its net is there
-constant-there : (l : Netlist) (n : ℕ) (b : Bool) → constantValue l n ≡ some b → n < count l
-unfolding constantValue nodeForNet
-constant-there l n b e = go (ltb n (count l)) refl e
-  where
-    go : (t : Bool) → ltb n (count l) ≡ t
-        → constantOf (cond t (getD (l .nodes) (count l - suc n) (gate absent absent absent absent)) (gate absent absent absent absent)) ≡ some b → n < count l
-    go true h e = ltb-true n (count l) h
-    go false h e = absurd (none-some e)
-
-constant-grew : {l l′ : Netlist} → Later l l′ → (n : ℕ) → n < count l → constantValue l′ n ≡ constantValue l n
-unfolding constantValue
-constant-grew a n h = ap constantOf (node-grew (a .grew) n h)
-
 net-same : (st st′ : State) (c : ℕ) (ns : List ℕ) → whole st c ≡ some ns → whole st′ c ≡ some ns → wholeNet st c 0 ≡ wholeNet st′ c 0
 unfolding wholeNet wholeNets
 net-same st st′ c ns e f = rw (e, f)
@@ -93,7 +77,7 @@ module _ (st : State) (q : Sound (st .netlist)) where
   selected-stays st′ a k true c b e =
       let t = constant-there (st .netlist) (wholeNet st c 0) b e in
       let w = net-whole c t in
-      ap (constantValue (st′ .netlist)) (sym (net-same st st′ c (w .value) (w .is) (k c (w .value) (w .is)))) ∙ constant-grew a (wholeNet st c 0) t ∙ e
+      ap (constantValue (st′ .netlist)) (sym (net-same st st′ c (w .value) (w .is) (k c (w .value) (w .is)))) ∙ constant-grew (a .grew) (wholeNet st c 0) t ∙ e
 
   pub step-stays : (st′ : State) → Later (st .netlist) (st′ .netlist) → ((e : ℕ) (ns : List ℕ) → whole st e ≡ some ns → whole st′ e ≡ some ns)
       → ((n : Need) → After st n → After st′ n) → (ob : Bool) (s : Step) → StepAfter ob st s → StepAfter ob st′ s

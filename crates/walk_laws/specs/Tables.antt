@@ -124,10 +124,10 @@ pub record Fits (g : ℕ → Bool) (row : List (Option ℕ)) (w : List Bool) : T
 pub record Known (row : List (Option ℕ)) (lsb w : ℕ) : Type 0 where
   pub known : (b : ℕ) → lsb ≤ b → b < lsb + w → Has (getD row b none)
 
-known-tail : {o : Option ℕ} {row : List (Option ℕ)} {lsb w : ℕ} → Known (o ∷ row) (suc lsb) w → Known row lsb w
+pub known-tail : {o : Option ℕ} {row : List (Option ℕ)} {lsb w : ℕ} → Known (o ∷ row) (suc lsb) w → Known row lsb w
 known-tail k = record { known = λ b h l. k .known (suc b) (omega arith) (omega arith) }
 
-known-next : {o : Option ℕ} {row : List (Option ℕ)} {w : ℕ} → Known (o ∷ row) 0 (suc w) → Known row 0 w
+pub known-next : {o : Option ℕ} {row : List (Option ℕ)} {w : ℕ} → Known (o ∷ row) 0 (suc w) → Known row 0 w
 known-next k = record { known = λ b h l. k .known (suc b) (omega arith) (omega arith) }
 
 fits-tail : {g : ℕ → Bool} {o : Option ℕ} {row : List (Option ℕ)} {x : Bool} {w : List Bool} → Fits g (o ∷ row) (x ∷ w) → Fits g row w

@@ -66,7 +66,7 @@ module _ (m : Module) (f : Formed (m .exprs)) (e : ℕ) (here : e < length (m .e
       wholes-asked m (backwards ps []) (below-turned (length (m .exprs)) ps [] (below-more e (length (m .exprs)) ps (omega arith) b) tt)
   kind-asked (R.Slice a lsb) x b w = ((omega arith, w), tt)
 
-  whole-asked : AllAsked m (wholeSteps (m .exprs) e)
+  pub whole-asked : AllAsked m (wholeSteps (m .exprs) e)
   unfolding wholeSteps
   whole-asked = kind-asked ((exprAt (m .exprs) e) .kind) refl (f .low e here) (f .wide e here)
 
@@ -98,7 +98,7 @@ module _ (m : Module) (f : Formed (m .exprs)) (e : ℕ) (here : e < length (m .e
         pieces-asked m lsb (lsb + w) 0 (backwards ps []) (below-turned (length (m .exprs)) ps [] (below-more e (length (m .exprs)) ps (omega arith) b) tt)
     range-kind-asked (R.Slice a l) b k = ((omega arith, omega arith), tt)
 
-    range-asked : AllAsked m (rangeSteps (m .exprs) e lsb w)
+    pub range-asked : AllAsked m (rangeSteps (m .exprs) e lsb w)
     unfolding rangeSteps
     range-asked = range-kind-asked ((exprAt (m .exprs) e) .kind) (f .low e here) (f .wide e here)
 

@@ -82,6 +82,27 @@ pub holds-truncated : {l : Netlist} {t : Table} {ns : List ℕ} {w : Valuation �
 holds-truncated none h = h
 holds-truncated (some k) h = holds-slice 0 k h
 
+pub truncated-length : (n : Option ℕ) (xs ys : List ℕ) → length xs ≡ length ys → length (truncated n xs) ≡ length (truncated n ys)
+truncated-length none xs ys h = h
+truncated-length (some k) xs ys h = rw (length-take k xs, length-take k ys, h)
+
+-- only an Add is narrowed
+narrowed-add : (xs : List R.Expr) (e : ℕ) (op : Binary) (k : ℕ) → cond (isAdd (classOf op)) (adderWidth xs e) none ≡ some k → (op ≡ R.Add) × (adderWidth xs e ≡ some k)
+narrowed-add xs e op k q = go (isAdd (classOf op)) refl q
+  where
+    go : (z : Bool) → isAdd (classOf op) ≡ z → cond z (adderWidth xs e) none ≡ some k → (op ≡ R.Add) × (adderWidth xs e ≡ some k)
+    go true z w = (add-only op z, w)
+    go false z w = absurd (none-some w)
+
+-- so the operands of a cell have widths that agree, narrowed or not
+pub truncated-width : (es : List R.Expr) (e : ℕ) (op : Binary) (w : ℕ) (xs ys : List ℕ) → BinWidth op w (length xs) (length ys)
+    → (n : Option ℕ) → cond (isAdd (classOf op)) (adderWidth es e) none ≡ n → (v : ℕ) × BinWidth op v (length (truncated n xs)) (length (truncated n ys))
+truncated-width es e op w xs ys h none q = (w, h)
+truncated-width es e op w xs ys h (some k) q =
+    let add = narrowed-add es e op k q .0 in
+    let v : BinWidth R.Add w (length xs) (length ys) = rw add at h in
+    (length (take k xs), rw add (refl, sym (truncated-length (some k) xs ys (v .0 ∙ sym (v .1)))))
+
 map-replicate : (g : ℕ → Bool) (n x : ℕ) → map g (replicate n x) ≡ replicate n (g x)
 map-replicate g zero x = refl
 map-replicate g (suc n) x = rw (map-replicate g n x)
@@ -93,6 +114,20 @@ below-replicate k (suc n) x h = (h, below-replicate k n x h)
 cell-length : (op : Binary) (a b : List Bool) (c : Option Bool) → op ≡ R.Add → length (cellWord op a b c) ≡ length a
 cell-length op a b none e = rw e (length-bits (length a) _)
 cell-length op a b (some c) e = length-bits (length a) _
+
+-- ---- the parts of a Concat, in either order ----
+
+abbrev pub AllHas : State → List ℕ → Type 0
+AllHas st [] = Unit {0}
+AllHas st (p ∷ ps) = Has (whole st p) × AllHas st ps
+
+pub has-all : (ob : Bool) (st : State) (ps : List ℕ) → AllAfter ob st (wholes ps) → AllHas st ps
+has-all ob st [] h = tt
+has-all ob st (p ∷ ps) h = (h .0, has-all ob st ps (h .1))
+
+turned : (st : State) (ps acc : List ℕ) → AllHas st (backwards ps acc) → AllHas st ps × AllHas st acc
+turned st [] acc h = (tt, h)
+turned st (p ∷ ps) acc h = let r = turned st ps (p ∷ acc) h in ((r .1 .0, r .0), r .1 .1)
 
 module _ (G : Gates) (m : Module) (f : Formed (m .exprs)) (ob : Bool) (st : State) (i : Inv m st) where
   -- bit 0 of a whole expression
@@ -202,15 +237,11 @@ module _ (G : Gates) (m : Module) (f : Formed (m .exprs)) (ob : Bool) (st : Stat
         (holds-length (d .sound) p j (λ v. cell-length op (take j (word (m .exprs) v x)) (take j (word (m .exprs) v y)) (carryBit (word (m .exprs) v) c) add ∙ nar v .left))
         (λ v. nar v .sum ∙ rw (← add)))
       where
-        pick : (z : Bool) → isAdd (classOf op) ≡ z → cond z (adderWidth (m .exprs) e) none ≡ some j → (isAdd (classOf op) ≡ true) × (adderWidth (m .exprs) e ≡ some j)
-        pick true z w = (z, w)
-        pick false z w = absurd (none-some w)
-
-        picked : (isAdd (classOf op) ≡ true) × (adderWidth (m .exprs) e ≡ some j)
-        picked = pick (isAdd (classOf op)) refl q
+        picked : (op ≡ R.Add) × (adderWidth (m .exprs) e ≡ some j)
+        picked = narrowed-add (m .exprs) e op j q
 
         add : op ≡ R.Add
-        add = add-only op (picked .0)
+        add = picked .0
 
         nar : (v : Valuation) → Narrowed j (widthAt (m .exprs) e) (take j (word (m .exprs) v x)) (take j (word (m .exprs) v y)) (carryBit (word (m .exprs) v) c) (word (m .exprs) v e)
         nar v = narrowed (m .exprs) f v e here op a b k j add (picked .1) (record { lhs = x; rhs = y; carry = c }) (t v)
@@ -227,14 +258,10 @@ module _ (G : Gates) (m : Module) (f : Formed (m .exprs)) (ob : Bool) (st : Stat
       wide : WidthOk (widthAt (m .exprs)) (widthAt (m .exprs) e) k
       wide = rw x at (f .wide e here)
 
-    truncated-length : (n : Option ℕ) (xs ys : List ℕ) → length xs ≡ length ys → length (truncated n xs) ≡ length (truncated n ys)
-    truncated-length none xs ys h = h
-    truncated-length (some k) xs ys h = rw (length-take k xs, length-take k ys, h)
-
     bin-made : (op : Binary) (a b : ℕ) → (exprAt (m .exprs) e) .kind ≡ R.Bin op a b → (n : Option ℕ) → cond (isAdd (classOf op)) (adderWidth (m .exprs) e) none ≡ n
         → (o : Operands) → ((v : Valuation) → Operate (m .exprs) v e (widthAt (m .exprs) e) op o) → Taken op a b o → AllAfter ob st (operandSteps o)
         → Makes (st .netlist) MadeWord (resized n (widthAt (m .exprs) e) (buildOperands op n st o))
-    bin-made op a b x n q o t plain h = resized-made op a b x n q a b none t _ (cell-made op n a b none (h .0) (h .1 .0) tt (width n q))
+    bin-made op a b x n q o t plain h = resized-made op a b x n q a b none t _ (cell-made op n a b none (h .0) (h .1 .0) tt (truncated-width (m .exprs) e op (widthAt (m .exprs) e) (wholeNets st a) (wholeNets st b) whole-width n q))
       where
         la : length (wholeNets st a) ≡ widthAt (m .exprs) a
         la = whole-length m st i f a (omega (arith, low (R.Bin op a b) x .0)) (h .0)
@@ -244,18 +271,6 @@ module _ (G : Gates) (m : Module) (f : Formed (m .exprs)) (ob : Bool) (st : Stat
 
         whole-width : BinWidth op (widthAt (m .exprs) e) (length (wholeNets st a)) (length (wholeNets st b))
         whole-width = rw (la, lb) (wide (R.Bin op a b) x)
-
-        pick : (z : Bool) (k : ℕ) → isAdd (classOf op) ≡ z → cond z (adderWidth (m .exprs) e) none ≡ some k → isAdd (classOf op) ≡ true
-        pick true k z w = z
-        pick false k z w = absurd (none-some w)
-
-        width : (n : Option ℕ) → cond (isAdd (classOf op)) (adderWidth (m .exprs) e) none ≡ n
-            → CellWidth op (length (truncated n (wholeNets st a))) (length (truncated n (wholeNets st b))) none
-        width none q = (widthAt (m .exprs) e, whole-width)
-        width (some k) q =
-            let add = add-only op (pick (isAdd (classOf op)) k refl q) in
-            let w : BinWidth R.Add (widthAt (m .exprs) e) (length (wholeNets st a)) (length (wholeNets st b)) = rw add at whole-width in
-            (length (take k (wholeNets st a)), rw add (refl, sym (truncated-length (some k) (wholeNets st a) (wholeNets st b) (w .0 ∙ sym (w .1)))))
     bin-made op a b x n q o t (fusion {x = p} {y = r} {c = c} add) h =
         let v : Valuation = λ s j. false in
         let d = t v in
@@ -266,20 +281,7 @@ module _ (G : Gates) (m : Module) (f : Formed (m .exprs)) (ob : Bool) (st : Stat
         resized-made op a b x n q p r (some c) t _
         (cell-made op n p r (some c) (h .0) (h .1 .0) (omega (arith, d .carry-below), h .1 .1 .0) (truncated-length n (wholeNets st p) (wholeNets st r) (lp ∙ wp ∙ sym wr ∙ sym lr)))
 
-    -- the parts of a Concat, in either order
-    abbrev AllHas : List ℕ → Type 0
-    AllHas [] = Unit {0}
-    AllHas (p ∷ ps) = Has (whole st p) × AllHas ps
-
-    has-all : (ps : List ℕ) → AllAfter ob st (wholes ps) → AllHas ps
-    has-all [] h = tt
-    has-all (p ∷ ps) h = (h .0, has-all ps (h .1))
-
-    turned : (ps acc : List ℕ) → AllHas (backwards ps acc) → AllHas ps × AllHas acc
-    turned [] acc h = (tt, h)
-    turned (p ∷ ps) acc h = let r = turned ps (p ∷ acc) h in ((r .1 .0, r .0), r .1 .1)
-
-    parts-made : (ps : List ℕ) → AllHas ps → Holds (st .netlist) (st .signalBits) (partNets st ps) (λ v. joinW (map (word (m .exprs) v) ps))
+    parts-made : (ps : List ℕ) → AllHas st ps → Holds (st .netlist) (st .signalBits) (partNets st ps) (λ v. joinW (map (word (m .exprs) v) ps))
     parts-made [] h = holds-nil
     parts-made (p ∷ ps) h = holds-append (parts-made ps (h .1)) (read-whole m st i p (h .0))
 
@@ -304,7 +306,7 @@ module _ (G : Gates) (m : Module) (f : Formed (m .exprs)) (ob : Bool) (st : Stat
         (λ p q. whole-length m st i f t (omega (arith, b .1)) p ∙ w .1 ∙ sym (w .2) ∙ sym (whole-length m st i f d (omega (arith, b .2)) q)) (h .1 .0) (h .1 .1 .0))
         (λ ns l a p. holds-as p (is (R.Mux c t d) x))
     kind-made (R.Concat ps) x h =
-        makes-done (later-refl (i .sound)) cells-refl (holds-as (parts-made ps (turned ps [] (has-all (backwards ps []) h) .0)) (is (R.Concat ps) x))
+        makes-done (later-refl (i .sound)) cells-refl (holds-as (parts-made ps (turned st ps [] (has-all ob st (backwards ps []) h) .0)) (is (R.Concat ps) x))
     kind-made (R.Slice a lsb) x h =
         makes-done (later-refl (i .sound)) cells-refl
         (holds-as (read-range m st i f a lsb (widthAt (m .exprs) e) (omega (arith, low (R.Slice a lsb) x)) (wide (R.Slice a lsb) x) (h .0)) (is (R.Slice a lsb) x))

@@ -72,11 +72,11 @@ module _ (m : Module) where
   -- ---- a whole expression ----
 
   module _ (st : State) (e : ℕ) (ns : List ℕ) (i : Inv m st) (here : e < length (m .exprs)) where
-    whole-same : whole (setWhole st e ns) e ≡ some ns
+    pub whole-same : whole (setWhole st e ns) e ≡ some ns
     unfolding whole setWhole
     whole-same = getD-set-same (st .expressionBits) e (some ns) none (omega (arith, i .entries))
 
-    whole-other : (x : ℕ) → (x ≡ e → ⊥) → whole (setWhole st e ns) x ≡ whole st x
+    pub whole-other : (x : ℕ) → (x ≡ e → ⊥) → whole (setWhole st e ns) x ≡ whole st x
     unfolding whole setWhole
     whole-other x g = getD-set-other (st .expressionBits) e x (some ns) none g
 
@@ -144,11 +144,11 @@ module _ (m : Module) where
   -- ---- a range of an expression ----
 
   module _ (st : State) (e lsb : ℕ) (ns : List ℕ) (i : Inv m st) (f : Formed (m .exprs)) (here : e < length (m .exprs)) (fits : lsb + length ns ≤ widthAt (m .exprs) e) where
-    range-whole : (x : ℕ) → whole (setRange st e lsb ns) x ≡ whole st x
+    pub range-whole : (x : ℕ) → whole (setRange st e lsb ns) x ≡ whole st x
     unfolding whole setRange
     range-whole x = refl
 
-    range-other : (x : ℕ) → (x ≡ e → ⊥) → getD (setRange st e lsb ns .expressionRanges) x [] ≡ getD (st .expressionRanges) x []
+    pub range-other : (x : ℕ) → (x ≡ e → ⊥) → getD (setRange st e lsb ns .expressionRanges) x [] ≡ getD (st .expressionRanges) x []
     unfolding setRange
     range-other x g = getD-set-other (st .expressionRanges) e x _ [] g
 
@@ -157,14 +157,14 @@ module _ (m : Module) where
     range-row = getD-set-same (st .expressionRanges) e _ [] (omega (arith, i .rows))
 
     -- the row where the whole is not there
-    range-sets : whole st e ≡ none → getD (setRange st e lsb ns .expressionRanges) e [] ≡ sets (getD (st .expressionRanges) e []) lsb (map some ns)
+    pub range-sets : whole st e ≡ none → getD (setRange st e lsb ns .expressionRanges) e [] ≡ sets (getD (st .expressionRanges) e []) lsb (map some ns)
     range-sets q =
         let r = getD (st .expressionRanges) e [] in
         let k : length (map some ns) ≡ length ns = length-map ns (λ (n : ℕ). some n) in
         let h : lsb + length (map some ns) ≤ length r = omega (arith, i .cells e here q) in
         range-row ∙ rw q (sym (sets-eq (map some ns) r lsb h ∙ rw k))
 
-    range-stays : (ks : List ℕ) → whole st e ≡ some ks → getD (setRange st e lsb ns .expressionRanges) e [] ≡ getD (st .expressionRanges) e []
+    pub range-stays : (ks : List ℕ) → whole st e ≡ some ks → getD (setRange st e lsb ns .expressionRanges) e [] ≡ getD (st .expressionRanges) e []
     range-stays ks q = range-row ∙ rw q
 
     pub inv-range : Holds (st .netlist) (st .signalBits) ns (λ v. sliceW lsb (length ns) (word (m .exprs) v e)) → Inv m (setRange st e lsb ns)
@@ -250,7 +250,7 @@ module _ (m : Module) where
     bit-same : cell none (put (st .signalBits) s b (some n)) s b ≡ some n
     bit-same = put-same none (st .signalBits) s b (some n) (omega (arith, i .bits .rows)) (omega (arith, i .bits .cells s here))
 
-    bit-more : More (st .signalBits) (put (st .signalBits) s b (some n))
+    pub bit-more : More (st .signalBits) (put (st .signalBits) s b (some n))
     bit-more = record { more = λ p j k e. put-other none (st .signalBits) s b (some n) p j (apart p j k e) ∙ e }
       where
         apart : (p j k : ℕ) → cell none (st .signalBits) p j ≡ some k → (p ≡ s) × (j ≡ b) → ⊥

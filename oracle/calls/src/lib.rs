@@ -18,3 +18,19 @@ impl Subject for Library {
         port::lower(image, n, p, netlist, scratch)
     }
 }
+
+#[cfg(test)]
+mod tests {
+    use image::{Image, EXPRESSIONS, MOST, MOST_EXPRESSION_BITS, MOST_LIMIT, MOST_SIGNAL_BITS, SIGNALS};
+
+    #[test]
+    fn most_scratch_is_what_the_largest_image_asks_for() {
+        let (signals, expressions) = (MOST[SIGNALS], MOST[EXPRESSIONS]);
+        let image = Image {
+            signals: vec![[0, 1, (MOST_SIGNAL_BITS / signals) as u32, 1]; signals],
+            expressions: vec![[0, (MOST_EXPRESSION_BITS / expressions) as u32, 0, 0, 0]; expressions],
+            ..Image::default()
+        };
+        assert_eq!(port::most_scratch_words(MOST_LIMIT), image.scratch_words(MOST_LIMIT));
+    }
+}

@@ -61,7 +61,7 @@ fn scratch_short(image: &[u8], wish: &Wish, room: &Room) -> String {
     let sum = Image::decode(image).map_or(String::new(), |image| {
         let (signal_bits, expression_bits) = (image.signal_bits(), image.expression_bits());
         let expressions = image.expressions.len();
-        format!("4 * {signal_bits} + 2 * {expression_bits} + 8 * {expressions} + 4 * {} + 64 = ", wish.nets)
+        format!("4 * {signal_bits} + {expression_bits} + 8 * {expressions} + 4 * {} + 64 = ", wish.nets)
     });
     format!("the scratch has {scratch} words; {sum}{scratch_needed} are needed")
 }

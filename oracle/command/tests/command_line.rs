@@ -84,9 +84,9 @@ fn refusals_of_the_caller() {
     expect(INVERTER, &["--nets", "65536", "--words", "70000"], 1, both);
     let netlist = "refused 2 0 0: the netlist buffer has 41 words; 16 + 6 * 3 + 8 = 42 are needed\n";
     expect(INVERTER, &["--nets", "3", "--words", "8", "--netlist", "41"], 1, netlist);
-    let scratch = "refused 5 0 0: the scratch has 103 words; 4 * 2 + 2 * 2 + 8 * 2 + 4 * 3 + 64 = 104 are needed\n";
-    expect(INVERTER, &["--nets", "3", "--words", "8", "--scratch", "103"], 1, scratch);
-    let exact = ["--nets", "3", "--words", "8", "--netlist", "42", "--scratch", "104"];
+    let scratch = "refused 5 0 0: the scratch has 101 words; 4 * 2 + 2 + 8 * 2 + 4 * 3 + 64 = 102 are needed\n";
+    expect(INVERTER, &["--nets", "3", "--words", "8", "--scratch", "101"], 1, scratch);
+    let exact = ["--nets", "3", "--words", "8", "--netlist", "42", "--scratch", "102"];
     expect(INVERTER, &exact, 0, LISTING);
 }
 

@@ -2,6 +2,7 @@
 
 use crate::limits::Limits;
 use crate::run::with_word_widths;
+use crate::scratch::Scratch;
 use crate::subject::{Subject, Witness};
 use crate::{Answer, ACCEPTED};
 use image::from_edition_1;
@@ -19,6 +20,8 @@ pub enum Fault {
     EditionOne,
     /// A scratch one word short is taken.
     ShortScratch,
+    /// Document 01's sum is asked for: two words for each expression bit.
+    FormerSum,
     /// The net limit 65,536 is taken.
     NetLimit,
     /// A combinational loop is answered as an undriven bit.
@@ -31,6 +34,8 @@ pub enum Fault {
     MemoryDepth,
     /// The scratch's last required word is left as it was.
     DirtyScratch,
+    /// A scratch of document 01's sum is cleared to that sum.
+    FormerClear,
     /// The word beyond the netlist's required ones is cleared.
     WordBeyond,
     /// The netlist is cleared before a refusal by 5.
@@ -39,21 +44,23 @@ pub enum Fault {
     UnclearedNetlist,
 }
 
-pub const CHECK_FAULTS: [Fault; 6] = [
+pub const CHECK_FAULTS: [Fault; 7] = [
     Fault::ExpressionPlace,
     Fault::NamesEndPlace,
     Fault::WordWidth,
     Fault::EditionOne,
     Fault::ShortScratch,
+    Fault::FormerSum,
     Fault::NetLimit,
 ];
 
-pub const LOWER_FAULTS: [Fault; 8] = [
+pub const LOWER_FAULTS: [Fault; 9] = [
     Fault::LoopAsUndriven,
     Fault::MuxSides,
     Fault::FullRanges,
     Fault::MemoryDepth,
     Fault::DirtyScratch,
+    Fault::FormerClear,
     Fault::WordBeyond,
     Fault::EarlyClear,
     Fault::UnclearedNetlist,
@@ -67,6 +74,7 @@ impl Subject for Faulty {
         let mut limits = *limits;
         match self.0 {
             Fault::ShortScratch => limits.scratch_words += 1,
+            Fault::FormerSum => limits.scratch_words = limits.scratch_words.saturating_sub(words_freed(image)),
             Fault::NetLimit if limits.n == 65_536 => limits.n = 65_535,
             _ => {}
         }
@@ -94,12 +102,25 @@ impl Subject for Faulty {
             (Fault::FullRanges, ACCEPTED) => lower_unchanged(image, n, p, netlist),
             (Fault::MemoryDepth, ACCEPTED) => enlarge_memory(netlist),
             (Fault::DirtyScratch, ACCEPTED) => scratch[last_scratch.unwrap()] = dirt.unwrap(),
+            (Fault::FormerClear, ACCEPTED) => clear_former(image, n, scratch),
             (Fault::WordBeyond, ACCEPTED) => netlist[reference::netlist_words(n, p)..].iter_mut().take(1).for_each(|word| *word = 0),
             (Fault::EarlyClear, [5, 0, 0]) => netlist[0] = 0,
             (Fault::UnclearedNetlist, [9, 0, 0]) => netlist.copy_from_slice(&before),
             _ => {}
         }
         answer
+    }
+}
+
+/// What document 01 asked for beyond document 02's sum, under any net limit.
+fn words_freed(image: &[u8]) -> usize {
+    Scratch::of(image, 1).map_or(0, |scratch| scratch.former - scratch.required)
+}
+
+fn clear_former(image: &[u8], n: u32, scratch: &mut [u32]) {
+    let former = Scratch::of(image, n).expect("a checked image").former;
+    if let Some(words) = scratch.get_mut(..former) {
+        words.fill(0);
     }
 }
 

@@ -14,7 +14,7 @@ pub fn at_the_limits() -> Vec<(&'static str, Vec<u8>)> {
         ("as many list words as there may be", with_list_words(32, 2_048)),
         ("a list word more", with_list_words(32, 2_049)),
         ("the whole scratch", with_scratch(8_192)),
-        ("four words of scratch more", with_scratch(8_196)),
+        ("a word of scratch more", with_scratch(8_193)),
         ("the image ends with the bytes that are read", whole.clone()),
         ("a byte of the image is not read", with_bytes(32_769)),
         ("a byte behind the bytes that are read", followed(whole.clone(), 1)),
@@ -28,7 +28,7 @@ pub fn near_the_limits(random: &mut Random) -> Vec<u8> {
     match random.below(6) {
         0 => with_nets(random.range(60, 110), random.range(6, 7), random.range(1_014, 1_034)),
         1 => with_list_words(random.range(24, 40), random.range(2_030, 2_060)),
-        2 => with_scratch(8_172 + 4 * random.range(0, 10)),
+        2 => with_scratch(random.range(8_172, 8_212)),
         3 => followed(with_bytes(random.range(32_760, 32_776) as usize), random.below(2) * random.below(30_000)),
         4 => with_names(random.range(1, 64) as usize, random.range(1, 60)),
         _ => with_long_lines(random.range(500, 1_020)),
@@ -71,12 +71,22 @@ fn with_list_words(width: u32, words: u32) -> Vec<u8> {
     sums(words + 1 - least)
 }
 
-/// The listing's example with a signal that makes up the scratch.
+/// A word, and its top bits once more, make up the scratch. Document 01's sum
+/// has hundreds of words more.
 fn with_scratch(words: u32) -> Vec<u8> {
-    let needed = inverter().scratch_words(1_024) as u32;
-    let mut builder = inverter_builder();
-    builder.wire("rest", (words - needed) / 4);
-    builder.finish().encode()
+    let tops = |width: u32, bits: u32| {
+        let mut builder = Builder::new();
+        let input = builder.input("a", width);
+        let output = builder.output("y", 1);
+        let word = builder.read(input);
+        let top = builder.slice(word, width - bits, bits);
+        let odd = builder.reduce_xor(top);
+        builder.assign(output, odd);
+        builder.finish()
+    };
+    let [least, next] = [1, 2].map(|width| tops(width, 1).scratch_words(1_024) as u32);
+    let (rest, of_a_bit) = (words - least, next - least);
+    tops(1 + rest / of_a_bit, 1 + rest % of_a_bit).encode()
 }
 
 /// The listing's example with list words and name bytes that nothing uses.
@@ -96,17 +106,13 @@ fn followed(mut input: Vec<u8>, bytes: usize) -> Vec<u8> {
 }
 
 fn inverter() -> Image {
-    inverter_builder().finish()
-}
-
-fn inverter_builder() -> Builder {
     let mut builder = Builder::new();
     let input = builder.input("a", 1);
     let output = builder.output("y", 1);
     let read = builder.read(input);
     let inverted = builder.not(read);
     builder.assign(output, inverted);
-    builder
+    builder.finish()
 }
 
 /// An input whose bits have names of 64 bytes: one of 1,008 bits just has room

@@ -2,6 +2,7 @@
 //! worked out anew for each image, so that it survives shrinking.
 
 use crate::expect::netlist_use;
+use crate::scratch::Scratch;
 use image::Random;
 
 const MOST_LIMIT: u32 = 65_535;
@@ -39,6 +40,9 @@ pub enum Room {
     Short(usize),
     /// So many words beyond.
     Longer(usize),
+    /// So many parts of 256 of the way to document 01's sum, and so many words
+    /// beyond.
+    Former(u32, usize),
     /// This many words.
     Given(usize),
 }
@@ -66,12 +70,14 @@ impl Limit {
 }
 
 impl Room {
-    fn of(self, required: usize) -> usize {
+    /// Where `required` words are, and by document 01's own sum `former`.
+    fn of(self, required: usize, former: usize) -> usize {
         match self {
             Room::Exact => required,
             Room::OneShort => required.saturating_sub(1),
             Room::Short(words) => required.saturating_sub(words),
             Room::Longer(words) => required + words,
+            Room::Former(parts, words) => required + (former - required) * parts as usize / 256 + words,
             Room::Given(words) => words,
         }
     }
@@ -96,13 +102,13 @@ impl Recipe {
         let room_n = if (1..=MOST_LIMIT).contains(&n) { n } else { Limit::Exact.of(taken.nets, 1) };
         let room_p = if p <= MOST_LIMIT { p } else { Limit::Exact.of(taken.list_words, 0) };
         let netlist = reference::netlist_words(room_n, room_p);
-        let scratch = reference::scratch_words(image, room_n).unwrap_or(SCRATCH_OF_NO_MODULE);
-        Limits { n, p, netlist_words: self.netlist.of(netlist), scratch_words: self.scratch.of(scratch) }
+        let Scratch { required, former } = Scratch::of(image, room_n).unwrap_or(SCRATCH_OF_NO_MODULE);
+        Limits { n, p, netlist_words: self.netlist.of(netlist, netlist), scratch_words: self.scratch.of(required, former) }
     }
 }
 
-/// The scratch lent with an image that is refused before its scratch is judged.
-const SCRATCH_OF_NO_MODULE: usize = 512;
+/// For an image that is refused before its scratch is judged.
+const SCRATCH_OF_NO_MODULE: Scratch = Scratch { required: 512, former: 512 };
 
 /// Nets and list words that an image's netlist takes.
 #[derive(Clone, Copy, Debug)]
@@ -133,8 +139,8 @@ pub fn for_lower(random: &mut Random) -> Vec<Recipe> {
     let beyond = |random: &mut Random| Room::Longer(random.below(9) + 1);
     vec![
         if random.chance(1) { Recipe { nets: most, list: most, ..exact } } else { exact },
-        Recipe { nets: ample, list: ample, netlist: beyond(random), scratch: beyond(random) },
-        Recipe { nets: Limit::OneShort, scratch: beyond(random), ..exact },
+        Recipe { nets: ample, list: ample, netlist: beyond(random), scratch: long_scratch(random) },
+        Recipe { nets: Limit::OneShort, scratch: long_scratch(random), ..exact },
         Recipe { list: Limit::OneShort, netlist: beyond(random), ..exact },
         Recipe { nets: Limit::Part(random.range(0, 256)), list: Limit::Part(random.range(0, 256)), ..exact },
         Recipe { nets: ample, list: Limit::Part(random.range(0, 256)), ..exact },
@@ -151,10 +157,21 @@ pub fn for_check(random: &mut Random) -> Vec<Recipe> {
     vec![
         any,
         Recipe { netlist: ample, scratch: ample, ..any },
+        Recipe { scratch: long_scratch(random), ..any },
         Recipe { netlist: Room::OneShort, ..any },
         Recipe { scratch: Room::OneShort, ..any },
         stopped_early(random),
     ]
+}
+
+/// More words than are required: a few, some below document 01's sum, or that
+/// sum and a few.
+fn long_scratch(random: &mut Random) -> Room {
+    match random.below(3) {
+        0 => Room::Longer(random.below(9) + 1),
+        1 => Room::Former(random.range(1, 255), 0),
+        _ => Room::Former(256, random.below(9)),
+    }
 }
 
 /// A call that the limits or a buffer stop, by much or by little.
@@ -177,4 +194,18 @@ fn any_nets(random: &mut Random) -> Limit {
 
 fn any_list(random: &mut Random) -> Limit {
     Limit::Given(if random.chance(2) { random.pick(&[0, 65_534, 65_535]) } else { random.range(0, 300) })
+}
+
+#[cfg(test)]
+mod tests {
+    use super::{long_scratch, Random};
+
+    #[test]
+    fn long_scratches_reach_both_sides_of_document_01s_sum() {
+        let mut random = Random::new(1);
+        let words: Vec<usize> = (0..200).map(|_| long_scratch(&mut random).of(100, 300)).collect();
+        assert!(words.iter().all(|words| (100..=308).contains(words)));
+        assert!(words.contains(&101) && words.contains(&300) && words.contains(&308));
+        assert!(words.iter().filter(|&words| (110..300).contains(words)).count() > 40);
+    }
 }

@@ -2,7 +2,8 @@
 
 use crate::call::{compare, Difference, What};
 use crate::cases::{case, Case, Origin, SizeChoice};
-use crate::limits::{for_check, for_lower, Recipe, Taken};
+use crate::limits::{for_check, for_lower, Limits, Recipe, Taken};
+use crate::scratch::Lent;
 use crate::shrunk::Shrunk;
 use crate::subject::Subject;
 use crate::Answer;
@@ -19,13 +20,15 @@ pub struct Plan {
 }
 
 /// What was compared: images, those in which only word widths of memories are
-/// wrong, and calls by outcome (0 accepted, 1 to 10). Of lowered images the
-/// adders that are narrowed, and those that are by the rows of Or and Xor.
+/// wrong, and calls by outcome (0 accepted, 1 to 10) and by the scratch that they
+/// lend. Of lowered images the adders that are narrowed, and those that are by
+/// the rows of Or and Xor.
 #[derive(Clone, Debug, Default, PartialEq, Eq)]
 pub struct Tally {
     pub images: u64,
     pub word_widths: u64,
     pub outcomes: [u64; 11],
+    pub scratch: Lent,
     pub narrowed: u64,
     pub by_rows: u64,
 }
@@ -63,6 +66,9 @@ impl fmt::Display for Tally {
         write!(f, "{} images, {} calls: accepted {}", self.images, self.calls(), self.outcomes[0])?;
         for (number, count) in self.outcomes.iter().enumerate().skip(1) {
             write!(f, ", refused {number}: {count}")?;
+        }
+        if self.scratch != Lent::default() {
+            write!(f, "; {}", self.scratch)?;
         }
         if self.word_widths > 0 {
             write!(f, "; {} images wrong by a word width alone", self.word_widths)?;
@@ -104,8 +110,10 @@ pub fn run(subject: &dyn Subject, what: What, plan: &Plan) -> Result<Tally, Box<
         }
         for recipe in recipes(what, &case, &mut random) {
             let trial = Trial { subject, what, recipe, junk: random.next() };
-            let (answer, difference) = trial.compare(&case.image, taken);
+            let limits = recipe.limits(&case.image, taken);
+            let (answer, difference) = trial.compare(&case.image, &limits);
             tally.count(answer);
+            tally.scratch.count(&case.image, &limits, answer);
             if let Some(difference) = difference {
                 return Err(Box::new(trial.failure(number, case, difference)));
             }
@@ -143,13 +151,13 @@ struct Trial<'a> {
 }
 
 impl Trial<'_> {
-    fn compare(&self, image: &[u8], taken: Taken) -> (Answer, Option<Difference>) {
-        let limits = self.recipe.limits(image, taken);
-        compare(self.subject, self.what, image, &limits, self.junk)
+    fn compare(&self, image: &[u8], limits: &Limits) -> (Answer, Option<Difference>) {
+        compare(self.subject, self.what, image, limits, self.junk)
     }
 
     fn difference(&self, image: &[u8]) -> Option<Difference> {
-        self.compare(image, taken(self.what, image)).1
+        let limits = self.recipe.limits(image, taken(self.what, image));
+        self.compare(image, &limits).1
     }
 
     fn failure(&self, number: u64, case: Case, difference: Difference) -> Failure {

@@ -4,6 +4,7 @@
 use compare::inputs::at_the_limits;
 use compare::listings::{answer, run, Lister};
 use compare::plan::Plan;
+use compare::scratch::Scratch;
 
 /// A fault put into what the oracle lists.
 #[derive(Clone, Copy, Debug)]
@@ -15,6 +16,8 @@ enum Fault {
     ReadsLess,
     /// A netlist that just fits is refused.
     EarlyRefusal,
+    /// Document 01's sum of scratch words is asked for.
+    FormerSum,
     /// A refusal's places are exchanged.
     PlacesExchanged,
     /// A second port's bits are named like the first's.
@@ -41,6 +44,8 @@ impl Lister for Oracle {
             Fault::ReadsLess => text = list(&input[..input.len().min(MOST_BYTES - 1)]),
             Fault::EarlyRefusal if text.starts_with("nets 1024 ") => text = "refused 9 0 0\n".to_string(),
             Fault::EarlyRefusal => {}
+            Fault::FormerSum if former_scratch(input) > 8_192 => text = "refused 5 0 0\n".to_string(),
+            Fault::FormerSum => {}
             Fault::PlacesExchanged => {
                 let [number, first, second] = answer(&text);
                 if number != 0 {
@@ -54,6 +59,11 @@ impl Lister for Oracle {
         }
         Ok(text.into_bytes())
     }
+}
+
+/// Document 01's sum; 0 for what is refused before it.
+fn former_scratch(input: &[u8]) -> usize {
+    Scratch::of(input, 1_024).map_or(0, |scratch| scratch.former)
 }
 
 const PLAN: Plan = Plan { seed: 1, first: 0, count: 600 };
@@ -75,6 +85,7 @@ fn each_fault_is_found() {
         Fault::ReadsAll,
         Fault::ReadsLess,
         Fault::EarlyRefusal,
+        Fault::FormerSum,
         Fault::PlacesExchanged,
         Fault::NoSecondPort,
         Fault::NoLineEnd,
@@ -103,7 +114,7 @@ fn the_inputs_are_at_the_limits() {
             ("as many list words as there may be", 0),
             ("a list word more", 10),
             ("the whole scratch", 0),
-            ("four words of scratch more", 5),
+            ("a word of scratch more", 5),
             ("the image ends with the bytes that are read", 0),
             ("a byte of the image is not read", 3),
             ("a byte behind the bytes that are read", 0),

@@ -213,10 +213,16 @@ impl Image {
     /// Scratch words that net limit `n` asks for.
     pub fn scratch_words(&self, n: u32) -> usize {
         4 * self.signal_bits()
-            + 2 * self.expression_bits()
+            + self.expression_bits()
             + 8 * self.expressions.len()
             + 4 * n as usize
             + 64
+    }
+
+    /// Scratch words by document 01's own sum, with two for each expression
+    /// bit, which document 02 made one.
+    pub fn former_scratch_words(&self, n: u32) -> usize {
+        self.scratch_words(n) + self.expression_bits()
     }
 }
 

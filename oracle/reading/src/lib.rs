@@ -1,5 +1,5 @@
-//! Refusals 1 to 5, written from document 01 and request Q-1 of document 02
-//! alone, as a second reading of their rules beside `oracle/reference`: two
+//! Refusals 1 to 5, written from document 01 and requests Q-1 and Q-10 of document
+//! 02 alone, as a second reading of their rules beside `oracle/reference`: two
 //! readings made apart, held against each other, show where one of them misread a
 //! sentence or where a sentence can be read in two ways. Nothing here is taken
 //! from another implementation, except the numbers that document 01 does not give
@@ -7,9 +7,9 @@
 //!
 //! Each rule carries the words that it stands for. Those in comments follow the
 //! name of the place they are in: "Image" is "The module image" of document 01,
-//! "Refusals" its "Refusals, by who can cause them", "Q-1" the request of document
-//! 02; those of the rules of header and records are handed back with a refusal by
-//! 3 or 4 (`cause`).
+//! "Refusals" its "Refusals, by who can cause them", "Q-1" and "Q-10" the requests
+//! of document 02; those of the rules of header and records are handed back with a
+//! refusal by 3 or 4 (`cause`).
 
 use std::collections::HashSet;
 
@@ -188,14 +188,14 @@ fn required_netlist_words(n: u32, p: u32) -> u64 {
     16 + 6 * u64::from(n) + u64::from(p)
 }
 
-/// Refusals, 5: "scratch below 4 × signal bits + 2 × expression bits + 8 ×
-/// expressions + 4N + 64 words".
+/// Refusals, 5: "scratch below [..] words"; Q-10: "Refusal 5's sum becomes 4 ×
+/// signal bits + expression bits + 8 × expressions + 4N + 64".
 fn required_scratch_words(module: &Module, n: u32) -> u64 {
     let signal_bits: u64 = module.signals.iter().map(|signal| u64::from(signal.width)).sum();
     let expression_bits: u64 =
         module.expressions.iter().map(|expression| u64::from(expression.width)).sum();
     let expressions = long(module.expressions.len());
-    4 * signal_bits + 2 * expression_bits + 8 * expressions + 4 * u64::from(n) + 64
+    4 * signal_bits + expression_bits + 8 * expressions + 4 * u64::from(n) + 64
 }
 
 // Refusal 3: the header.

@@ -1,6 +1,6 @@
 //! Each refusal from 1 to 5 and its place, each limit at its most and one past
-//! it, on small images built by hand from the text of document 01 and of Q-1 in
-//! document 02. The reference checks must answer alike on each of them.
+//! it, on small images built by hand from the text of document 01 and of Q-1 and
+//! Q-10 in document 02. The reference checks must answer alike on each of them.
 
 /// This reading's answer, once the reference has given the same.
 fn refusal(image: &[u8], n: u32, p: u32, netlist_words: usize, scratch_words: usize) -> [u32; 3] {
@@ -1190,7 +1190,7 @@ fn the_first_record_in_image_order() {
 fn scratch() {
     // Two signal bits, two expression bits, two expressions.
     let image = inverter().bytes();
-    let words = 4 * 2 + 2 * 2 + 8 * 2 + 4 * 100 + 64;
+    let words = 4 * 2 + 2 + 8 * 2 + 4 * 100 + 64;
     assert_eq!(refusal(&image, N, P, NETLIST, words), ACCEPTED);
     assert_eq!(refusal(&image, N, P, NETLIST, words - 1), [5, 0, 0]);
     // Nothing but the net limit.
@@ -1201,11 +1201,39 @@ fn scratch() {
     assert_eq!(refusal(&image, 65_535, 0, AMPLE, 262_203), [5, 0, 0]);
     // 18 signal bits and 12 expression bits in two expressions; then 11 and 9.
     let image = memory().bytes();
-    assert_eq!(refusal(&image, 1, 0, AMPLE, 180), ACCEPTED);
-    assert_eq!(refusal(&image, 1, 0, AMPLE, 179), [5, 0, 0]);
+    assert_eq!(refusal(&image, 1, 0, AMPLE, 168), ACCEPTED);
+    assert_eq!(refusal(&image, 1, 0, AMPLE, 167), [5, 0, 0]);
     let image = register().bytes();
-    assert_eq!(refusal(&image, 1, 0, AMPLE, 146), ACCEPTED);
-    assert_eq!(refusal(&image, 1, 0, AMPLE, 145), [5, 0, 0]);
+    assert_eq!(refusal(&image, 1, 0, AMPLE, 137), ACCEPTED);
+    assert_eq!(refusal(&image, 1, 0, AMPLE, 136), [5, 0, 0]);
+}
+
+#[test]
+fn scratch_at_its_most() {
+    // 4,096 signal bits, 32,768 expression bits, 2,048 expressions.
+    let mut image = Image::default();
+    for name in ["a", "b", "c", "d"] {
+        image.signal(name, 1_024, INPUT);
+    }
+    for _ in 0..2_048 {
+        image.value(16);
+    }
+    let image = image.bytes();
+    let words = 4 * 4_096 + 32_768 + 8 * 2_048 + 4 * 65_535 + 64;
+    assert_eq!(refusal(&image, 65_535, 0, AMPLE, words), ACCEPTED);
+    assert_eq!(refusal(&image, 65_535, 0, AMPLE, words - 1), [5, 0, 0]);
+}
+
+#[test]
+fn one_word_per_expression_bit() {
+    // One expression of 1,024 bits, which nothing uses; document 01's sum was 2,124.
+    let mut image = Image::default();
+    image.value(1_024);
+    let image = image.bytes();
+    assert_eq!(refusal(&image, 1, 0, AMPLE, 1_099), [5, 0, 0]);
+    for words in 1_100..=2_124 {
+        assert_eq!(refusal(&image, 1, 0, AMPLE, words), ACCEPTED);
+    }
 }
 
 // Any bytes end, without a panic.

@@ -44,15 +44,16 @@ pub fn netlist_words(n: u32, p: u32) -> usize {
     16 + 6 * n as usize + p as usize
 }
 
-/// "5: scratch below 4 × signal bits + 2 × expression bits + 8 × expressions
-/// + 4N + 64 words." `None` for an image that is refused by 3 or 4.
+/// "5: scratch below" so many words: "4 × signal bits + expression bits + 8 ×
+/// expressions + 4N + 64" (document 02). `None` for an image that is refused by
+/// 3 or 4.
 pub fn scratch_words(image: &[u8], n: u32) -> Option<usize> {
     let module = read(image).ok()?;
     Some(scratch_words_of(&module, n))
 }
 
 fn scratch_words_of(module: &Module, n: u32) -> usize {
-    4 * module.signal_bits() + 2 * module.expression_bits() + 8 * module.expressions() + 4 * n as usize + 64
+    4 * module.signal_bits() + module.expression_bits() + 8 * module.expressions() + 4 * n as usize + 64
 }
 
 /// The image read as a module, or its refusal 3 or 4.

@@ -160,7 +160,7 @@ fn buffers() {
     assert_eq!(netlist_words(N, P), need);
     let signal_bits = 1 + 6 * 8;
     let expression_bits = 8 + 8 + 8 + 1 + 8 + 1 + 8 + 8 + 4 + 4 + 4 + 8 + 1;
-    let scratch = 4 * signal_bits + 2 * expression_bits + 8 * EXPRESSIONS as usize + 4 * 100 + 64;
+    let scratch = 4 * signal_bits + expression_bits + 8 * EXPRESSIONS as usize + 4 * 100 + 64;
     assert_eq!(scratch_words(&image, N), Some(scratch));
     assert_eq!(scratch_words(&image[1..], N), None);
     assert_eq!(check(&image, N, P, need, scratch), FINE);

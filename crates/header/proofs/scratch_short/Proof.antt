@@ -16,9 +16,6 @@ mul-bits c = search needs
 expr-bits-requires : tie.Need-expr-bits-requires
 expr-bits-requires c κs = search needs
 
-mul-bits-2 : tie.Need-mul-bits-2
-mul-bits-2 c = search needs
-
 add-bits : tie.Need-add-bits
 add-bits c = search needs
 
@@ -54,7 +51,6 @@ scratch-short-spec =
     signal-bits-requires
     mul-bits
     expr-bits-requires
-    mul-bits-2
     add-bits
     count-requires
     cast-result

@@ -3,12 +3,18 @@
 
 use calls::speed::Race;
 use compare::args::{parse_number, Words};
+use compare::corpus;
+use compare::expect::netlist_use;
+use compare::scratch::Scratch;
 use image::heavy;
 use image::{generate, Image, Size};
+use std::path::Path;
 
-const USAGE: &str = "bench-lower [images [IMAGE...] | growth | repeat port|rust IMAGE CALLS]
+const USAGE: &str = "bench-lower [images [IMAGE...] | growth | scratch CORPUS | repeat port|rust IMAGE CALLS]
     images   Times of the port's call and of struo's lowering, image by image.
     growth   The same against nets, expressions, signals and registers.
+    scratch  Words of scratch with nets that just serve, and by document 01's own
+             sum, of the same images and of those of the corpus that are accepted.
     repeat   Calls one of the two again and again, for a profiler.
 The port's call takes bytes: its time holds the checks and the clearing of both
 buffers. struo's is of Lowering::new and Lowering::lower on a module that stands
@@ -20,6 +26,7 @@ fn main() {
     let done = driver::with_big_stack(|| match what.as_str() {
         "images" => Ok(times(&mut words)),
         "growth" => Ok(growth()),
+        "scratch" => scratch(&mut words),
         "repeat" => repeat(&mut words),
         _ => Err(USAGE.to_string()),
     });
@@ -61,9 +68,13 @@ fn k2() -> Image {
 fn random(size: Size, count: usize) -> Vec<Image> {
     (0u64..)
         .map(|seed| generate(seed, size))
-        .filter(|image| matches!(driver::lower(&image.encode(), false), driver::Answer::Netlist { .. }))
+        .filter(|image| is_accepted(&image.encode()))
         .take(count)
         .collect()
+}
+
+fn is_accepted(image: &[u8]) -> bool {
+    reference::scratch_words(image, 1).is_some() && matches!(driver::lower(image, false), driver::Answer::Netlist { .. })
 }
 
 fn times(words: &mut Words) {
@@ -104,6 +115,34 @@ fn growth() {
             println!("{size:>8} {:>8} {port:>12.0} {rust:>12.0} {:>6.2} {each:>12.1}", race.nets, port / rust);
         }
     }
+}
+
+fn scratch(words: &mut Words) -> Result<(), String> {
+    let mut corpus = corpus::images(Path::new(&words.value("scratch")?))?;
+    corpus.retain(|image| is_accepted(image));
+    println!("| image | nets | words by document 01 | words by document 02 | part |\n|---|---|---|---|---|");
+    for (name, images) in CASES {
+        scratch_row(name, &images().iter().map(Image::encode).collect::<Vec<_>>());
+    }
+    scratch_row(&format!("corpus, {} images", corpus.len()), &corpus);
+    let largest = corpus.into_iter().max_by_key(|image| scratch_of(image).1.required);
+    scratch_row("corpus, its largest", largest.as_slice());
+    Ok(())
+}
+
+/// The sums over some images.
+fn scratch_row(name: &str, images: &[Vec<u8>]) {
+    let each: Vec<(u32, Scratch)> = images.iter().map(|image| scratch_of(image)).collect();
+    let nets: u32 = each.iter().map(|(nets, _)| nets).sum();
+    let former: usize = each.iter().map(|(_, scratch)| scratch.former).sum();
+    let required: usize = each.iter().map(|(_, scratch)| scratch.required).sum();
+    println!("| {name} | {nets} | {former} | {required} | {:.2} |", required as f64 / former as f64);
+}
+
+/// Nets that an image takes, and the scratch with as many.
+fn scratch_of(image: &[u8]) -> (u32, Scratch) {
+    let (nets, _) = netlist_use(image).expect("an image that passes checks 3 and 4");
+    (nets, Scratch::of(image, nets.max(1)).expect("an image that passes checks 3 and 4"))
 }
 
 fn repeat(words: &mut Words) -> Result<(), String> {

@@ -3,9 +3,10 @@
 //! inputs, then of each its length and its bytes (numbers are 32 bits, low byte
 //! first); `stdout` the oracle's listing of each.
 
+use compare::corpus;
 use compare::inputs::at_the_limits;
 use compare::listings::answer;
-use std::path::{Path, PathBuf};
+use std::path::Path;
 use std::process::ExitCode;
 
 const USAGE: &str = "usage: make-listings CORPUS -o FOLDER";
@@ -30,7 +31,7 @@ fn main() -> ExitCode {
 }
 
 fn make(corpus: &Path, folder: &Path) -> Result<String, String> {
-    let mut inputs = corpus_images(corpus)?;
+    let mut inputs = corpus::images(corpus)?;
     inputs.extend(at_the_limits().into_iter().map(|(_, input)| input));
     let listings: Vec<String> = inputs.iter().map(|input| driver::listing(input, &reference::check)).collect();
     let mut stdin = (inputs.len() as u32).to_le_bytes().to_vec();
@@ -41,20 +42,6 @@ fn make(corpus: &Path, folder: &Path) -> Result<String, String> {
     write(&folder.join("stdin"), &stdin)?;
     write(&folder.join("stdout"), listings.concat().as_bytes())?;
     Ok(describe(&listings))
-}
-
-fn corpus_images(corpus: &Path) -> Result<Vec<Vec<u8>>, String> {
-    let problem = |path: &Path, error: &dyn std::fmt::Display| format!("{}: {error}", path.display());
-    let entries = std::fs::read_dir(corpus).map_err(|error| problem(corpus, &error))?;
-    let paths = entries.map(|entry| entry.map(|entry| entry.path())).collect::<Result<Vec<PathBuf>, _>>();
-    let mut paths = paths.map_err(|error| problem(corpus, &error))?;
-    paths.retain(|path| path.extension().is_some_and(|extension| extension == "txt"));
-    paths.sort();
-    let image = |path: &PathBuf| {
-        let text = std::fs::read_to_string(path).map_err(|error| problem(path, &error))?;
-        image::assemble(&text).map_err(|error| problem(path, &error))
-    };
-    paths.iter().map(image).collect()
 }
 
 fn write(path: &Path, bytes: &[u8]) -> Result<(), String> {

@@ -2,6 +2,7 @@
 
 use compare::args::{parse_number, Words};
 use compare::replay::{make, read, write, Entry};
+use compare::scratch::Lent;
 use compare::ACCEPTED;
 use driver::{lower, lower_unchanged};
 use reference::netlist_words;
@@ -49,8 +50,8 @@ fn execute(words: &[&str]) -> Result<String, String> {
     }
 }
 
-/// Counts by the call's answer, how many buffers are longer than they must be,
-/// how often the rows of Or and Xor decide, and the largest sizes.
+/// Counts by the call's answer, how many buffers are longer than they must be or
+/// short, how often the rows of Or and Xor decide, and the largest sizes.
 fn describe(entries: &[Entry], bytes: usize) -> String {
     let count = |number: u32| entries.iter().filter(|entry| entry.answer[0] == number).count();
     let largest = |size: fn(&Entry) -> usize| entries.iter().map(size).max().unwrap_or(0);
@@ -61,7 +62,10 @@ fn describe(entries: &[Entry], bytes: usize) -> String {
     let lowered: Vec<&Entry> = entries.iter().filter(|entry| entry.checks == ACCEPTED).collect();
     let longer = lowered.iter().filter(|entry| entry.limits.netlist_words > netlist_words(entry.limits.n, entry.limits.p)).count();
     let by_rows = lowered.iter().filter(|entry| lower(&entry.image, false) != lower_unchanged(&entry.image, false)).count();
+    let mut scratch = Lent::default();
+    entries.iter().for_each(|entry| scratch.count(&entry.image, &entry.limits, entry.checks));
     text += &format!("passed by the checks: {}, netlist buffers longer than they must be: {longer}\n", lowered.len());
+    text += &format!("{scratch}\n");
     text += &format!("without the rows of Or and Xor the answer is another: {by_rows}\n");
     text += &format!("largest image: {} bytes\n", largest(|entry| entry.image.len()));
     text += &format!("largest netlist buffer: {} words\n", largest(|entry| entry.limits.netlist_words));

@@ -3,6 +3,7 @@
 use super::bases::{full, inverter, swept};
 use super::{Cases, LIST_WORDS, MOST_SCRATCH, NETS};
 use crate::format::{netlist_words, set_word, Image, ABSENT, EDITION, MOST_LIMIT};
+use std::collections::BTreeSet;
 
 pub fn add(cases: &mut Cases) {
     limits(cases);
@@ -49,9 +50,9 @@ fn buffers(cases: &mut Cases) {
             (NETS, LIST_WORDS),
             (MOST_LIMIT, MOST_LIMIT),
         ] {
-            let (netlist, scratch) = (netlist_words(n, p), image.scratch_words(n));
+            let netlist = netlist_words(n, p);
             for netlist in [0, 15, netlist - 1, netlist, netlist + 1] {
-                for scratch in [0, 63, scratch - 1, scratch, scratch + 1] {
+                for scratch in scratch_lengths(&image, n) {
                     let name = format!(
                         "{label}, limits {n} {p}, {netlist} netlist and {scratch} scratch words"
                     );
@@ -62,6 +63,12 @@ fn buffers(cases: &mut Cases) {
             }
         }
     }
+}
+
+/// Next to what is required, and to what document 01 asked for.
+fn scratch_lengths(image: &Image, n: u32) -> BTreeSet<usize> {
+    let (required, former) = (image.scratch_words(n), image.former_scratch_words(n));
+    BTreeSet::from([0, 63, required - 1, required, required + 1, former - 1, former])
 }
 
 /// Every set of checks failing at once: the first one answers.

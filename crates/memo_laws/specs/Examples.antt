@@ -1,0 +1,57 @@
+-- An example, computed: y is bits 0 to 1 and z bits 1 to 2 of ~a, lowered by ranges; then, with the nets of expressions forgotten, ~a is lowered whole. Its
+-- three bits have the nets that they had, and no net is made. Assumes nothing.
+use Prim.Native.Nat.{ℕ}
+use mathlib.Core.Path.{_≡_, refl}
+use mathlib.Core.Bool.{Bool, true, false}
+use mathlib.Core.List.{List, [], _∷_}
+use mathlib.Core.Option.{Option, some}
+use lib.ListN.{length}
+use Rattle.rtl.specs.Rtl as R
+use Rattle.rtl.specs.Rtl.{Module}
+use Rattle.model.specs.Words as Words
+use Rattle.model.specs.Builder as Builder
+use Rattle.model.specs.Builder.{Out, refused, done}
+use Rattle.model.specs.WordCells as WordCells
+use Rattle.model.specs.Ranges as Ranges
+use Rattle.model.specs.Lowering as L
+use Rattle.model.specs.Lowering.{State, lowerNeed, plenty, expressionNet, lowerState}
+use Rattle.memo_laws.specs.Memo.{forgot}
+
+computing : ℕ
+unfolding Words.used Words.count Words.words Builder.addNode Builder.push Builder.nodeForNet Builder.constantValue Builder.same Builder.find Builder.addCached Builder.addConstant Builder.addNot Builder.addAnd Builder.addOr Builder.addXor Builder.addMux Builder.each Builder.both Builder.from Builder.addNodes Builder.addRecorded Builder.addInputPort Builder.addOutputPort Builder.constantValues Builder.foldConstantArithmetic Builder.addArithmetic Builder.addComparison WordCells.begins WordCells.findCell WordCells.arithmetic WordCells.comparison Ranges.binaryRange Ranges.rangeAt Ranges.adderWidth L.level L.levels L.reduceTree L.addEqual L.equalWords L.stages L.shift L.lowerUnary L.lowerBinary L.isZeroExpression L.carryLsb L.addOperands L.operandsOf L.setSignalBit L.setSignal L.mark L.setWhole L.whole L.setRange L.signalBit L.signalNet L.signalNets L.wholeNets L.wholeNet L.rangeNets L.rangeKnown L.signalSteps L.wholeSteps L.pieces L.concatPieces L.rangeSteps L.buildBinary L.buildWhole L.buildRange L.lowerSteps L.driverOf L.drive L.resolveSignalBit L.keepWhole L.lowerExpression L.keepRange L.lowerExpressionRange L.lowerNeed L.plenty L.lowerAll L.start L.reserveInputs L.reserveRegisters L.reserveMemories L.reserveSources L.connectMemories L.registerBits L.connectRegisters L.connectOutputs L.lowerState L.expressionNet L.lowerWith L.lower
+computing = 0
+
+abbrev m : Module
+m = record {
+  signals = record { width = 3; dir = R.Input } ∷ record { width = 2; dir = R.Output } ∷ record { width = 2; dir = R.Output } ∷ [];
+  exprs = record { width = 3; kind = R.Signal 0 0 } ∷ record { width = 3; kind = R.Un R.BitNot 0 } ∷ record { width = 2; kind = R.Slice 1 0 } ∷ record { width = 2; kind = R.Slice 1 1 } ∷ [];
+  assigns = record { signal = 1; lsb = 0; width = 2; value = 2 } ∷ record { signal = 2; lsb = 0; width = 2; value = 3 } ∷ [];
+  registers = [];
+  memories = [];
+}
+
+-- nets made, and the nets of bits 0 to 2 of ~a
+abbrev seen : Out State → List (Option ℕ)
+seen (refused n x y) = []
+seen (done st) = some (length (st .netlist .nodes)) ∷ expressionNet st 1 0 ∷ expressionNet st 1 1 ∷ expressionNet st 1 2 ∷ []
+
+abbrev again : Bool → Out State → Out State
+again ob (refused n x y) = refused n x y
+again ob (done st) = lowerNeed (plenty m) m ob (L.Whole 1) (forgot m st)
+
+by-ranges : seen (lowerState false m 16 64) ≡ some 10 ∷ some 3 ∷ some 4 ∷ some 7 ∷ []
+unfolding computing
+by-ranges = refl
+
+whole-again : seen (again false (lowerState false m 16 64)) ≡ some 10 ∷ some 3 ∷ some 4 ∷ some 7 ∷ []
+unfolding computing
+whole-again = refl
+
+-- with the flag
+by-bits : seen (lowerState true m 16 64) ≡ some 10 ∷ some 3 ∷ some 4 ∷ some 7 ∷ []
+unfolding computing
+by-bits = refl
+
+bits-again : seen (again true (lowerState true m 16 64)) ≡ some 10 ∷ some 3 ∷ some 4 ∷ some 7 ∷ []
+unfolding computing
+bits-again = refl

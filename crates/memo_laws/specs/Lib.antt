@@ -1,0 +1,19 @@
+-- One word for each expression bit (document 02, Q-10): what was lowered is lowered again to the same nets, and nothing is made. `Memo` has the claims,
+-- `Claims` shows them.
+pub mod Memo
+pub mod Along
+pub mod Repeated
+pub mod Derived
+pub mod Stays
+pub mod Reads
+pub mod Built
+pub mod Kinds
+pub mod Steady
+pub mod Walked
+pub mod Nothing
+pub mod Relowered
+pub mod Again
+pub mod Reached
+pub mod Claims
+pub mod Passed
+pub mod Examples

@@ -1,0 +1,122 @@
+-- The call goes through states of `Reached` only: after each step of a walk, each record and each phase. Assumes nothing.
+use mathlib.Core.Path.{_≡_, refl}
+use mathlib.Core.Bool.{Bool, true, false}
+use mathlib.Core.List.{List, [], _∷_}
+use mathlib.Core.Option.{some}
+use Prim.Native.Nat.{ℕ, zero, suc, _+_, _≤_}
+use native.Mathlib.Nat.{zero-add}
+use native.Mathlib.Omega.{arith}
+use lib.ListN.{getElem?}
+use Rattle.rtl.specs.Rtl as R
+use Rattle.rtl.specs.Rtl.{Module, Memory, Register, Sig, Dir}
+use Rattle.model.specs.Words.{absent, Netlist}
+use Rattle.model.specs.Builder.{Out, refused, done, andThen, Made, isValue, addOutputPort}
+use Rattle.model.specs.Lowering.{State, Need, Step, Always, Unless, withNetlist, signalNets, signalSteps, signalWidth, selected, unless, lowerNeed, lowerSteps, plenty, lowerAll, start, reserveSources, pushRecord, memorySteps, portsWords, registerSteps, registerBit, registerBits, connectMemories, connectRegisters, connectOutput, connectOutputs, lowerState}
+use Rattle.netlist_laws.specs.Run.{Meets, meets-bind}
+use Rattle.walk_laws.specs.Good.{Good}
+use Rattle.walk_laws.specs.Kept.{Any, Walks}
+use Rattle.walk_laws.specs.Reads.{Asked, AllAsked, AllAfter}
+use Rattle.walk_laws.specs.Walk.{bits-asked, all-walk}
+use Rattle.connect_laws.specs.Supply.{supply}
+use Rattle.connect_laws.specs.Memories.{steps-asked as memory-asked}
+use Rattle.connect_laws.specs.Registers.{steps-asked as register-asked}
+use Rattle.memo_laws.specs.Memo.{Reached, begun, lowered, memory, register, output}
+use Rattle.memo_laws.specs.Reached.{reached-kept}
+
+-- two facts of one outcome
+both-meet : {A : Type 0} (P Q : A → Type 0) (o : Out A) → Meets Any P o → Meets Any Q o → Meets Any (λ a. P a × Q a) o
+both-meet P Q (refused n x y) p q = tt
+both-meet P Q (done a) p q = (p, q)
+
+-- the outcome is itself
+as-outcome : {A : Type 0} (P : A → Type 0) (o : Out A) → ((a : A) → o ≡ done a → P a) → Meets Any P o
+as-outcome P (refused n x y) h = tt
+as-outcome P (done a) h = h a refl
+
+module _ (m : Module) (good : Good m) (ob : Bool) (n p : ℕ) (limit : n ≤ absent) where
+  abbrev Passes : Out State → Type 0
+  Passes o = Meets Any (Reached m ob n p) o
+
+  then : (o : Out State) (k : State → Out State) → Passes o → ((st : State) → Reached m ob n p st → Passes (k st)) → Passes (andThen o k)
+  then o k h g = meets-bind Any (Reached m ob n p) (Reached m ob n p) o k h g
+
+  pub need-passes : (f : ℕ) (need : Need) {st : State} → Asked m need → Reached m ob n p st → Passes (lowerNeed f m ob need st)
+  need-passes f need {st} a r = as-outcome (Reached m ob n p) (lowerNeed f m ob need st) (λ st′ q. lowered f need a r q)
+
+  -- after each step of a list, so before the next one
+  pub steps-pass : (f : ℕ) (ss : List Step) {st : State} → AllAsked m ss → Reached m ob n p st → Passes (lowerSteps (λ need st′. lowerNeed f m ob need st′) ob ss st)
+  unfolding lowerSteps
+  steps-pass f [] a r = r
+  steps-pass f (Always need ∷ ss) {st} a r = then (lowerNeed f m ob need st) _ (need-passes f need (a .0) r) (λ st₁ r₁. steps-pass f ss (a .1) r₁)
+  steps-pass f (Unless c v need ∷ ss) {st} a r = then (unless (isValue v (selected ob st c)) (λ x y. lowerNeed f m ob x y) need st) _ (skip (isValue v (selected ob st c))) (λ st₁ r₁. steps-pass f ss (a .1) r₁)
+    where
+      skip : (t : Bool) → Passes (unless t (λ x y. lowerNeed f m ob x y) need st)
+      skip true = r
+      skip false = need-passes f need (a .0) r
+
+  -- the steps of a record, and what is there after them
+  all-pass : (ss : List Step) (st : State) → AllAsked m ss → Reached m ob n p st → Meets Any (λ st′. Reached m ob n p st′ × AllAfter ob st′ ss) (lowerAll m ob ss st)
+  unfolding lowerAll
+  all-pass ss st a r =
+      both-meet (Reached m ob n p) (λ st′. AllAfter ob st′ ss) (lowerAll m ob ss st) (steps-pass (plenty m) ss a r)
+      (after (lowerAll m ob ss st) (all-walk supply m good ob ss st (reached-kept m good ob n p limit r .inv) a))
+    where
+      after : (o : Out State) → Walks m st (λ st′. AllAfter ob st′ ss) o → Meets Any (λ st′. AllAfter ob st′ ss) o
+      after (refused x y z) w = tt
+      after (done st′) w = w .walks .post
+
+  then-after : (ss : List Step) (o : Out State) (k : State → Out State) → Meets Any (λ st′. Reached m ob n p st′ × AllAfter ob st′ ss) o
+      → ((st : State) → Reached m ob n p st → AllAfter ob st ss → Passes (k st)) → Passes (andThen o k)
+  then-after ss o k h g = meets-bind Any (λ st′. Reached m ob n p st′ × AllAfter ob st′ ss) (Reached m ob n p) o k h (λ st x. g st (x .0) (x .1))
+
+  -- ---- the phases ----
+
+  memories-pass : (k j : ℕ) (xs : List Memory) (st : State) → ((i : ℕ) (x : Memory) → getElem? xs i ≡ some x → getElem? (m .memories) (j + i) ≡ some x) → Reached m ob n p st
+      → Passes (connectMemories m ob k xs st)
+  unfolding connectMemories
+  memories-pass k j [] st h r = r
+  memories-pass k j (x ∷ xs) st h r =
+      let g = good .memories (j + 0) x (h 0 x refl) in
+      then-after (memorySteps x) (lowerAll m ob (memorySteps x) st) _ (all-pass (memorySteps x) st (memory-asked m x (g .first) (g .second)) r) (λ st₁ r₁ a.
+      then (pushRecord (2 ∷ k ∷ x .depth ∷ x .style ∷ 1 ∷ portsWords m st₁ (x .first) (x .second)) st₁) _
+      (as-outcome (Reached m ob n p) (pushRecord (2 ∷ k ∷ x .depth ∷ x .style ∷ 1 ∷ portsWords m st₁ (x .first) (x .second)) st₁) (λ st₂ q. memory k x a r₁ q))
+      (λ st₂ r₂. memories-pass (suc k) (suc j) xs st₂ (λ i y e. let z : suc j + i ≡ j + suc i = omega arith in rw z (h (suc i) y e)) r₂))
+
+  bits-pass : (k : ℕ) (x : Register) (b w : ℕ) (st : State) → Reached m ob n p st → Passes (registerBits k x b w st)
+  unfolding registerBits
+  bits-pass k x b zero st r = r
+  bits-pass k x b (suc w) st r =
+      then (registerBit (x .reset) k x b st) _ (as-outcome (Reached m ob n p) (registerBit (x .reset) k x b st) (λ st₁ q. register k x b r q)) (λ st₁ r₁. bits-pass k x (suc b) w st₁ r₁)
+
+  registers-pass : (k j : ℕ) (xs : List Register) (st : State) → ((i : ℕ) (x : Register) → getElem? xs i ≡ some x → getElem? (m .registers) (j + i) ≡ some x) → Reached m ob n p st
+      → Passes (connectRegisters m ob k xs st)
+  unfolding connectRegisters
+  registers-pass k j [] st h r = r
+  registers-pass k j (x ∷ xs) st h r =
+      then-after (registerSteps x) (lowerAll m ob (registerSteps x) st) _ (all-pass (registerSteps x) st (register-asked m (j + 0) x (good .registers (j + 0) x (h 0 x refl))) r) (λ st₁ r₁ a.
+      then (registerBits k x 0 (signalWidth m (x .target)) st₁) _ (bits-pass k x 0 (signalWidth m (x .target)) st₁ r₁)
+      (λ st₂ r₂. registers-pass (suc k) (suc j) xs st₂ (λ i y e. let z : suc j + i ≡ j + suc i = omega arith in rw z (h (suc i) y e)) r₂))
+
+  output-passes : (d : Dir) (s w : ℕ) (st : State) → Reached m ob n p st → Passes (connectOutput m ob d s w st)
+  output-passes R.Internal s w st r = r
+  output-passes R.Input s w st r = r
+  output-passes R.Output s w st r =
+      then-after (signalSteps s 0 w) (lowerAll m ob (signalSteps s 0 w) st) _ (all-pass (signalSteps s 0 w) st (bits-asked m s 0 w) r) (λ st₁ r₁ a.
+      port st₁ (addOutputPort s (signalNets st₁ s 0 w) (st₁ .netlist)) (λ x q. output s w (x .0) (x .1) a r₁ q))
+    where
+      port : (st₁ : State) (o : Made (List ℕ)) → ((x : List ℕ × Netlist) → o ≡ done x → Reached m ob n p (withNetlist st₁ (x .1))) → Passes (andThen o (λ (ns, l). done (withNetlist st₁ l)))
+      port st₁ (refused x y z) h = tt
+      port st₁ (done x) h = h x refl
+
+  outputs-pass : (s : ℕ) (xs : List Sig) (st : State) → Reached m ob n p st → Passes (connectOutputs m ob s xs st)
+  unfolding connectOutputs
+  outputs-pass s [] st r = r
+  outputs-pass s (x ∷ xs) st r = then (connectOutput m ob (x .dir) s (x .width) st) _ (output-passes (x .dir) s (x .width) st r) (λ st₁ r₁. outputs-pass (suc s) xs st₁ r₁)
+
+  -- the whole call
+  pub call-passes : Passes (lowerState ob m n p)
+  unfolding lowerState
+  call-passes =
+      then (reserveSources m (start m n p)) _ (as-outcome (Reached m ob n p) (reserveSources m (start m n p)) (λ st q. begun q)) (λ st₁ r₁.
+      then (connectMemories m ob 0 (m .memories) st₁) _ (memories-pass 0 0 (m .memories) st₁ (λ i x e. rw (zero-add i) e) r₁) (λ st₂ r₂.
+      then (connectRegisters m ob 0 (m .registers) st₂) _ (registers-pass 0 0 (m .registers) st₂ (λ i x e. rw (zero-add i) e) r₂) (λ st₃ r₃. outputs-pass 0 (m .signals) st₃ r₃)))
