@@ -2,32 +2,30 @@
 -- has a net keeps it, whatever is lowered. Assumes nothing.
 use mathlib.Core.Path.{_≡_, refl, sym, ap, subst, _∙_}
 use mathlib.Core.Bool.{Bool}
-use mathlib.Core.List.{List}
-use mathlib.Core.Option.{none, some}
+use mathlib.Core.Option.{some}
 use Prim.Native.Nat.{ℕ, suc, _+_, _*_, _≤_, _<_}
 use native.Mathlib.Nat.{suc-mul}
 use native.Mathlib.Omega.{arith}
-use lib.ListN.{length, replicate, length-map}
+use lib.ListN.{length}
 use Rattle.rtl.specs.Rtl as R
-use Rattle.rtl.specs.Rtl.{Module, Expr}
+use Rattle.rtl.specs.Rtl.{Module}
 use Rattle.model.specs.Words.{absent}
 use Rattle.model.specs.Builder.{done}
-use Rattle.model.specs.Ranges.{widthAt}
 use Rattle.model.specs.Lowering.{State, Need, Bit, Whole, Range, whole, wholeNets, signalBit, expressionNet, lowerNeed, plenty, sumWidths}
 use Rattle.netlist_laws.specs.Run.{Meets}
-use Rattle.walk_laws.specs.Tables.{none-some}
+use Rattle.walk_laws.specs.Tables.{Has}
 use Rattle.walk_laws.specs.Good.{Good}
 use Rattle.walk_laws.specs.Kept.{Any, Inv, Walks}
 use Rattle.walk_laws.specs.Reads.{Asked, After}
 use Rattle.walk_laws.specs.Walk.{need-walk}
 use Rattle.connect_laws.specs.Supply.{supply}
-use Rattle.connect_laws.specs.Sources.{none-at, blank, shaped}
 use Rattle.memo_laws.specs.Reads.{whole-nets, held-net, net-here, net-bit}
 use Rattle.memo_laws.specs.Walked.{IsKept, need-keep}
 use Rattle.memo_laws.specs.Relowered.{costOf, nets-have, Part}
 use Rattle.memo_laws.specs.Again.{need-again}
 use Rattle.memo_laws.specs.Memo.{Reached, HasNets, forgot, LowersAgain}
-use Rattle.memo_laws.specs.Reached.{nothing-known, Kept, kept-blank, reached-kept}
+use Rattle.memo_laws.specs.Forgot.{forgot-nets, forgot-inv, forgot-steady}
+use Rattle.memo_laws.specs.Reached.{Kept, reached-kept}
 
 -- the call's fuel is enough
 enough : (m : Module) (need : Need) → Asked m need → costOf need < plenty m
@@ -41,26 +39,6 @@ enough m need a = go need a
     go (Bit s b) a = omega (arith, least (sumWidths (m .signals)) (2 * length (m .exprs) + 1))
     go (Whole e) a = omega (arith, least (sumWidths (m .signals)) (2 * length (m .exprs) + 1))
     go (Range e lsb w) a = omega (arith, a .0, least (sumWidths (m .signals)) (2 * length (m .exprs) + 1))
-
--- ---- a state that knows no expression's net ----
-
-forgot-inv : (m : Module) (st : State) → Inv m st → Inv m (forgot m st)
-unfolding whole
-forgot-inv m st i = record {
-  sound = i .sound;
-  bits = i .bits;
-  marks = i .marks;
-  nets = i .nets;
-  settles = i .settles;
-  entries = length-map (m .exprs) (λ x. none);
-  rows = length-map (m .exprs) (λ (x : Expr). replicate (x .width) none);
-  wholes = λ e ns q. absurd (none-some (sym (none-at (m .exprs) e) ∙ q));
-  cells = λ e h q. shaped none (λ (x : Expr). x .width) (m .exprs) (record { width = 0; kind = R.Constant 0 }) (widthAt (m .exprs)) (λ i. refl) .cells e h;
-  ranges = λ e. record {
-    there = λ b n q. absurd (none-some (sym (blank (λ (x : Expr). x .width) (m .exprs) e b) ∙ q));
-    holds = λ h a s c v g. record { fits = λ b n q. absurd (none-some (sym (blank (λ (x : Expr). x .width) (m .exprs) e b) ∙ q)) };
-  };
-}
 
 module _ (m : Module) (good : Good m) (ob : Bool) (n p : ℕ) (limit : n ≤ absent) {st : State} (r : Reached m ob n p st) where
   kept : Kept m good ob st
@@ -90,35 +68,37 @@ module _ (m : Module) (good : Good m) (ob : Bool) (n p : ℕ) (limit : n ≤ abs
   pub same-net : (f : ℕ) (need : Need) {st′ : State} → Asked m need → lowerNeed f m ob need st ≡ done st′ → (e b k : ℕ) → expressionNet st e b ≡ some k → expressionNet st′ e b ≡ some k
   same-net f need a q e b k h = (subst (Meets Any (IsKept m good ob st)) q (need-keep m good ob f need st (kept .inv) (kept .steady) a)) .onward .nets e b k h
 
-  -- lowered again with all nets of expressions forgotten
-  pub again : (need : Need) → Asked m need → HasNets m st need → LowersAgain m ob st need (forgot m st)
-  again need a h = from (forgot m st) (record {
-    inv = forgot-inv m st (kept .inv);
-    steady = kept-blank m good ob (forgot m st) (forgot-inv m st (kept .inv)) (nothing-known m (forgot m st) refl refl) .steady;
+  -- lowered again with the nets of expression c and of all after it forgotten
+  pub again : (c : ℕ) → c ≤ length (m .exprs) → (need : Need) → Asked m need → HasNets m st need → LowersAgain m ob st need (forgot c m st)
+  again c most need a h = from (forgot c m st) (record {
+    inv = forgot-inv m c most st (kept .inv);
+    steady = forgot-steady m c most st (kept .inv) good ob (kept .steady);
     same = refl;
     bits = refl;
-    nets = λ e b k q. absurd (nothing-known m (forgot m st) refl refl e b k q);
+    nets = forgot-nets m c most st (kept .inv);
   }) need a h
 
-  -- and with all of them there: a whole of which each bit has a net by ranges
+  -- and with none forgotten: a whole of which each bit has a net by ranges
   pub again-here : (need : Need) → Asked m need → HasNets m st need → LowersAgain m ob st need st
   again-here need a h = from st (record { inv = kept .inv; steady = kept .steady; same = refl; bits = refl; nets = λ e b k q. q }) need a h
 
   -- ---- the same for one bit, and for a whole ----
 
   -- bit b of expression e has net k: by itself it is lowered again to net k
-  pub bit-again : (e b k : ℕ) → expressionNet st e b ≡ some k → (g : LowersAgain m ob st (Range e b 1) (forgot m st)) × (expressionNet (g .after) e b ≡ some k)
-  bit-again e b k h =
+  pub bit-again : (c : ℕ) → c ≤ length (m .exprs) → (e b k : ℕ) → expressionNet st e b ≡ some k
+      → (g : LowersAgain m ob st (Range e b 1) (forgot c m st)) × (expressionNet (g .after) e b ≡ some k)
+  bit-again c most e b k h =
       let here = net-here m st (kept .inv) e b k h in
       let inside = net-bit m st (kept .inv) (good .exprs) e here b k h in
-      let g = again (Range e b 1) (here, omega arith) (λ j x y. let z : j ≡ b = omega arith in record { value = k; is = ap (expressionNet st e) z ∙ h }) in
+      let g = again c most (Range e b 1) (here, omega arith) (λ j x y. let z : j ≡ b = omega arith in record { value = k; is = ap (expressionNet st e) z ∙ h }) in
       let t = g .there b (omega arith) (omega arith) in
       (g, t .is ∙ sym (g .nets e b (t .value) (t .is)) ∙ h)
 
-  -- expression e has the nets ns as a whole: it is lowered again to them
-  pub whole-again : (e : ℕ) (ns : List ℕ) → e < length (m .exprs) → whole st e ≡ some ns → (g : LowersAgain m ob st (Whole e) (forgot m st)) × ((b k : ℕ) → expressionNet st e b ≡ some k → expressionNet (g .after) e b ≡ some k)
-  whole-again e ns here h =
-      let g = again (Whole e) here (nets-have m (good .exprs) ob st e (wholeNets st e) (whole-nets m st (kept .inv) (good .exprs) e here (record { value = ns; is = h }))) in (
+  -- expression e has nets as a whole: it is lowered again to them
+  pub whole-again : (c : ℕ) → c ≤ length (m .exprs) → (e : ℕ) → e < length (m .exprs) → Has (whole st e)
+      → (g : LowersAgain m ob st (Whole e) (forgot c m st)) × ((b k : ℕ) → expressionNet st e b ≡ some k → expressionNet (g .after) e b ≡ some k)
+  whole-again c most e here h =
+      let g = again c most (Whole e) here (nets-have m (good .exprs) ob st e (wholeNets st e) (whole-nets m st (kept .inv) (good .exprs) e here h)) in (
         g,
         λ b k q.
             let t = g .there b (net-bit m st (kept .inv) (good .exprs) e here b k q) in

@@ -37,7 +37,7 @@ seen (done st) = some (length (st .netlist .nodes)) ∷ expressionNet st 1 0 ∷
 
 abbrev again : Bool → Out State → Out State
 again ob (refused n x y) = refused n x y
-again ob (done st) = lowerNeed (plenty m) m ob (L.Whole 1) (forgot m st)
+again ob (done st) = lowerNeed (plenty m) m ob (L.Whole 1) (forgot 0 m st)
 
 by-ranges : seen (lowerState false m 16 64) ≡ some 10 ∷ some 3 ∷ some 4 ∷ some 7 ∷ []
 unfolding computing

@@ -1,5 +1,5 @@
--- One word for each expression bit (document 02, Q-10): what was lowered is lowered again to the same nets, and nothing is made. `Memo` has the claims,
--- `Claims` shows them.
+-- One word for each expression bit (document 02, Q-10): what was lowered is lowered again to the same nets, and nothing is made. `Memo` has the
+-- claim, `Calls` shows it of every image that the checks pass.
 pub mod Memo
 pub mod Along
 pub mod Repeated
@@ -13,7 +13,9 @@ pub mod Walked
 pub mod Nothing
 pub mod Relowered
 pub mod Again
+pub mod Forgot
 pub mod Reached
 pub mod Claims
 pub mod Passed
+pub mod Calls
 pub mod Examples

@@ -1,7 +1,7 @@
 -- The call goes through states of `Reached` only: after each step of a walk, each record and each phase. Assumes nothing.
-use mathlib.Core.Path.{_≡_, refl}
+use mathlib.Core.Path.{_≡_, refl, subst}
 use mathlib.Core.Bool.{Bool, true, false}
-use mathlib.Core.List.{List, [], _∷_}
+use mathlib.Core.List.{List, [], _∷_, _++_}
 use mathlib.Core.Option.{some}
 use Prim.Native.Nat.{ℕ, zero, suc, _+_, _≤_}
 use native.Mathlib.Nat.{zero-add}
@@ -11,16 +11,17 @@ use Rattle.rtl.specs.Rtl as R
 use Rattle.rtl.specs.Rtl.{Module, Memory, Register, Sig, Dir}
 use Rattle.model.specs.Words.{absent, Netlist}
 use Rattle.model.specs.Builder.{Out, refused, done, andThen, Made, isValue, addOutputPort}
-use Rattle.model.specs.Lowering.{State, Need, Step, Always, Unless, withNetlist, signalNets, signalSteps, signalWidth, selected, unless, lowerNeed, lowerSteps, plenty, lowerAll, start, reserveSources, pushRecord, memorySteps, portsWords, registerSteps, registerBit, registerBits, connectMemories, connectRegisters, connectOutput, connectOutputs, lowerState}
+use Rattle.model.specs.Lowering.{State, wholeSteps, rangeSteps, Need, Step, Always, Unless, withNetlist, signalNets, signalSteps, signalWidth, selected, unless, lowerNeed, lowerSteps, plenty, lowerAll, start, reserveSources, pushRecord, memorySteps, portsWords, registerSteps, registerBit, registerBits, connectMemories, connectRegisters, connectOutput, connectOutputs, lowerState}
 use Rattle.netlist_laws.specs.Run.{Meets, meets-bind}
 use Rattle.walk_laws.specs.Good.{Good}
 use Rattle.walk_laws.specs.Kept.{Any, Walks}
-use Rattle.walk_laws.specs.Reads.{Asked, AllAsked, AllAfter}
-use Rattle.walk_laws.specs.Walk.{bits-asked, all-walk}
+use Rattle.walk_laws.specs.Reads.{Asked, needOf, AllAsked, AllAfter}
+use Rattle.walk_laws.specs.Walk.{bits-asked, whole-asked, range-asked, assigned, all-walk}
 use Rattle.connect_laws.specs.Supply.{supply}
 use Rattle.connect_laws.specs.Memories.{steps-asked as memory-asked}
 use Rattle.connect_laws.specs.Registers.{steps-asked as register-asked}
-use Rattle.memo_laws.specs.Memo.{Reached, begun, lowered, memory, register, output}
+use Rattle.memo_laws.specs.Walked.{driven-asked}
+use Rattle.memo_laws.specs.Memo.{Reached, begun, marked, lowered, memory, register, output, Asks, driver, whole, range}
 use Rattle.memo_laws.specs.Reached.{reached-kept}
 
 -- two facts of one outcome
@@ -68,6 +69,24 @@ module _ (m : Module) (good : Good m) (ob : Bool) (n p : ℕ) (limit : n ≤ abs
   then-after : (ss : List Step) (o : Out State) (k : State → Out State) → Meets Any (λ st′. Reached m ob n p st′ × AllAfter ob st′ ss) o
       → ((st : State) → Reached m ob n p st → AllAfter ob st ss → Passes (k st)) → Passes (andThen o k)
   then-after ss o k h g = meets-bind Any (λ st′. Reached m ob n p st′ × AllAfter ob st′ ss) (Reached m ob n p) o k h (λ st x. g st (x .0) (x .1))
+
+  -- ---- inside a lowering ----
+
+  split : (before rest : List Step) (x : Step) → AllAsked m (before ++ x ∷ rest) → AllAsked m before × Asked m (needOf x)
+  split [] rest x a = (tt, a .0)
+  split (y ∷ before) rest x a = let r = split before rest x (a .1) in ((a .0, r .0), r .1)
+
+  in-steps : (f : ℕ) (ss before rest : List Step) (x : Step) (st st′ : State) → AllAsked m ss → ss ≡ before ++ x ∷ rest → Reached m ob n p st
+      → lowerSteps (λ need y. lowerNeed f m ob need y) ob before st ≡ done st′ → Reached m ob n p st′ × Asked m (needOf x)
+  in-steps f ss before rest x st st′ a q r h =
+      let c = split before rest x (subst (AllAsked m) q a) in
+      (subst (Meets Any (Reached m ob n p)) h (steps-pass f before (c .0) r), c .1)
+
+  pub asks-reached : {st st′ : State} → Reached m ob n p st → (f : ℕ) (need need′ : Need) → Asked m need → Asks m ob f need st need′ st′ → Reached m ob n p st′ × Asked m need′
+  asks-reached r f need need′ a (driver s b e o q) = (marked s b r, driven-asked m good ob ob s b e o (assigned m s b good (e, o) q))
+  asks-reached {st} {st′} r f need need′ a (whole e before rest x q h) = in-steps f (wholeSteps (m .exprs) e) before rest x st st′ (whole-asked m (good .exprs) e a) q r h
+  asks-reached {st} {st′} r f need need′ a (range e lsb w before rest x q h) =
+      in-steps f (rangeSteps (m .exprs) e lsb w) before rest x st st′ (range-asked m (good .exprs) e (a .0) lsb w (a .1)) q r h
 
   -- ---- the phases ----
 

@@ -1,7 +1,7 @@
 -- A derived net is derived at every later state: the tables know what they knew, and the netlist gives what it gave. Assumes nothing.
 use mathlib.Core.Path.{_≡_, refl, sym, _∙_}
 use mathlib.Core.Logic.{inl, inr}
-use mathlib.Core.Bool.{Bool, true, false, cond}
+use mathlib.Core.Bool.{Bool, true, false}
 use mathlib.Core.List.{List, [], _∷_}
 use mathlib.Core.Option.{Option, none, some}
 use Prim.Native.Nat.{ℕ, suc, _+_, _-_, _<_}
@@ -14,10 +14,11 @@ use Rattle.model.specs.Builder as B
 use Rattle.model.specs.Builder.{Made, constantValue, addNot, addMux}
 use Rattle.model.specs.Ranges.{exprAt, widthAt, classOf, Gate}
 use Rattle.model.specs.Lowering.{addGate, isBitNot, gateOf, Operands, operandsOf, backwards, lowerUnary, truncated}
-use Rattle.word_laws.specs.Widths.{AllBelow, BinWidth, Formed, word-width}
-use Rattle.range_laws.specs.Fusion.{Operate, operands}
+use Rattle.word_laws.specs.Widths.{AllBelow, BelowE, BinWidth, Formed, word-width}
+use Rattle.range_laws.specs.Fusion.{CarryBelow, Operate, operands}
 use Rattle.netlist_laws.specs.Sound.{count, Sound}
 use Rattle.walk_laws.specs.Reads.{below-at, below-slice}
+use Rattle.walk_laws.specs.Parts.{below-turned}
 use Rattle.walk_laws.specs.Wholes.{truncated-length, truncated-width, Taken, plain, fusion, taken}
 use Rattle.again_laws.specs.Again.{Stays, value-stays, Again, repeats}
 use Rattle.again_laws.specs.Gates.{again-constant, again-not, again-gate, again-mux}
@@ -81,79 +82,82 @@ module _ (m : Module) (f : Formed (m .exprs)) (ob : Bool) (l : Netlist) (q : Sou
 
   -- ---- later ----
 
-  module _ (l′ : Netlist) (s : Stays l l′) (sig′ net′ : Tables) (more : Knows sig sig′) (known : Knows net net′) where
-    net-later : (e b n : ℕ) → Net m net e b n → Net m net′ e b n
-    net-later e b n h = known e b n h
+  -- what the tables know of signal bits and of the expressions below e, they know
+  module _ (l′ : Netlist) (s : Stays l l′) (sig′ net′ : Tables) (more : Knows sig sig′) (e : ℕ) (here : e < length (m .exprs))
+      (known : (a b n : ℕ) → a < e → net a b ≡ some n → net′ a b ≡ some n) where
+    nets-later : {a : ℕ} {ns : List ℕ} → a < e → Nets m net a ns → Nets m net′ a ns
+    nets-later {a} {ns} low h = record { wide = h .wide; are = along-map (Net m net a) (Net m net′ a) (λ b n x. known a b n low x) 0 ns (h .are) }
 
-    nets-later : {e : ℕ} {ns : List ℕ} → Nets m net e ns → Nets m net′ e ns
-    nets-later {e} {ns} a = record { wide = a .wide; are = along-map (Net m net e) (Net m net′ e) (net-later e) 0 ns (a .are) }
+    carry-later : (c n : Option ℕ) → CarryBelow e c → Carry m net c n → Carry m net′ c n
+    carry-later none none low h = tt
+    carry-later none (some n) low h = absurd h
+    carry-later (some c) none low h = absurd h
+    carry-later (some c) (some n) low h = record { all = h .all; nets = nets-later low (h .nets); first = h .first }
 
-    carry-later : (c n : Option ℕ) → Carry m net c n → Carry m net′ c n
-    carry-later none none h = tt
-    carry-later none (some n) h = absurd h
-    carry-later (some c) none h = absurd h
-    carry-later (some c) (some n) h = record { all = h .all; nets = nets-later (h .nets); first = h .first }
+    from-later : (a b n : ℕ) → a < e → (g : ℕ → Netlist → Made ℕ) → ((x : ℕ) → x < count l → Again (g x) l) → From (Net m net a b) g l n → From (Net m net′ a b) g l′ n
+    from-later a b n low g k h = record { x = h .x; here = known a b (h .x) low (h .here); made = repeats (k (h .x) (there a b (h .x) (h .here))) (h .made) l′ s }
 
-    from-later : (e b n : ℕ) (g : ℕ → Netlist → Made ℕ) → ((x : ℕ) → x < count l → Again (g x) l) → From (Net m net e b) g l n → From (Net m net′ e b) g l′ n
-    from-later e b n g k h = record { x = h .x; here = known e b (h .x) (h .here); made = repeats (k (h .x) (there e b (h .x) (h .here))) (h .made) l′ s }
-
-    from2-later : (e j b n : ℕ) (g : ℕ → ℕ → Netlist → Made ℕ) → ((x y : ℕ) → x < count l → y < count l → Again (g x y) l)
-        → From2 (Net m net e b) (Net m net j b) g l n → From2 (Net m net′ e b) (Net m net′ j b) g l′ n
-    from2-later e j b n g k h = record {
+    from2-later : (a c b n : ℕ) → a < e → c < e → (g : ℕ → ℕ → Netlist → Made ℕ) → ((x y : ℕ) → x < count l → y < count l → Again (g x y) l)
+        → From2 (Net m net a b) (Net m net c b) g l n → From2 (Net m net′ a b) (Net m net′ c b) g l′ n
+    from2-later a c b n low low′ g k h = record {
       x = h .x;
       y = h .y;
-      left = known e b (h .x) (h .left);
-      right = known j b (h .y) (h .right);
-      made = repeats (k (h .x) (h .y) (there e b (h .x) (h .left)) (there j b (h .y) (h .right))) (h .made) l′ s;
+      left = known a b (h .x) low (h .left);
+      right = known c b (h .y) low′ (h .right);
+      made = repeats (k (h .x) (h .y) (there a b (h .x) (h .left)) (there c b (h .y) (h .right))) (h .made) l′ s;
     }
 
     all-later : (g : Netlist → Made (List ℕ)) (b n : ℕ) → Again g l → OfAll (g l) l b n → OfAll (g l′) l′ b n
     all-later g b n a h = record { all = h .all; made = repeats a (h .made) l′ s; at = h .at }
 
-    un-later : (t : Bool) (op : Unary) (a b n : ℕ) → UnBit m ob l sig net t op a b n → UnBit m ob l′ sig′ net′ t op a b n
-    un-later true op a b n h = from-later a b n addNot (λ x p. again-not x l p) h
-    un-later false op a b n h = record {
+    un-later : (t : Bool) (op : Unary) (a b n : ℕ) → a < e → UnBit m ob l sig net t op a b n → UnBit m ob l′ sig′ net′ t op a b n
+    un-later true op a b n low h = from-later a b n low addNot (λ x p. again-not x l p) h
+    un-later false op a b n low h = record {
       xs = h .xs;
-      nets = nets-later (h .nets);
+      nets = nets-later low (h .nets);
       gives = all-later (lowerUnary op (h .xs)) b n (again-un op (h .xs) l q (nets-below (h .nets))) (h .gives);
     }
 
-    bin-later : (e : ℕ) → e < length (m .exprs) → (g : Option Gate) (op : Binary) (x y : ℕ) → (exprAt (m .exprs) e) .kind ≡ R.Bin op x y → (b n : ℕ)
+    bin-later : (g : Option Gate) (op : Binary) (x y : ℕ) → (exprAt (m .exprs) e) .kind ≡ R.Bin op x y → BelowE e (R.Bin op x y) → (b n : ℕ)
         → BinBit m ob l sig net g e op x y b n → BinBit m ob l′ sig′ net′ g e op x y b n
-    bin-later e here (some g) op x y k b n h = from2-later x y b n (addGate g) (λ i j p r. again-gate g i j l p r) h
-    bin-later e here none op x y k b n h = record {
-      xs = h .xs;
-      ys = h .ys;
-      carry = h .carry;
-      left = nets-later (h .left);
-      right = nets-later (h .right);
-      with = carry-later (operandsOf (m .exprs) op x y .carry) (h .carry) (h .with);
-      gives = all-later (binaryOf (m .exprs) e op (h .xs) (h .ys) (h .carry)) b n (binary-again e here op x y k (h .xs) (h .ys) (h .carry) (h .left) (h .right) (h .with)) (h .gives);
-    }
+    bin-later (some g) op x y k low b n h = from2-later x y b n (low .0) (low .1) (addGate g) (λ i j p r. again-gate g i j l p r) h
+    bin-later none op x y k low b n h =
+        let v : Valuation = λ p j. false in
+        let z = operands (m .exprs) f v e here op x y k in
+        record {
+          xs = h .xs;
+          ys = h .ys;
+          carry = h .carry;
+          left = nets-later (z .lhs-below) (h .left);
+          right = nets-later (z .rhs-below) (h .right);
+          with = carry-later (operandsOf (m .exprs) op x y .carry) (h .carry) (z .carry-below) (h .with);
+          gives = all-later (binaryOf (m .exprs) e op (h .xs) (h .ys) (h .carry)) b n (binary-again e here op x y k (h .xs) (h .ys) (h .carry) (h .left) (h .right) (h .with)) (h .gives);
+        }
 
-    mux-later : (o : Option Bool) (c t d b n : ℕ) → c < count l → MuxBit m ob l sig net o c t d b n → MuxBit m ob l′ sig′ net′ o c t d b n
-    mux-later (some v) c t d b n h x = known (cond v t d) b n x
-    mux-later none c t d b n h x = from2-later t d b n (addMux c) (λ i j p r. again-mux c i j l h) x
+    mux-later : (o : Option Bool) (c t d b n : ℕ) → t < e → d < e → c < count l → MuxBit m ob l sig net o c t d b n → MuxBit m ob l′ sig′ net′ o c t d b n
+    mux-later (some true) c t d b n low low′ h x = known t b n low x
+    mux-later (some false) c t d b n low low′ h x = known d b n low′ x
+    mux-later none c t d b n low low′ h x = from2-later t d b n low low′ (addMux c) (λ i j p r. again-mux c i j l h) x
 
-    part-later : (ps : List ℕ) (b n : ℕ) → PartBit m ob l sig net ps b n → PartBit m ob l′ sig′ net′ ps b n
-    part-later [] b n h = h
-    part-later (p ∷ ps) b n (inl h) = inl (h .0, known p b n (h .1))
-    part-later (p ∷ ps) b n (inr h) = inr (h .0, part-later ps (b - widthAt (m .exprs) p) n (h .1))
+    part-later : (ps : List ℕ) (b n : ℕ) → AllBelow e ps → PartBit m ob l sig net ps b n → PartBit m ob l′ sig′ net′ ps b n
+    part-later [] b n low h = h
+    part-later (p ∷ ps) b n low (inl h) = inl (h .0, known p b n (low .0) (h .1))
+    part-later (p ∷ ps) b n low (inr h) = inr (h .0, part-later ps (b - widthAt (m .exprs) p) n (low .1) (h .1))
 
-    kind-later : (e : ℕ) → e < length (m .exprs) → (k : Kind) → (exprAt (m .exprs) e) .kind ≡ k → (b n : ℕ) → KindBit m ob l sig net k e b n → KindBit m ob l′ sig′ net′ k e b n
-    kind-later e here (R.Signal p lsb) k b n h = more p (lsb + b) n h
-    kind-later e here (R.Constant c) k b n h = record { x = h .x; here = h .here; made = repeats (again-constant (h .x) l) (h .made) l′ s }
-    kind-later e here (R.Un op a) k b n h = un-later (isBitNot op) op a b n h
-    kind-later e here (R.Bin op x y) k b n h = bin-later e here (gateOf (classOf op)) op x y k b n h
-    kind-later e here (R.Mux c t d) k b n h =
+    kind-later : (k : Kind) → (exprAt (m .exprs) e) .kind ≡ k → BelowE e k → (b n : ℕ) → KindBit m ob l sig net k e b n → KindBit m ob l′ sig′ net′ k e b n
+    kind-later (R.Signal p lsb) k low b n h = more p (lsb + b) n h
+    kind-later (R.Constant c) k low b n h = record { x = h .x; here = h .here; made = repeats (again-constant (h .x) l) (h .made) l′ s }
+    kind-later (R.Un op a) k low b n h = un-later (isBitNot op) op a b n low h
+    kind-later (R.Bin op x y) k low b n h = bin-later (gateOf (classOf op)) op x y k low b n h
+    kind-later (R.Mux c t d) k low b n h =
         let z = there c 0 (h .test) (h .is) in
         record {
           test = h .test;
-          is = known c 0 (h .test) (h .is);
-          gives = rw (value-stays s (h .test) z) (mux-later (sideOf ob (constantValue l (h .test))) (h .test) t d b n z (h .gives));
+          is = known c 0 (h .test) (low .0) (h .is);
+          gives = rw (value-stays s (h .test) z) (mux-later (sideOf ob (constantValue l (h .test))) (h .test) t d b n (low .1) (low .2) z (h .gives));
         }
-    kind-later e here (R.Concat ps) k b n h = part-later (backwards ps []) b n h
-    kind-later e here (R.Slice a lsb) k b n h = known a (lsb + b) n h
+    kind-later (R.Concat ps) k low b n h = part-later (backwards ps []) b n (below-turned e ps [] low tt) h
+    kind-later (R.Slice a lsb) k low b n h = known a (lsb + b) n low h
 
-    pub derived-later : (e : ℕ) → e < length (m .exprs) → (b n : ℕ) → Derived m ob l sig net e b n → Derived m ob l′ sig′ net′ e b n
-    derived-later e here b n h = kind-later e here ((exprAt (m .exprs) e) .kind) refl b n h
+    pub derived-later : (b n : ℕ) → Derived m ob l sig net e b n → Derived m ob l′ sig′ net′ e b n
+    derived-later b n h = kind-later ((exprAt (m .exprs) e) .kind) refl (f .low e here) b n h

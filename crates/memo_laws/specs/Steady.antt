@@ -53,7 +53,7 @@ module _ (m : Module) (f : Formed (m .exprs)) (ob : Bool) where
   -- what is derived is derived later
   pub derived-onward : (st st′ : State) → Inv m st → Onward st st′ → (e b n : ℕ) → e < length (m .exprs) → DerivedAt (st .netlist) st e b n → DerivedAt (st′ .netlist) st′ e b n
   derived-onward st st′ i o e b n here h =
-      derived-later m f ob (st .netlist) (i .sound) (signalBit st) (expressionNet st) (nets-there m st i) (st′ .netlist) (o .stays) (signalBit st′) (expressionNet st′) (o .bits) (o .nets) e here b n h
+      derived-later m f ob (st .netlist) (i .sound) (signalBit st) (expressionNet st) (nets-there m st i) (st′ .netlist) (o .stays) (signalBit st′) (expressionNet st′) (o .bits) e here (λ a j k low x. o .nets a j k x) b n h
 
   pub record Keeps (st st′ : State) : Type 0 where
     pub onward : Onward st st′
@@ -75,8 +75,8 @@ module _ (m : Module) (f : Formed (m .exprs)) (ob : Bool) where
 
     first : (e b n : ℕ) → expressionNet st e b ≡ some n → DerivedAt (st′ .netlist) st e b n
     first e b n h =
-        derived-later m f ob (st .netlist) (i .sound) (signalBit st) (expressionNet st) (nets-there m st i) (st′ .netlist) stays (signalBit st) (expressionNet st) (λ p j k x. x) (λ p j k x. x)
-        e (net-here m st i e b n h) b n (s .derived e b n h)
+        derived-later m f ob (st .netlist) (i .sound) (signalBit st) (expressionNet st) (nets-there m st i) (st′ .netlist) stays (signalBit st) (expressionNet st) (λ p j k x. x)
+        e (net-here m st i e b n h) (λ a j k low x. x) b n (s .derived e b n h)
 
     same : (e b n k : ℕ) → expressionNet st e b ≡ some n → (expressionNet st e b ≡ some k) ⊎ DerivedAt (st′ .netlist) st e b k → n ≡ k
     same e b n k h (inl q) = some-eq (sym h ∙ q)
@@ -89,7 +89,7 @@ module _ (m : Module) (f : Formed (m .exprs)) (ob : Bool) where
 
     now : (e b n : ℕ) → e < length (m .exprs) → DerivedAt (st′ .netlist) st e b n → DerivedAt (st′ .netlist) st′ e b n
     now e b n here d =
-        derived-later m f ob (st′ .netlist) (i′ .sound) (signalBit st) (expressionNet st) there (st′ .netlist) (stays-refl (st′ .netlist)) (signalBit st′) (expressionNet st′) bits nets e here b n d
+        derived-later m f ob (st′ .netlist) (i′ .sound) (signalBit st) (expressionNet st) there (st′ .netlist) (stays-refl (st′ .netlist)) (signalBit st′) (expressionNet st′) bits e here (λ a j k low x. nets a j k x) b n d
 
     derived : (e b n : ℕ) → expressionNet st′ e b ≡ some n → DerivedAt (st′ .netlist) st′ e b n
     derived e b n h = now e b n (net-here m st′ i′ e b n h) (go (old e b n h))

@@ -177,7 +177,7 @@ module _ (m : Module) (good : Good m) (ob : Bool) where
   bit-kept st i s p b n here inside free i′ =
       same-keeps m (good .exprs) ob st (setSignalBit st p b n) i i′ s (stays-refl (st .netlist)) (bit-more m st p b n i here inside free .more) refl refl
 
-  driven-asked : (o : Bool) (s b e k : ℕ) → Assigned m s b e k → Asked m (drivenBy o e k)
+  pub driven-asked : (o : Bool) (s b e k : ℕ) → Assigned m s b e k → Asked m (drivenBy o e k)
   driven-asked false s b e k a = a .value
   driven-asked true s b e k a = (a .value, omega (arith, a .bit))
 

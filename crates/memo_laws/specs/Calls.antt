@@ -1,0 +1,33 @@
+-- Document 02, Q-10, of the call: for every image that the checks pass, whatever the limits and the buffers' lengths, with either flag, each bit of an
+-- expression has one net. Assumes nothing.
+use Prim.Native.Nat.{ℕ, _≤_}
+use mathlib.Core.Bool.{Bool}
+use mathlib.Core.List.{List}
+use mathlib.Core.Path.{_≡_}
+use native.Mathlib.Omega.{arith}
+use Rattle.rtl.specs.Rtl.{Module}
+use Rattle.rules.specs.Rules.{Fine}
+use Rattle.meaning.specs.Image.{decode}
+use Rattle.meaning.specs.Checks.{checked}
+use Rattle.model.specs.Words.{absent}
+use Rattle.walk_laws.specs.Good.{Good}
+use Rattle.checks.specs.Accepted.{accepted}
+use Rattle.good_laws.specs.Good.{good}
+use Rattle.memo_laws.specs.Memo.{OneNet}
+use Rattle.memo_laws.specs.Claims as Claims
+use Rattle.memo_laws.specs.Passed.{asks-reached, call-passes}
+
+-- of a well-formed module
+pub one-net : (m : Module) → Good m → (ob : Bool) (n p : ℕ) → n ≤ absent → OneNet m ob n p
+one-net m g ob n p h = record {
+  passes = call-passes m g ob n p h;
+  asks = λ r. asks-reached m g ob n p h r;
+  same = λ r f need a q. Claims.same-net m g ob n p h r f need a q;
+  again = λ r. Claims.again m g ob n p h r;
+  here = λ r. Claims.again-here m g ob n p h r;
+}
+
+pub one-net-of-image : (s : List ℕ) (N P netlist scratch : ℕ) (ob : Bool) → checked s N P netlist scratch ≡ Fine → OneNet (decode s) ob N P
+one-net-of-image s N P netlist scratch ob passed =
+    let a = accepted s N P netlist scratch passed in
+    one-net (decode s) (good s (a .0)) ob N P (omega (arith, a .1 .nets))
