@@ -40,6 +40,16 @@ costOf (Bit s b) = 0
 costOf (Whole e) = 2 * e + 1
 costOf (Range e lsb w) = 2 * e + 2
 
+-- a Mux, whose steps hang on its condition
+abbrev isMux : Kind → Bool
+isMux (R.Signal s lsb) = false
+isMux (R.Constant n) = false
+isMux (R.Un op a) = false
+isMux (R.Bin op a b) = false
+isMux (R.Mux c t d) = true
+isMux (R.Concat ps) = false
+isMux (R.Slice a lsb) = false
+
 sum-turned : (g : ℕ → ℕ) (ps acc : List ℕ) → sumOf g (backwards ps acc) ≡ sumOf g ps + sumOf g acc
 sum-turned g [] acc = omega arith
 sum-turned g (p ∷ ps) acc = sum-turned g ps (p ∷ acc) ∙ omega arith
@@ -123,15 +133,6 @@ module _ (m : Module) (f : Formed (m .exprs)) (ob : Bool) (st : State) where
       go false q r = r
 
   -- ---- by kind, but for a Mux ----
-
-  abbrev isMux : Kind → Bool
-  isMux (R.Signal s lsb) = false
-  isMux (R.Constant n) = false
-  isMux (R.Un op a) = false
-  isMux (R.Bin op a b) = false
-  isMux (R.Mux c t d) = true
-  isMux (R.Concat ps) = false
-  isMux (R.Slice a lsb) = false
 
   module _ (g e : ℕ) (here : e < length (m .exprs)) (fuel : 2 * e + 1 ≤ g) where
     one-have : (op : R.Unary) (a : ℕ) → Bits (λ b n. UnBit m ob (st .netlist) (signalBit st) (expressionNet st) false op a b n) 0 (widthAt (m .exprs) e) → HasNets m st (Whole a)
@@ -290,25 +291,25 @@ module _ (m : Module) (good : Good m) (ob : Bool) (st : State) (i : Inv m st) (s
       pub derived-bits : (b w : ℕ) → ((j : ℕ) → b ≤ j → j < b + w → Has (expressionNet st e j)) → Bits (KnownBit m (good .exprs) ob st ((exprAt (m .exprs) e) .kind) e) b w
       derived-bits b w h j x y = let k = h j x y in (k .value, s .derived e j (k .value) (k .is))
 
-      then-side : (c t d : ℕ) (o : Option Bool) (x b n : ℕ) → isValue false o ≡ false → MuxBit m ob (st .netlist) (signalBit st) (expressionNet st) o x t d b n → Has (expressionNet st t b)
-      then-side c t d none x b n q h = record { value = h .x; is = h .left }
-      then-side c t d (some true) x b n q h = record { value = n; is = h }
-      then-side c t d (some false) x b n q h = absurd (true≢false q)
+      then-side : (t d : ℕ) (o : Option Bool) (x b n : ℕ) → isValue false o ≡ false → MuxBit m ob (st .netlist) (signalBit st) (expressionNet st) o x t d b n → Has (expressionNet st t b)
+      then-side t d none x b n q h = record { value = h .x; is = h .left }
+      then-side t d (some true) x b n q h = record { value = n; is = h }
+      then-side t d (some false) x b n q h = absurd (true≢false q)
 
-      else-side : (c t d : ℕ) (o : Option Bool) (x b n : ℕ) → isValue true o ≡ false → MuxBit m ob (st .netlist) (signalBit st) (expressionNet st) o x t d b n → Has (expressionNet st d b)
-      else-side c t d none x b n q h = record { value = h .y; is = h .right }
-      else-side c t d (some true) x b n q h = absurd (true≢false q)
-      else-side c t d (some false) x b n q h = record { value = n; is = h }
+      else-side : (t d : ℕ) (o : Option Bool) (x b n : ℕ) → isValue true o ≡ false → MuxBit m ob (st .netlist) (signalBit st) (expressionNet st) o x t d b n → Has (expressionNet st d b)
+      else-side t d none x b n q h = record { value = h .y; is = h .right }
+      else-side t d (some true) x b n q h = absurd (true≢false q)
+      else-side t d (some false) x b n q h = record { value = n; is = h }
 
       module _ (c t d b w : ℕ) (z : Bits (KnownBit m (good .exprs) ob st (R.Mux c t d) e) b w) (test : ℕ) (is : expressionNet st c 0 ≡ some test) where
         same-side : (j : ℕ) (x : b ≤ j) (y : j < b + w) → sideOf ob (constantValue (st .netlist) (z j x y .1 .test)) ≡ sideOf ob (constantValue (st .netlist) test)
         same-side j x y = ap (λ (n : ℕ). sideOf ob (constantValue (st .netlist) n)) (some-eq (sym (z j x y .1 .is) ∙ is))
 
         then-known : isValue false (sideOf ob (constantValue (st .netlist) test)) ≡ false → (j : ℕ) → b ≤ j → j < b + w → Has (expressionNet st t j)
-        then-known q j x y = then-side c t d (sideOf ob (constantValue (st .netlist) (z j x y .1 .test))) (z j x y .1 .test) j (z j x y .0) (ap (isValue false) (same-side j x y) ∙ q) (z j x y .1 .gives)
+        then-known q j x y = then-side t d (sideOf ob (constantValue (st .netlist) (z j x y .1 .test))) (z j x y .1 .test) j (z j x y .0) (ap (isValue false) (same-side j x y) ∙ q) (z j x y .1 .gives)
 
         else-known : isValue true (sideOf ob (constantValue (st .netlist) test)) ≡ false → (j : ℕ) → b ≤ j → j < b + w → Has (expressionNet st d j)
-        else-known q j x y = else-side c t d (sideOf ob (constantValue (st .netlist) (z j x y .1 .test))) (z j x y .1 .test) j (z j x y .0) (ap (isValue true) (same-side j x y) ∙ q) (z j x y .1 .gives)
+        else-known q j x y = else-side t d (sideOf ob (constantValue (st .netlist) (z j x y .1 .test))) (z j x y .1 .test) j (z j x y .0) (ap (isValue true) (same-side j x y) ∙ q) (z j x y .1 .gives)
 
       -- the condition has one bit
       condition-known : (c test : ℕ) → widthAt (m .exprs) c ≡ 1 → expressionNet st c 0 ≡ some test → HasNets m st (Whole c)
@@ -320,6 +321,12 @@ module _ (m : Module) (good : Good m) (ob : Bool) (st : State) (i : Inv m st) (s
           go ((exprAt (m .exprs) e) .kind) refl (good .exprs .low e here) (good .exprs .wide e here) (derived-bits 0 (widthAt (m .exprs) e) (λ j x y. h j (omega arith)))
           (whole-asked m (good .exprs) e here)
         where
+          plain : (k : Kind) → (exprAt (m .exprs) e) .kind ≡ k → BelowE e k → WidthOk (widthAt (m .exprs)) (widthAt (m .exprs) e) k → isMux k ≡ false
+              → Bits (KnownBit m (good .exprs) ob st k e) 0 (widthAt (m .exprs) e) → AllAsked m (kindSteps (m .exprs) (widthAt (m .exprs) e) k)
+              → Relowers su (lowerSteps rec ob (kindSteps (m .exprs) (widthAt (m .exprs) e) k) su)
+          plain k x low wide c z a =
+              steps-again (kindSteps (m .exprs) (widthAt (m .exprs) e) k) su p a (whole-known m (good .exprs) ob st g e here q k x low wide c z)
+
           go : (k : Kind) → (exprAt (m .exprs) e) .kind ≡ k → BelowE e k → WidthOk (widthAt (m .exprs)) (widthAt (m .exprs) e) k
               → Bits (KnownBit m (good .exprs) ob st k e) 0 (widthAt (m .exprs) e) → AllAsked m (kindSteps (m .exprs) (widthAt (m .exprs) e) k)
               → Relowers su (lowerSteps rec ob (kindSteps (m .exprs) (widthAt (m .exprs) e) k) su)
@@ -329,12 +336,12 @@ module _ (m : Module) (good : Good m) (ob : Bool) (st : State) (i : Inv m st) (s
               (λ v j y. then-known c t d 0 (widthAt (m .exprs) e) z (r .test) (r .is) v j (omega arith) (omega (arith, wide .1)))
               (λ v j y. else-known c t d 0 (widthAt (m .exprs) e) z (r .test) (r .is) v j (omega arith) (omega (arith, wide .2)))
               (omega (arith, low .0)) (omega (arith, low .1)) (omega (arith, low .2))
-          go (R.Signal s lsb) x low wide z a = steps-again (kindSteps (m .exprs) (widthAt (m .exprs) e) (R.Signal s lsb)) su p a (whole-known m (good .exprs) ob st g e here q (R.Signal s lsb) x low wide refl z)
-          go (R.Constant n) x low wide z a = steps-again [] su p a tt
-          go (R.Un op v) x low wide z a = steps-again (kindSteps (m .exprs) (widthAt (m .exprs) e) (R.Un op v)) su p a (whole-known m (good .exprs) ob st g e here q (R.Un op v) x low wide refl z)
-          go (R.Bin op v w) x low wide z a = steps-again (kindSteps (m .exprs) (widthAt (m .exprs) e) (R.Bin op v w)) su p a (whole-known m (good .exprs) ob st g e here q (R.Bin op v w) x low wide refl z)
-          go (R.Concat ps) x low wide z a = steps-again (kindSteps (m .exprs) (widthAt (m .exprs) e) (R.Concat ps)) su p a (whole-known m (good .exprs) ob st g e here q (R.Concat ps) x low wide refl z)
-          go (R.Slice v lsb) x low wide z a = steps-again (kindSteps (m .exprs) (widthAt (m .exprs) e) (R.Slice v lsb)) su p a (whole-known m (good .exprs) ob st g e here q (R.Slice v lsb) x low wide refl z)
+          go (R.Signal v lsb) x low wide z a = plain (R.Signal v lsb) x low wide refl z a
+          go (R.Constant n) x low wide z a = plain (R.Constant n) x low wide refl z a
+          go (R.Un op v) x low wide z a = plain (R.Un op v) x low wide refl z a
+          go (R.Bin op v w) x low wide z a = plain (R.Bin op v w) x low wide refl z a
+          go (R.Concat ps) x low wide z a = plain (R.Concat ps) x low wide refl z a
+          go (R.Slice v lsb) x low wide z a = plain (R.Slice v lsb) x low wide refl z a
 
       pub range-steps : (lsb w : ℕ) → 1 ≤ w → lsb + w ≤ widthAt (m .exprs) e → (su : State) → Part su → 2 * e + 2 ≤ g → HasNets m st (Range e lsb w) → Relowers su (lowerSteps rec ob (rangeSteps (m .exprs) e lsb w) su)
       unfolding rangeSteps
@@ -351,6 +358,11 @@ module _ (m : Module) (good : Good m) (ob : Bool) (st : State) (i : Inv m st) (s
               let y = whole-nets m st i (good .exprs) e here r in
               nets-have m (good .exprs) ob st e (wholeNets st e) y b x
 
+          plain : (k : Kind) → (exprAt (m .exprs) e) .kind ≡ k → BelowE e k → isMux k ≡ false → Bits (KnownBit m (good .exprs) ob st k e) lsb w
+              → AllAsked m (kindRangeSteps (m .exprs) e lsb w k) → Relowers su (lowerSteps rec ob (kindRangeSteps (m .exprs) e lsb w k) su)
+          plain k x low c z a =
+              steps-again (kindRangeSteps (m .exprs) e lsb w k) su p a (range-known m (good .exprs) ob st g e here fuel lsb w fits q all k x low c z)
+
           go : (k : Kind) → (exprAt (m .exprs) e) .kind ≡ k → BelowE e k → WidthOk (widthAt (m .exprs)) (widthAt (m .exprs) e) k
               → Bits (KnownBit m (good .exprs) ob st k e) lsb w → AllAsked m (kindRangeSteps (m .exprs) e lsb w k)
               → Relowers su (lowerSteps rec ob (kindRangeSteps (m .exprs) e lsb w k) su)
@@ -359,9 +371,9 @@ module _ (m : Module) (good : Good m) (ob : Bool) (st : State) (i : Inv m st) (s
               mux-steps c (r .test) (r .is) (a .0) (Range t lsb w) (Range d lsb w) su p (a .1 .0) (a .1 .1 .0) (condition-known c (r .test) (wide .0) (r .is))
               (λ v. then-known c t d lsb w z (r .test) (r .is) v) (λ v. else-known c t d lsb w z (r .test) (r .is) v)
               (omega (arith, low .0)) (omega (arith, low .1)) (omega (arith, low .2))
-          go (R.Signal s l) x low wide z a = steps-again (kindRangeSteps (m .exprs) e lsb w (R.Signal s l)) su p a (range-known m (good .exprs) ob st g e here fuel lsb w fits q all (R.Signal s l) x low refl z)
-          go (R.Constant n) x low wide z a = steps-again [] su p a tt
-          go (R.Un op v) x low wide z a = steps-again (kindRangeSteps (m .exprs) e lsb w (R.Un op v)) su p a (range-known m (good .exprs) ob st g e here fuel lsb w fits q all (R.Un op v) x low refl z)
-          go (R.Bin op v y) x low wide z a = steps-again (kindRangeSteps (m .exprs) e lsb w (R.Bin op v y)) su p a (range-known m (good .exprs) ob st g e here fuel lsb w fits q all (R.Bin op v y) x low refl z)
-          go (R.Concat ps) x low wide z a = steps-again (kindRangeSteps (m .exprs) e lsb w (R.Concat ps)) su p a (range-known m (good .exprs) ob st g e here fuel lsb w fits q all (R.Concat ps) x low refl z)
-          go (R.Slice v l) x low wide z a = steps-again (kindRangeSteps (m .exprs) e lsb w (R.Slice v l)) su p a (range-known m (good .exprs) ob st g e here fuel lsb w fits q all (R.Slice v l) x low refl z)
+          go (R.Signal v l) x low wide z a = plain (R.Signal v l) x low refl z a
+          go (R.Constant n) x low wide z a = plain (R.Constant n) x low refl z a
+          go (R.Un op v) x low wide z a = plain (R.Un op v) x low refl z a
+          go (R.Bin op v y) x low wide z a = plain (R.Bin op v y) x low refl z a
+          go (R.Concat ps) x low wide z a = plain (R.Concat ps) x low refl z a
+          go (R.Slice v l) x low wide z a = plain (R.Slice v l) x low refl z a
