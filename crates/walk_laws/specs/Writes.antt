@@ -76,7 +76,7 @@ module _ (m : Module) where
     unfolding whole setWhole
     whole-same = getD-set-same (st .expressionBits) e (some ns) none (omega (arith, i .entries))
 
-    pub whole-other : (x : ℕ) → (x ≡ e → ⊥) → whole (setWhole st e ns) x ≡ whole st x
+    whole-other : (x : ℕ) → (x ≡ e → ⊥) → whole (setWhole st e ns) x ≡ whole st x
     unfolding whole setWhole
     whole-other x g = getD-set-other (st .expressionBits) e x (some ns) none g
 
@@ -144,11 +144,11 @@ module _ (m : Module) where
   -- ---- a range of an expression ----
 
   module _ (st : State) (e lsb : ℕ) (ns : List ℕ) (i : Inv m st) (f : Formed (m .exprs)) (here : e < length (m .exprs)) (fits : lsb + length ns ≤ widthAt (m .exprs) e) where
-    pub range-whole : (x : ℕ) → whole (setRange st e lsb ns) x ≡ whole st x
+    range-whole : (x : ℕ) → whole (setRange st e lsb ns) x ≡ whole st x
     unfolding whole setRange
     range-whole x = refl
 
-    pub range-other : (x : ℕ) → (x ≡ e → ⊥) → getD (setRange st e lsb ns .expressionRanges) x [] ≡ getD (st .expressionRanges) x []
+    range-other : (x : ℕ) → (x ≡ e → ⊥) → getD (setRange st e lsb ns .expressionRanges) x [] ≡ getD (st .expressionRanges) x []
     unfolding setRange
     range-other x g = getD-set-other (st .expressionRanges) e x _ [] g
 
@@ -164,7 +164,7 @@ module _ (m : Module) where
         let h : lsb + length (map some ns) ≤ length r = omega (arith, i .cells e here q) in
         range-row ∙ rw q (sym (sets-eq (map some ns) r lsb h ∙ rw k))
 
-    pub range-stays : (ks : List ℕ) → whole st e ≡ some ks → getD (setRange st e lsb ns .expressionRanges) e [] ≡ getD (st .expressionRanges) e []
+    range-stays : (ks : List ℕ) → whole st e ≡ some ks → getD (setRange st e lsb ns .expressionRanges) e [] ≡ getD (st .expressionRanges) e []
     range-stays ks q = range-row ∙ rw q
 
     pub inv-range : Holds (st .netlist) (st .signalBits) ns (λ v. sliceW lsb (length ns) (word (m .exprs) v e)) → Inv m (setRange st e lsb ns)
