@@ -143,9 +143,13 @@ static void inverted(const char *what, size_t scr_len, uint32_t wanted)
     const size_t net_len = STRUO_NETLIST_WORDS(3, 8);
     fill();
     expect(what, struo_try_lower(inverter, sizeof inverter, 3, 8, netlist, net_len, scratch, scr_len, answer), STRUO_CALLED);
+    const uint32_t word = wanted == STRUO_ACCEPTED ? 0 : 0xa5a5a5a5;
     expect(what, answer[0], wanted);
-    expect("inverter, scratch's last word", scratch[INVERTER_SCRATCH - 1], wanted == STRUO_ACCEPTED ? 0 : 0xa5a5a5a5);
+    expect("inverter, scratch's first word", scratch[0], word);
+    expect("inverter, scratch's last word but one", scratch[INVERTER_SCRATCH - 2], word);
+    expect("inverter, scratch's last word", scratch[INVERTER_SCRATCH - 1], word);
     expect("inverter, scratch word beyond", scratch[INVERTER_SCRATCH], 0xa5a5a5a5);
+    expect("inverter, netlist's first word", netlist[0], wanted == STRUO_ACCEPTED ? 1 : 0xa5a5a5a5);
 }
 
 int main(void)

@@ -1,5 +1,5 @@
 -- All stays where a node is added that was not found or is never looked for, and where a record is pushed that is no arithmetic cell or one
--- that is not folded: so where ports and the nodes of sources are made. Assumes nothing.
+-- that is not folded: so where an output port is made or the record of a register's bit or of a memory is pushed. Assumes nothing.
 use mathlib.Core.Path.{_≡_, refl, sym, ap₂, subst, _∙_}
 use mathlib.Core.Bool.{Bool, true, false, cond}
 use mathlib.Core.List.{List, [], _∷_, _++_}

@@ -1,4 +1,4 @@
--- A call of the builder that is made again, after whatever was made since, makes nothing and gives what it gave: what must stay for it,
+-- A call of the builder that is made again, after whatever calls since, makes nothing and gives what it gave: what must stay for it,
 -- and how such calls join. Assumes nothing.
 use mathlib.Core.Path.{_≡_, refl, sym, ap, ap₂, subst, _∙_}
 use mathlib.Core.Bool.{Bool, true, false, cond}
@@ -101,12 +101,12 @@ abbrev pub Repeats : {A : Type 0} → (Netlist → Made A) → Netlist → Made 
 Repeats f l (refused n x y) = Unit {0}
 Repeats f l (done r) = Stays l (r .1) × ((l″ : Netlist) → Stays (r .1) l″ → f l″ ≡ done (r .0, l″))
 
--- the call f at l, once it is done, gives at every later netlist what it gave, and makes nothing
+-- the call f at l, once it is done, gives what it gave, and makes nothing, at every netlist that came of it by builder calls (`Stays`)
 pub record Again {A : Type 0} (f : Netlist → Made A) (l : Netlist) : Type 0 where
   pub again : Repeats f l (f l)
 
 module _ {A : Type 0} {f : Netlist → Made A} {l l₁ : Netlist} {a : A} (r : Again f l) (e : f l ≡ done (a, l₁)) where
-  -- the call gives this at every later netlist
+  -- the call gives this ever after
   pub repeats : (l″ : Netlist) → Stays l₁ l″ → f l″ ≡ done (a, l″)
   repeats = (subst (Repeats f l) e (r .again)) .1
 

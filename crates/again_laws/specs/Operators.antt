@@ -56,9 +56,9 @@ again-bin R.ShiftL w xs ys l q b d e = again-shift LeftS xs ys l d
 again-bin R.ShiftR w xs ys l q b d e = again-shift RightS xs ys l d
 again-bin R.ShiftA w xs ys l q b d e = again-shift ArithmeticS xs ys l d
 
-pub again-carry : (xs ys : List ℕ) (d : ℕ) (l : Netlist) → Sound l → AllBelow (count l) xs → AllBelow (count l) ys → d < count l → length xs ≡ length ys
+pub again-carry : (xs ys : List ℕ) (d : ℕ) (l : Netlist) → Sound l → d < count l → length xs ≡ length ys
     → Again (arithmetic B.Add xs ys (some d)) l
-again-carry xs ys d l q bx by bd e = again-arithmetic B.Add xs ys (some d) l q bd (sym e)
+again-carry xs ys d l q bd e = again-arithmetic B.Add xs ys (some d) l q bd (sym e)
 
 pub again-resized : (n : Option ℕ) (w : ℕ) (f : Netlist → Made (List ℕ)) (l : Netlist) → Again f l → Again (λ l′. resized n w (f l′)) l
 again-resized none w f l a = a

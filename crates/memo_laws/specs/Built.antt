@@ -30,7 +30,7 @@ use Rattle.again_laws.specs.Gates.{again-constant, again-not, again-gate, again
 use Rattle.memo_laws.specs.Along.{Along, along-map, along-from, along-back, along-append}
 use Rattle.memo_laws.specs.Repeated.{each-repeated, both-repeated, From2, zip, zip2}
 use Rattle.memo_laws.specs.Derived.{sideOf, Nets, PartBit, KindBit}
-use Rattle.memo_laws.specs.Stays.{along-below}
+use Rattle.memo_laws.specs.Later.{along-below}
 use Rattle.memo_laws.specs.Reads.{elem-below, nets-there, net-bit, whole-nets, range-along, range-length}
 
 below-later : (n : ℕ) (l l′ : Netlist) → Stays l l′ → n < count l → n < count l′

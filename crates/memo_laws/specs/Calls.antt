@@ -15,16 +15,19 @@ use Rattle.checks.specs.Accepted.{accepted}
 use Rattle.good_laws.specs.Good.{good}
 use Rattle.memo_laws.specs.Memo.{OneNet}
 use Rattle.memo_laws.specs.Claims as Claims
-use Rattle.memo_laws.specs.Passed.{asks-reached, call-passes}
+use Rattle.memo_laws.specs.Passed.{asks-reached, calls-reached, call-ends}
 
 -- of a well-formed module
 pub one-net : (m : Module) → Good m → (ob : Bool) (n p : ℕ) → n ≤ absent → OneNet m ob n p
 one-net m g ob n p h = record {
-  passes = call-passes m g ob n p h;
+  calls = calls-reached m g ob n p h;
   asks = λ r. asks-reached m g ob n p h r;
-  same = λ r f need a q. Claims.same-net m g ob n p h r f need a q;
+  ends = call-ends m g ob n p h;
+  same = λ r. Claims.same-net m g ob n p h r;
+  made = λ r. Claims.net-made m g ob n p h r;
+  bit = λ r. Claims.bit-again m g ob n p h r;
   again = λ r. Claims.again m g ob n p h r;
-  here = λ r. Claims.again-here m g ob n p h r;
+  still = λ r. Claims.again-here m g ob n p h r;
 }
 
 pub one-net-of-image : (s : List ℕ) (N P netlist scratch : ℕ) (ob : Bool) → checked s N P netlist scratch ≡ Fine → OneNet (decode s) ob N P

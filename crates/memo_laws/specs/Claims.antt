@@ -1,5 +1,5 @@
--- Document 02, Q-10, shown: from every state that the call goes through, what has nets is lowered again to the same nets and nothing is made; and a bit that
--- has a net keeps it, whatever is lowered. Assumes nothing.
+-- From every state that the call goes through, what has nets is lowered again to the same nets and nothing is made; and a bit that has a net keeps it. Assumes
+-- nothing.
 use mathlib.Core.Path.{_≡_, refl, sym, ap, subst, _∙_}
 use mathlib.Core.Bool.{Bool}
 use mathlib.Core.Option.{some}
@@ -10,22 +10,19 @@ use lib.ListN.{length}
 use Rattle.rtl.specs.Rtl as R
 use Rattle.rtl.specs.Rtl.{Module}
 use Rattle.model.specs.Words.{absent}
-use Rattle.model.specs.Builder.{done}
-use Rattle.model.specs.Lowering.{State, Need, Bit, Whole, Range, whole, wholeNets, signalBit, expressionNet, lowerNeed, plenty, sumWidths}
-use Rattle.netlist_laws.specs.Run.{Meets}
-use Rattle.walk_laws.specs.Tables.{Has}
+use Rattle.model.specs.Lowering.{State, Need, Bit, Whole, Range, wholeNets, signalBit, expressionNet, plenty, sumWidths}
 use Rattle.walk_laws.specs.Good.{Good}
-use Rattle.walk_laws.specs.Kept.{Any, Inv, Walks}
+use Rattle.walk_laws.specs.Kept.{Inv, Walks}
 use Rattle.walk_laws.specs.Reads.{Asked, After}
 use Rattle.walk_laws.specs.Walk.{need-walk}
 use Rattle.connect_laws.specs.Supply.{supply}
+use Rattle.memo_laws.specs.Derived.{Derived}
 use Rattle.memo_laws.specs.Reads.{whole-nets, held-net, net-here, net-bit}
-use Rattle.memo_laws.specs.Walked.{IsKept, need-keep}
 use Rattle.memo_laws.specs.Relowered.{costOf, nets-have, Part}
-use Rattle.memo_laws.specs.Again.{need-again}
-use Rattle.memo_laws.specs.Memo.{Reached, HasNets, forgot, LowersAgain}
+use Rattle.memo_laws.specs.Induction.{need-again}
+use Rattle.memo_laws.specs.Memo.{Onwards, Reached, HasNets, forgot, LowersAgain}
 use Rattle.memo_laws.specs.Forgot.{forgot-nets, forgot-inv, forgot-steady}
-use Rattle.memo_laws.specs.Reached.{Kept, reached-kept}
+use Rattle.memo_laws.specs.Reached.{Kept, goes, reached-kept}
 
 -- the call's fuel is enough
 enough : (m : Module) (need : Need) → Asked m need → costOf need < plenty m
@@ -48,7 +45,7 @@ module _ (m : Module) (good : Good m) (ob : Bool) (n p : ℕ) (limit : n ≤ abs
   has-nets : (st′ : State) → Inv m st′ → (need : Need) → Asked m need → After st′ need → HasNets m st′ need
   unfolding signalBit
   has-nets st′ i (Bit s b) a h = h
-  has-nets st′ i (Whole e) a h = nets-have m (good .exprs) ob st′ e (wholeNets st′ e) (whole-nets m st′ i (good .exprs) e a h)
+  has-nets st′ i (Whole e) a h = nets-have m st′ e (wholeNets st′ e) (whole-nets m st′ i (good .exprs) e a h)
   has-nets st′ i (Range e lsb w) a h = λ b x y. held-net m st′ i (good .exprs) e (a .0) b (omega (arith, a .1)) (h b x y)
 
   from : (su : State) → Part m good ob st (kept .inv) (kept .steady) su → (need : Need) → Asked m need → HasNets m st need → LowersAgain m ob st need su
@@ -64,9 +61,13 @@ module _ (m : Module) (good : Good m) (ob : Bool) (n p : ℕ) (limit : n ≤ abs
         nets = g .part .nets;
       }
 
-  -- whatever is lowered, a bit that has a net keeps it: one that was lowered by a range has the same net once the whole is lowered
-  pub same-net : (f : ℕ) (need : Need) {st′ : State} → Asked m need → lowerNeed f m ob need st ≡ done st′ → (e b k : ℕ) → expressionNet st e b ≡ some k → expressionNet st′ e b ≡ some k
-  same-net f need a q e b k h = (subst (Meets Any (IsKept m good ob st)) q (need-keep m good ob f need st (kept .inv) (kept .steady) a)) .onward .nets e b k h
+  -- a bit that has a net keeps it: one that was lowered by a range has the same net once the whole is lowered
+  pub same-net : {st′ : State} → Onwards m ob st st′ → (e b k : ℕ) → expressionNet st e b ≡ some k → expressionNet st′ e b ≡ some k
+  same-net o e b k h = goes m good ob kept o .onward .nets e b k h
+
+  -- its net is what its kind's builder call gives of the nets below it
+  pub net-made : (e b k : ℕ) → expressionNet st e b ≡ some k → Derived m ob (st .netlist) (signalBit st) (expressionNet st) e b k
+  net-made e b k h = kept .steady .derived e b k h
 
   -- lowered again with the nets of expression c and of all after it forgotten
   pub again : (c : ℕ) → c ≤ length (m .exprs) → (need : Need) → Asked m need → HasNets m st need → LowersAgain m ob st need (forgot c m st)
@@ -82,7 +83,7 @@ module _ (m : Module) (good : Good m) (ob : Bool) (n p : ℕ) (limit : n ≤ abs
   pub again-here : (need : Need) → Asked m need → HasNets m st need → LowersAgain m ob st need st
   again-here need a h = from st (record { inv = kept .inv; steady = kept .steady; same = refl; bits = refl; nets = λ e b k q. q }) need a h
 
-  -- ---- the same for one bit, and for a whole ----
+  -- ---- the same for one bit ----
 
   -- bit b of expression e has net k: by itself it is lowered again to net k
   pub bit-again : (c : ℕ) → c ≤ length (m .exprs) → (e b k : ℕ) → expressionNet st e b ≡ some k
@@ -93,14 +94,3 @@ module _ (m : Module) (good : Good m) (ob : Bool) (n p : ℕ) (limit : n ≤ abs
       let g = again c most (Range e b 1) (here, omega arith) (λ j x y. let z : j ≡ b = omega arith in record { value = k; is = ap (expressionNet st e) z ∙ h }) in
       let t = g .there b (omega arith) (omega arith) in
       (g, t .is ∙ sym (g .nets e b (t .value) (t .is)) ∙ h)
-
-  -- expression e has nets as a whole: it is lowered again to them
-  pub whole-again : (c : ℕ) → c ≤ length (m .exprs) → (e : ℕ) → e < length (m .exprs) → Has (whole st e)
-      → (g : LowersAgain m ob st (Whole e) (forgot c m st)) × ((b k : ℕ) → expressionNet st e b ≡ some k → expressionNet (g .after) e b ≡ some k)
-  whole-again c most e here h =
-      let g = again c most (Whole e) here (nets-have m (good .exprs) ob st e (wholeNets st e) (whole-nets m st (kept .inv) (good .exprs) e here h)) in (
-        g,
-        λ b k q.
-            let t = g .there b (net-bit m st (kept .inv) (good .exprs) e here b k q) in
-            t .is ∙ sym (g .nets e b (t .value) (t .is)) ∙ q,
-      )

@@ -1,5 +1,5 @@
--- An expression's bit that has a net, from the nets below it: what its kind's builder call gives of them at the present netlist, making nothing. Such a net is
--- the only one, and it is so at every later state. Assumes nothing.
+-- An expression's bit that has a net, from the nets below it: what its kind's builder call gives of them at the present netlist, making nothing. There is
+-- at most one such net. Assumes nothing.
 use mathlib.Core.Path.{_≡_, refl, sym, ap, ap₂, _∙_}
 use mathlib.Core.Logic.{_⊎_, inl, inr}
 use mathlib.Core.Bool.{Bool, true, false, cond, not}

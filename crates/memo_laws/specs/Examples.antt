@@ -43,15 +43,52 @@ by-ranges : seen (lowerState false m 16 64) ≡ some 10 ∷ some 3 ∷ some 4 �
 unfolding computing
 by-ranges = refl
 
-whole-again : seen (again false (lowerState false m 16 64)) ≡ some 10 ∷ some 3 ∷ some 4 ∷ some 7 ∷ []
+ranges-again : seen (again false (lowerState false m 16 64)) ≡ some 10 ∷ some 3 ∷ some 4 ∷ some 7 ∷ []
 unfolding computing
-whole-again = refl
+ranges-again = refl
+
+-- from the end of the call itself
+abbrev still : Out State → Out State
+still (refused n x y) = refused n x y
+still (done st) = lowerNeed (plenty m) m false (L.Whole 1) st
+
+whole-still : seen (still (lowerState false m 16 64)) ≡ some 10 ∷ some 3 ∷ some 4 ∷ some 7 ∷ []
+unfolding computing
+whole-still = refl
 
 -- with the flag
-by-bits : seen (lowerState true m 16 64) ≡ some 10 ∷ some 3 ∷ some 4 ∷ some 7 ∷ []
+by-flag : seen (lowerState true m 16 64) ≡ some 10 ∷ some 3 ∷ some 4 ∷ some 7 ∷ []
 unfolding computing
-by-bits = refl
+by-flag = refl
 
-bits-again : seen (again true (lowerState true m 16 64)) ≡ some 10 ∷ some 3 ∷ some 4 ∷ some 7 ∷ []
+flag-again : seen (again true (lowerState true m 16 64)) ≡ some 10 ∷ some 3 ∷ some 4 ∷ some 7 ∷ []
 unfolding computing
-bits-again = refl
+flag-again = refl
+
+-- ---- y = 1 + 0: the cell is folded, and its key is not kept ----
+
+abbrev sum : Module
+sum = record {
+  signals = record { width = 1; dir = R.Output } ∷ [];
+  exprs = record { width = 1; kind = R.Constant 1 } ∷ record { width = 1; kind = R.Constant 0 } ∷ record { width = 1; kind = R.Bin R.Add 0 1 } ∷ [];
+  assigns = record { signal = 0; lsb = 0; width = 1; value = 2 } ∷ [];
+  registers = [];
+  memories = [];
+}
+
+-- nets and records made, and the sum's net
+abbrev sums : Out State → List (Option ℕ)
+sums (refused n x y) = []
+sums (done st) = some (length (st .netlist .nodes)) ∷ some (length (st .netlist .records)) ∷ expressionNet st 2 0 ∷ []
+
+abbrev sumAgain : Out State → Out State
+sumAgain (refused n x y) = refused n x y
+sumAgain (done st) = lowerNeed (plenty sum) sum false (L.Whole 2) (forgot 0 sum st)
+
+folded : sums (lowerState false sum 16 64) ≡ some 3 ∷ some 1 ∷ some 0 ∷ []
+unfolding computing
+folded = refl
+
+folded-again : sums (sumAgain (lowerState false sum 16 64)) ≡ some 3 ∷ some 1 ∷ some 0 ∷ []
+unfolding computing
+folded-again = refl

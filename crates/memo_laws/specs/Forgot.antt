@@ -19,7 +19,7 @@ use Rattle.connect_laws.specs.Sources.{none-at, blank, shaped}
 use Rattle.again_laws.specs.Again.{stays-refl}
 use Rattle.memo_laws.specs.Memo.{forgot}
 use Rattle.memo_laws.specs.Derived.{onlyWhole}
-use Rattle.memo_laws.specs.Stays.{derived-later}
+use Rattle.memo_laws.specs.Later.{derived-later}
 use Rattle.memo_laws.specs.Reads.{whole-net, net-whole, range-net, net-range, nets-there, net-here}
 use Rattle.memo_laws.specs.Steady.{Steady, DerivedAt}
 

@@ -27,7 +27,7 @@ use Rattle.again_laws.specs.Again.{Stays, stays-refl, Again, Repeats}
 use Rattle.again_laws.specs.Operators.{again-un}
 use Rattle.memo_laws.specs.Along.{Along, along-whole, along-slice}
 use Rattle.memo_laws.specs.Derived.{cellOf, binaryOf, narrowTo, gateless, onlyWhole, Nets, Carry}
-use Rattle.memo_laws.specs.Stays.{binary-again, nets-below}
+use Rattle.memo_laws.specs.Later.{binary-again, nets-below}
 use Rattle.memo_laws.specs.Reads.{nets-there, whole-nets, range-along}
 use Rattle.memo_laws.specs.Built.{Bit, Derives, IsNet, constants-derived, nots-derived, gate-derived, mux-derived, signals-derived, slice-derived, parts-derived, concat-derived}
 

@@ -4,7 +4,7 @@ pub mod Memo
 pub mod Along
 pub mod Repeated
 pub mod Derived
-pub mod Stays
+pub mod Later
 pub mod Reads
 pub mod Built
 pub mod Kinds
@@ -12,7 +12,7 @@ pub mod Steady
 pub mod Walked
 pub mod Nothing
 pub mod Relowered
-pub mod Again
+pub mod Induction
 pub mod Forgot
 pub mod Reached
 pub mod Claims

@@ -24,7 +24,7 @@ use Rattle.walk_laws.specs.Parts.{gate-wide}
 use Rattle.memo_laws.specs.Along.{Along, along-map, along-whole, along-slice}
 use Rattle.memo_laws.specs.Repeated.{From2, Bits, unzip, unzip2, each-again, both-again}
 use Rattle.memo_laws.specs.Derived.{sideOf, Tables, Net, net-single, Nets, nets-same, Carry, carry-same, binaryOf, UnBit, BinBit, MuxBit, KindBit}
-use Rattle.memo_laws.specs.Stays.{Knows}
+use Rattle.memo_laws.specs.Later.{Knows}
 use Rattle.memo_laws.specs.Reads.{range-along, range-length}
 use Rattle.memo_laws.specs.Kinds.{AreNets, carryOf, read-nets, read-carry, bit0-net, split-operands, gates-made, gate-operands, binary-made}
 

@@ -17,7 +17,7 @@ use Rattle.walk_laws.specs.Reads.{After, whole-length}
 use Rattle.connect_laws.specs.Sources.{inside}
 use Rattle.memo_laws.specs.Along.{Along, Cell, along-map, along-whole, along-slice, row-along}
 use Rattle.memo_laws.specs.Derived.{Net, Nets}
-use Rattle.memo_laws.specs.Stays.{There}
+use Rattle.memo_laws.specs.Later.{There}
 
 pub elem-below : (k : ℕ) (ns : List ℕ) (i n : ℕ) → AllBelow k ns → getElem? ns i ≡ some n → n < k
 elem-below k [] i n h e = absurd (none-some e)

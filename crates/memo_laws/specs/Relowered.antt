@@ -1,5 +1,5 @@
--- What has nets is lowered again from less: from a state with the same netlist and signal bits, and with some of the expressions' nets, each need whose bits
--- have nets is lowered to them, and nothing is made. Assumes nothing.
+-- One step of lowering again, from a state with the same netlist and signal bits and some of the expressions' nets: the steps of an expression whose bits have
+-- nets have nets themselves, and are lowered if each of them is. Assumes nothing.
 use mathlib.Core.Path.{_≡_, refl, sym, ap, subst, _∙_}
 use mathlib.Core.Logic.{inl, inr}
 use mathlib.Core.Bool.{Bool, true, false, true≢false, cond}
@@ -27,7 +27,7 @@ use Rattle.connect_laws.specs.Supply.{supply}
 use Rattle.memo_laws.specs.Along.{along-get}
 use Rattle.memo_laws.specs.Repeated.{Bits}
 use Rattle.memo_laws.specs.Derived.{sideOf, gateless, onlyWhole, Net, Nets, Carry, UnBit, BinBit, MuxBit, PartBit, KindBit}
-use Rattle.memo_laws.specs.Stays.{Knows}
+use Rattle.memo_laws.specs.Later.{Knows}
 use Rattle.memo_laws.specs.Reads.{whole-nets, elem-there}
 use Rattle.memo_laws.specs.Kinds.{gate-operands, bit0-net}
 use Rattle.memo_laws.specs.Walked.{IsSteady}
@@ -54,6 +54,12 @@ sum-turned : (g : ℕ → ℕ) (ps acc : List ℕ) → sumOf g (backwards ps acc
 sum-turned g [] acc = omega arith
 sum-turned g (p ∷ ps) acc = sum-turned g ps (p ∷ acc) ∙ omega arith
 
+has : {o : Option ℕ} {n : ℕ} → o ≡ some n → Has o
+has {n} h = record { value = n; is = h }
+
+pub nets-have : (m : Module) (st : State) (a : ℕ) (xs : List ℕ) → Nets m (expressionNet st) a xs → HasNets m st (Whole a)
+nets-have m st a xs h b k = let t = elem-there xs b (omega (arith, h .wide)) in has (along-get (Net m (expressionNet st) a) xs b (t .value) (t .is) (h .are))
+
 -- the numbers of a piece
 up : (lo hi at b : ℕ) → at ≤ lo → lo - at ≤ b → b < lo - at + (hi - lo) → at + b < hi
 up lo hi at b h x y = omega arith
@@ -67,12 +73,6 @@ module _ (m : Module) (f : Formed (m .exprs)) (ob : Bool) (st : State) where
   AllKnown g [] = Unit {0}
   AllKnown g (Always n ∷ ss) = HasNets m st n × (costOf n < g) × AllKnown g ss
   AllKnown g (Unless c v n ∷ ss) = ⊥
-
-  has : {o : Option ℕ} {n : ℕ} → o ≡ some n → Has o
-  has {n} h = record { value = n; is = h }
-
-  pub nets-have : (a : ℕ) (xs : List ℕ) → Nets m (expressionNet st) a xs → HasNets m st (Whole a)
-  nets-have a xs h b k = let t = elem-there xs b (omega (arith, h .wide)) in has (along-get (Net m (expressionNet st) a) xs b (t .value) (t .is) (h .are))
 
   -- ---- the steps of an expression whose bits have derived nets ----
 
@@ -136,7 +136,7 @@ module _ (m : Module) (f : Formed (m .exprs)) (ob : Bool) (st : State) where
 
   module _ (g e : ℕ) (here : e < length (m .exprs)) (fuel : 2 * e + 1 ≤ g) where
     one-have : (op : R.Unary) (a : ℕ) → Bits (λ b n. UnBit m ob (st .netlist) (signalBit st) (expressionNet st) false op a b n) 0 (widthAt (m .exprs) e) → HasNets m st (Whole a)
-    one-have op a d = let r = d 0 (omega arith) (omega (arith, f .least e here)) .1 in nets-have a (r .xs) (r .nets)
+    one-have op a d = let r = d 0 (omega arith) (omega (arith, f .least e here)) .1 in nets-have m st a (r .xs) (r .nets)
 
     operands-known : (o : Operands) → o .lhs < e → o .rhs < e → CarryBelow e (o .carry) → HasNets m st (Whole (o .lhs)) → HasNets m st (Whole (o .rhs)) → (c : Option ℕ)
         → Carry m (expressionNet st) (o .carry) c → AllKnown g (operandSteps o)
@@ -145,7 +145,7 @@ module _ (m : Module) (f : Formed (m .exprs)) (ob : Bool) (st : State) where
         go : (q : Option ℕ) → CarryBelow e q → (c : Option ℕ) → Carry m (expressionNet st) q c → AllKnown g (operandSteps (record { lhs = o .lhs; rhs = o .rhs; carry = q }))
         go none u c z = (x, omega arith, (y, omega arith, tt))
         go (some d) u none z = absurd z
-        go (some d) u (some n) z = (x, omega arith, (y, omega arith, (nets-have d (z .all) (z .nets), omega arith, tt)))
+        go (some d) u (some n) z = (x, omega arith, (y, omega arith, (nets-have m st d (z .all) (z .nets), omega arith, tt)))
 
     bin-known : (op : Binary) (a b : ℕ) → (exprAt (m .exprs) e) .kind ≡ R.Bin op a b → BelowE e (R.Bin op a b) → WidthOk (widthAt (m .exprs)) (widthAt (m .exprs) e) (R.Bin op a b)
         → (q : Option Gate) → gateOf (classOf op) ≡ q → Bits (λ j n. BinBit m ob (st .netlist) (signalBit st) (expressionNet st) q e op a b j n) 0 (widthAt (m .exprs) e)
@@ -159,7 +159,7 @@ module _ (m : Module) (f : Formed (m .exprs)) (ob : Bool) (st : State) where
         let t = operands (m .exprs) f v e here op a b x in
         let o = operandsOf (m .exprs) op a b in
         let r = d 0 (omega arith) (omega (arith, f .least e here)) .1 in
-        operands-known o (t .lhs-below) (t .rhs-below) (t .carry-below) (nets-have (o .lhs) (r .xs) (r .left)) (nets-have (o .rhs) (r .ys) (r .right)) (r .carry) (r .with)
+        operands-known o (t .lhs-below) (t .rhs-below) (t .carry-below) (nets-have m st (o .lhs) (r .xs) (r .left)) (nets-have m st (o .rhs) (r .ys) (r .right)) (r .carry) (r .with)
 
     whole-known : (k : Kind) → (exprAt (m .exprs) e) .kind ≡ k → BelowE e k → WidthOk (widthAt (m .exprs)) (widthAt (m .exprs) e) k → isMux k ≡ false
         → Bits (KnownBit k e) 0 (widthAt (m .exprs) e) → AllKnown g (kindSteps (m .exprs) (widthAt (m .exprs) e) k)
@@ -220,6 +220,9 @@ module _ (m : Module) (good : Good m) (ob : Bool) (st : State) (i : Inv m st) (s
     pub same : su .netlist ≡ st .netlist
     pub bits : su .signalBits ≡ st .signalBits
     pub nets : Knows (expressionNet su) (expressionNet st)
+
+  pub derived-bits : (e b w : ℕ) → ((j : ℕ) → b ≤ j → j < b + w → Has (expressionNet st e j)) → Bits (KnownBit m (good .exprs) ob st ((exprAt (m .exprs) e) .kind) e) b w
+  derived-bits e b w h j x y = let k = h j x y in (k .value, s .derived e j (k .value) (k .is))
 
   -- it ends in such a state, and what was whole is whole
   pub record Relowers (su : State) (o : Out State) : Type 0 where
@@ -288,9 +291,6 @@ module _ (m : Module) (good : Good m) (ob : Bool) (st : State) (i : Inv m st) (s
     -- ---- the steps of an expression ----
 
     module _ (e : ℕ) (here : e < length (m .exprs)) where
-      pub derived-bits : (b w : ℕ) → ((j : ℕ) → b ≤ j → j < b + w → Has (expressionNet st e j)) → Bits (KnownBit m (good .exprs) ob st ((exprAt (m .exprs) e) .kind) e) b w
-      derived-bits b w h j x y = let k = h j x y in (k .value, s .derived e j (k .value) (k .is))
-
       then-side : (t d : ℕ) (o : Option Bool) (x b n : ℕ) → isValue false o ≡ false → MuxBit m ob (st .netlist) (signalBit st) (expressionNet st) o x t d b n → Has (expressionNet st t b)
       then-side t d none x b n q h = record { value = h .x; is = h .left }
       then-side t d (some true) x b n q h = record { value = n; is = h }
@@ -318,7 +318,7 @@ module _ (m : Module) (good : Good m) (ob : Bool) (st : State) (i : Inv m st) (s
       pub whole-steps : (su : State) → Part su → 2 * e + 1 ≤ g → HasNets m st (Whole e) → Relowers su (lowerSteps rec ob (wholeSteps (m .exprs) e) su)
       unfolding wholeSteps
       whole-steps su p q h =
-          go ((exprAt (m .exprs) e) .kind) refl (good .exprs .low e here) (good .exprs .wide e here) (derived-bits 0 (widthAt (m .exprs) e) (λ j x y. h j (omega arith)))
+          go ((exprAt (m .exprs) e) .kind) refl (good .exprs .low e here) (good .exprs .wide e here) (derived-bits e 0 (widthAt (m .exprs) e) (λ j x y. h j (omega arith)))
           (whole-asked m (good .exprs) e here)
         where
           plain : (k : Kind) → (exprAt (m .exprs) e) .kind ≡ k → BelowE e k → WidthOk (widthAt (m .exprs)) (widthAt (m .exprs) e) k → isMux k ≡ false
@@ -346,7 +346,7 @@ module _ (m : Module) (good : Good m) (ob : Bool) (st : State) (i : Inv m st) (s
       pub range-steps : (lsb w : ℕ) → 1 ≤ w → lsb + w ≤ widthAt (m .exprs) e → (su : State) → Part su → 2 * e + 2 ≤ g → HasNets m st (Range e lsb w) → Relowers su (lowerSteps rec ob (rangeSteps (m .exprs) e lsb w) su)
       unfolding rangeSteps
       range-steps lsb w one fits su p q h =
-          go ((exprAt (m .exprs) e) .kind) refl (good .exprs .low e here) (good .exprs .wide e here) (derived-bits lsb w h) (range-asked m (good .exprs) e here lsb w fits)
+          go ((exprAt (m .exprs) e) .kind) refl (good .exprs .low e here) (good .exprs .wide e here) (derived-bits e lsb w h) (range-asked m (good .exprs) e here lsb w fits)
         where
           fuel : 2 * e + 1 ≤ g
           fuel = omega arith
@@ -356,7 +356,7 @@ module _ (m : Module) (good : Good m) (ob : Bool) (st : State) (i : Inv m st) (s
               let t = h lsb (omega arith) (omega arith) in
               let r = s .only e lsb (t .value) k (t .is) in
               let y = whole-nets m st i (good .exprs) e here r in
-              nets-have m (good .exprs) ob st e (wholeNets st e) y b x
+              nets-have m st e (wholeNets st e) y b x
 
           plain : (k : Kind) → (exprAt (m .exprs) e) .kind ≡ k → BelowE e k → isMux k ≡ false → Bits (KnownBit m (good .exprs) ob st k e) lsb w
               → AllAsked m (kindRangeSteps (m .exprs) e lsb w k) → Relowers su (lowerSteps rec ob (kindRangeSteps (m .exprs) e lsb w k) su)

@@ -123,11 +123,6 @@ zip2 P Q f l b (x ∷ xs) (y ∷ ys) [] p q r = tt
 zip2 P Q f l b (x ∷ xs) (y ∷ ys) (n ∷ ns) p q r =
     (record { x = x; y = y; left = p .0; right = q .0; made = r .0 }, zip2 P Q f l (suc b) xs ys ns (p .1) (q .1) (r .1))
 
--- a call that gives its answer and makes nothing
-pub record Nothing {A : Type 0} (o : Made A) (l : Netlist) : Type 0 where
-  pub answer : A
-  pub made : o ≡ done (answer, l)
-
 -- each of the bits b, b + 1, .., w of them, has such a net
 abbrev pub Bits : (ℕ → ℕ → Type 0) → ℕ → ℕ → Type 0
 Bits D b w = (i : ℕ) → b ≤ i → i < b + w → (n : ℕ) × D i n

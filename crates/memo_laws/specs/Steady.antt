@@ -22,7 +22,7 @@ use Rattle.walk_laws.specs.Writes.{whole-same, range-sets}
 use Rattle.again_laws.specs.Again.{Stays, stays-refl, stays-trans}
 use Rattle.memo_laws.specs.Along.{Along, along-get, along-within, written}
 use Rattle.memo_laws.specs.Derived.{onlyWhole, Derived, derived-single}
-use Rattle.memo_laws.specs.Stays.{There, Knows, derived-later}
+use Rattle.memo_laws.specs.Later.{There, Knows, derived-later}
 use Rattle.memo_laws.specs.Reads.{whole-net, net-whole, range-net, net-range, nets-there, net-here, net-bit, held-net}
 
 -- st′ comes after st: the netlist gives what it gave, and each bit that has a net has the same one

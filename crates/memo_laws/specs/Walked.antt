@@ -181,18 +181,18 @@ module _ (m : Module) (good : Good m) (ob : Bool) where
   driven-asked false s b e k a = a .value
   driven-asked true s b e k a = (a .value, omega (arith, a .bit))
 
-  module _ (rec : Need → State → Out State) (spec : Lowers supply m good ob rec) (keep : Keep rec) (st : State) (i : Inv m st) (s : IsSteady st) where
-    mark-kept : (p b : ℕ) → IsKept st (mark st p b)
-    unfolding signalBit mark
-    mark-kept p b = same-keeps m (good .exprs) ob st (mark st p b) i (inv-mark m st p b i) s (stays-refl (st .netlist)) (λ q j n h. h) refl refl
+  pub mark-kept : (st : State) → Inv m st → IsSteady st → (p b : ℕ) → IsKept st (mark st p b)
+  unfolding signalBit mark
+  mark-kept st i s p b = same-keeps m (good .exprs) ob st (mark st p b) i (inv-mark m st p b i) s (stays-refl (st .netlist)) (λ q j n h. h) refl refl
 
+  module _ (rec : Need → State → Out State) (spec : Lowers supply m good ob rec) (keep : Keep rec) (st : State) (i : Inv m st) (s : IsSteady st) where
     -- the driver's net is taken; w: what is known of the state at the end
-    drive-kept : (p b : ℕ) (d : ℕ × ℕ) → cell none (st .signalBits) p b ≡ none → cell false (st .resolving) p b ≡ false → Assigned m p b (d .0) (d .1)
+    drive-kept : (p b : ℕ) (d : ℕ × ℕ) → cell none (st .signalBits) p b ≡ none → Assigned m p b (d .0) (d .1)
         → Walks m st (λ st′. After st′ (Bit p b)) (drive rec ob p b (d .0) (d .1) st) → Meets Any (IsKept st) (drive rec ob p b (d .0) (d .1) st)
     unfolding drive
-    drive-kept p b d free unmarked a w =
+    drive-kept p b d free a w =
         go (rec (drivenBy ob (d .0) (d .1)) (mark st p b)) (spec (drivenBy ob (d .0) (d .1)) (mark st p b) (inv-mark m st p b i) (driven-asked ob p b (d .0) (d .1) a))
-        (keep (drivenBy ob (d .0) (d .1)) (mark st p b) (inv-mark m st p b i) (mark-kept p b .steady) (driven-asked ob p b (d .0) (d .1) a)) w
+        (keep (drivenBy ob (d .0) (d .1)) (mark st p b) (inv-mark m st p b i) (mark-kept st i s p b .steady) (driven-asked ob p b (d .0) (d .1) a)) w
       where
         free-there : cell none (mark st p b .signalBits) p b ≡ none
         free-there = marked-free st p b free
@@ -203,7 +203,7 @@ module _ (m : Module) (good : Good m) (ob : Bool) where
         go (refused n x y) u h w = tt
         go (done st₁) u h w =
             let fr : cell none (st₁ .signalBits) p b ≡ none = u .walks .grew .framed .bits p b (marked m st p b i (a .here) (a .inside)) ∙ free-there in
-            keeps-trans m (good .exprs) ob (mark-kept p b .onward) (keeps-trans m (good .exprs) ob (h .onward)
+            keeps-trans m (good .exprs) ob (mark-kept st i s p b .onward) (keeps-trans m (good .exprs) ob (h .onward)
             (bit-kept st₁ (u .walks .inv) (h .steady) p b (drivenNet ob st₁ (d .0) (d .1)) (a .here) (a .inside) fr (w .walks .inv)))
 
     resolve-kept : (p b : ℕ) → Walks m st (λ st′. After st′ (Bit p b)) (resolveSignalBit rec m ob p b st) → Meets Any (IsKept st) (resolveSignalBit rec m ob p b st)
@@ -228,7 +228,7 @@ module _ (m : Module) (good : Good m) (ob : Bool) where
         go (some n) e q g t z w = keeps-refl m (good .exprs) ob s
         go none e none g t z w = tt
         go none e (some d) g true z w = tt
-        go none e (some d) g false z w = drive-kept p b d e z (assigned m p b good d g) w
+        go none e (some d) g false z w = drive-kept p b d e (assigned m p b good d g) w
 
     -- ---- an expression, a range of it ----
 

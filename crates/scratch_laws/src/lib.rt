@@ -1,1 +1,1 @@
-// A builder call made again makes no net and gives the same ones. The laws are in specs/.
+// Laws only, in specs/: the call beside the one that asked for document 01's scratch.

@@ -1,4 +1,4 @@
--- The lowering again of what has nets, by induction on the fuel: it is done, makes nothing, and ends in a state with some of the nets that were there. Assumes nothing.
+-- What has nets is lowered again, by induction on the fuel: it is done, makes nothing, and ends in a state with some of the nets that were there. Assumes nothing.
 use mathlib.Core.Path.{_≡_, refl, sym, ap, subst, _∙_}
 use mathlib.Core.Logic.{_⊎_, inl, inr}
 use mathlib.Core.Bool.{Bool, true, false, true≢false}
@@ -28,7 +28,7 @@ use Rattle.again_laws.specs.Again.{Stays, stays-refl}
 use Rattle.memo_laws.specs.Along.{Along}
 use Rattle.memo_laws.specs.Repeated.{Bits}
 use Rattle.memo_laws.specs.Derived.{onlyWhole, KindBit, derived-single}
-use Rattle.memo_laws.specs.Stays.{Knows}
+use Rattle.memo_laws.specs.Later.{Knows}
 use Rattle.memo_laws.specs.Reads.{net-bit}
 use Rattle.memo_laws.specs.Built.{Derives}
 use Rattle.memo_laws.specs.Kinds.{whole-derived}
@@ -178,7 +178,7 @@ module _ (m : Module) (good : Good m) (ob : Bool) (st : State) (i : Inv m st) (s
 
         made : Nothing (buildWhole (m .exprs) ob (steps .after) e) (steps .after .netlist)
         made = whole-nothing m (good .exprs) ob (steps .after) (steps .part .inv) (signalBit st) (expressionNet st) (steps .part .nets) e here all-after
-            (bits-there (steps .after) (steps .part) e 0 (widthAt (m .exprs) e) (derived-bits m good ob st i s g (lowerNeed g m ob) (need-walk supply m good ob g) again e here 0 (widthAt (m .exprs) e) (λ j x y. h j (omega arith))))
+            (bits-there (steps .after) (steps .part) e 0 (widthAt (m .exprs) e) (derived-bits m good ob st i s e 0 (widthAt (m .exprs) e) (λ j x y. h j (omega arith))))
 
         derived : Along (DerivedAt m (good .exprs) ob (steps .after .netlist) (steps .after) e) 0 (made .0)
         derived = (subst (Meets Any (Derives m (good .exprs) ob (steps .after) (steps .part .inv) ((exprAt (m .exprs) e) .kind) e 0)) (made .1)
@@ -228,7 +228,7 @@ module _ (m : Module) (good : Good m) (ob : Bool) (st : State) (i : Inv m st) (s
 
           made-r : Nothing (buildRange (m .exprs) ob (steps-r .after) e lsb w) (steps-r .after .netlist)
           made-r = range-nothing m (good .exprs) ob (steps-r .after) (steps-r .part .inv) (signalBit st) (expressionNet st) (steps-r .part .nets) e here lsb w fits after-r
-              (bits-there (steps-r .after) (steps-r .part) e lsb w (derived-bits m good ob st i s g (lowerNeed g m ob) (need-walk supply m good ob g) again e here lsb w h))
+              (bits-there (steps-r .after) (steps-r .part) e lsb w (derived-bits m good ob st i s e lsb w h))
 
           derived-r : onlyWhole ((exprAt (m .exprs) e) .kind) ≡ false → Along (DerivedAt m (good .exprs) ob (steps-r .after .netlist) (steps-r .after) e) lsb (made-r .0)
           derived-r = (subst (Meets Any (Ranged m good ob (steps-r .after) (steps-r .part .inv) (steps-r .part .steady) e here lsb w fits)) (made-r .1)

@@ -1,4 +1,4 @@
--- A derived net is derived at every later state: the tables know what they knew, and the netlist gives what it gave. Assumes nothing.
+-- A derived net is derived in every later state: the tables know what they knew, and builder calls give what they gave. Assumes nothing.
 use mathlib.Core.Path.{_≡_, refl, sym, _∙_}
 use mathlib.Core.Logic.{inl, inr}
 use mathlib.Core.Bool.{Bool, true, false}
@@ -70,7 +70,7 @@ module _ (m : Module) (f : Formed (m .exprs)) (ob : Bool) (l : Netlist) (q : Sou
         let z = t v in
         let wp = sym (word-width (m .exprs) f v p (omega (arith, z .lhs-below))) ∙ z .lhs-wide add in
         let wr = sym (word-width (m .exprs) f v r (omega (arith, z .rhs-below))) ∙ z .rhs-wide add in
-        again-carry (truncated n xs) (truncated n ys) d l q (below-truncated (count l) n xs (nets-below hx)) (below-truncated (count l) n ys (nets-below hy))
+        again-carry (truncated n xs) (truncated n ys) d l q
         (carry-below c d (omega (arith, z .carry-below)) hc) (truncated-length n xs ys (hx .wide ∙ wp ∙ sym wr ∙ sym (hy .wide)))
 
     pub binary-again : (op : Binary) (a b : ℕ) → (exprAt (m .exprs) e) .kind ≡ R.Bin op a b → (xs ys : List ℕ) (c : Option ℕ)
