@@ -1,4 +1,4 @@
--- What the lowering makes of an expression, whole or by a range, once its steps are done: each net is derived from those below it. Assumes nothing.
+-- For each sort of builder call, and for nets that are there already: what is made of operands' nets is derived from them, from whichever bit on. Assumes nothing.
 use mathlib.Core.Path.{_≡_, refl, sym, subst, _∙_}
 use mathlib.Core.Logic.{_⊎_, inl, inr}
 use mathlib.Core.Bool.{Bool, true, false, cond}

@@ -1,5 +1,5 @@
--- An example, computed: y is bits 0 to 1 and z bits 1 to 2 of ~a, lowered by ranges; then, with the nets of expressions forgotten, ~a is lowered whole. Its
--- three bits have the nets that they had, and no net is made. Assumes nothing.
+-- Examples, computed: y is bits 0 to 1 and z bits 1 to 2 of ~a, lowered by ranges; then ~a is lowered whole, with the nets of expressions forgotten or not. Its three
+-- bits have the nets that they had, and no net is made; so with a sum of two constants, whose cell is folded. Assumes nothing.
 use Prim.Native.Nat.{ℕ}
 use mathlib.Core.Path.{_≡_, refl}
 use mathlib.Core.Bool.{Bool, true, false}

@@ -1,4 +1,4 @@
--- What the lowering makes of an expression, by its kind: whole, and of a range. Assumes nothing.
+-- By kind: the nets that the lowering makes of a whole expression, or of a range of it, are derived from those below it. Assumes nothing.
 use mathlib.Core.Path.{_≡_, refl, sym, subst}
 use mathlib.Core.Logic.{_⊎_, ⊎-map}
 use mathlib.Core.Bool.{Bool, false}
