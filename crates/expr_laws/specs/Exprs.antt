@@ -4,16 +4,16 @@ use mathlib.Core.Path.{_≡_, sym, ap, _∙_}
 use mathlib.Core.List.{List}
 use Prim.Native.Nat.{ℕ, _+_, _≤_, _<_}
 use lib.ListN.{length}
-use Rattle.rtl.specs.Rtl as R
-use Rattle.rtl.specs.Rtl.{Expr}
-use Rattle.meaning.specs.Image as image
-use Rattle.model.specs.Ranges as model
-use Rattle.records.specs.Expr.{expressionOf, kindMeans, exprMeans, Decoded}
-use Rattle.records.specs.declared.Expression.{Expression}
-use Rattle.records.specs.declared.ExprKind.{ExprKind}
-use Rattle.records.specs.declared.ExprKind.the-variants.{Signal, Constant, Unary, Binary, Mux, Concat, Slice}
+use Rattle.spec_rtl.specs.Rtl as R
+use Rattle.spec_rtl.specs.Rtl.{Expr}
+use Rattle.spec_rules.specs.Image as image
+use Rattle.spec_model.specs.Ranges as model
+use Rattle.image_records.specs.Expr.{expressionOf, kindMeans, exprMeans, Decoded}
+use Rattle.image_records.specs.declared.Expression.{Expression}
+use Rattle.image_records.specs.declared.ExprKind.{ExprKind}
+use Rattle.image_records.specs.declared.ExprKind.the-variants.{Signal, Constant, Unary, Binary, Mux, Concat, Slice}
 use Rattle.word_laws.specs.Widths.{Formed, BelowE, WidthOk}
-use Rattle.table_view.specs.Rows.{length-listOf, at-listOf}
+use Rattle.scratch_view.specs.Rows.{length-listOf, at-listOf}
 
 abbrev pub exprsOf : List ℕ → List Expr
 exprsOf s = (image.decode s) .exprs

@@ -6,9 +6,9 @@ use native.Mathlib.Numerals.{add-one}
 use native.Mathlib.Omega.{arith}
 use native.Mathlib.Nat.{not-suc-le-zero, le-of-suc-le-suc}
 use lib.ListN.{length, getD}
-use Rattle.rules.specs.Rules.{each, listOf}
+use Rattle.spec_tests.specs.Rules.{each, listOf}
 use Rattle.word_laws.specs.Widths.{AllBelow}
-pub use Rattle.table_view.specs.Rows.{length-listOf, at-listOf as getD-listOf}
+pub use Rattle.scratch_view.specs.Rows.{length-listOf, at-listOf as getD-listOf}
 
 pub below-at : (x : ℕ) (l : List ℕ) (i d : ℕ) → AllBelow x l → i < length l → getD l i d < x
 below-at x [] i d b h = absurd (not-suc-le-zero h)

@@ -10,29 +10,29 @@ use types.Run.{OneOf}
 use denote.Enum.Declared.{tagOf}
 use lib.ListN.{length, take, drop, replicate}
 use lib.Seq.{length-take-le}
-use Rattle.rules.specs.Rules.{Answer, Fine, Refused, andThen as both}
-use Rattle.meaning.specs.Image.{decode}
-use Rattle.meaning.specs.Checks.{checked, netlistNeed, scratchNeed}
-use Rattle.meaning.specs.Promise as Promise
-use Rattle.meaning.specs.Promise.{over, left}
-use Rattle.model.specs.Words.{Netlist, words}
-use Rattle.model.specs.Builder.{Out, refused, done, andThen}
-use Rattle.model.specs.Lowering.{State, lowerState, lowerWith, lower}
-use Rattle.call.specs.Call as Call
-use Rattle.call.specs.Call.{outcome, imageOf}
-use Rattle.call_laws.specs.Calls.{promise}
-use Rattle.checks.specs.Accepted.{Accepted, Room, accepted}
-use Rattle.checks.specs.Checked as checks
-use Rattle.checks.proofs.Checked.{the-type}
-use Rattle.checks.specs.declared.Checked.{Checked}
-use Rattle.checks.specs.declared.Checked.the-variants as C
-use Rattle.netlist_view.specs.View.{room, netlistOf}
-use Rattle.table_view.specs.View.{limitOf}
+use Rattle.spec_tests.specs.Rules.{Answer, Fine, Refused, andThen as both}
+use Rattle.spec_rules.specs.Image.{decode}
+use Rattle.spec_rules.specs.Checks.{checked, netlistNeed, scratchNeed}
+use Rattle.spec_rules.specs.Promise as Promise
+use Rattle.spec_rules.specs.Promise.{over, left}
+use Rattle.spec_model.specs.Words.{Netlist, words}
+use Rattle.spec_model.specs.Builder.{Out, refused, done, andThen}
+use Rattle.spec_model.specs.Lowering.{State, lowerState, lowerWith, lower}
+use Rattle.spec_call.specs.Call as Call
+use Rattle.spec_call.specs.Call.{outcome, imageOf}
+use Rattle.law_call.specs.Calls.{promise}
+use Rattle.check_image.specs.Accepted.{Accepted, Room, accepted}
+use Rattle.check_image.specs.Checked as checks
+use Rattle.check_image.proofs.Checked.{the-type}
+use Rattle.check_image.specs.declared.Checked.{Checked}
+use Rattle.check_image.specs.declared.Checked.the-variants as C
+use Rattle.net_view.specs.View.{room, netlistOf}
+use Rattle.scratch_view.specs.View.{limitOf}
 use Rattle.walk_view.specs.declared.Lowered.{Lowered}
 use Rattle.walk_view.specs.declared.Lowered.the-variants as L
 use Rattle.walk_view.specs.View.{walkState, outOf, Phase}
 use Rattle.walk_view.specs.Answers as answers
-use Rattle.outcome.specs.Answer.{endOf}
+use Rattle.lower_outcome.specs.Answer.{endOf}
 use Rattle.lower.specs.Lower.{keptOf, wordsAfter, Lent, Prepared, Ended}
 use Rattle.lower.proofs.Stages.{limit-kept}
 

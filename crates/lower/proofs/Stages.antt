@@ -8,21 +8,21 @@ use native.Mathlib.Nat.{zero-add, not-suc-le-zero}
 use native.Mathlib.Omega.{arith}
 use lib.ListN.{length, getD, getElem?}
 use lib.Seq.{getD-take}
-use Rattle.rtl.specs.Rtl.{Module}
-use Rattle.meaning.specs.Image.{decode}
-use Rattle.model.specs.Builder.{Out, andThen}
-use Rattle.model.specs.Lowering.{State, reserveSources, connectMemories, connectRegisters, connectOutputs, lowerState}
-use Rattle.netlist_laws.specs.Run.{Meets}
-use Rattle.netlist_view.specs.View.{room}
-use Rattle.walk_laws.specs.Good.{Good}
-use Rattle.walk_laws.specs.Kept.{Any}
-use Rattle.connect_laws.specs.Supply.{supply}
-use Rattle.connect_laws.specs.Made.{Connected}
-use Rattle.connect_laws.specs.Sources.{Reserved, started, sources-run, connected}
-use Rattle.connect_laws.specs.Memories.{memories-walk}
-use Rattle.connect_laws.specs.Registers.{AllBits, registers-walk}
-use Rattle.good_laws.specs.Good.{good}
-use Rattle.table_view.specs.View.{limitOf}
+use Rattle.spec_rtl.specs.Rtl.{Module}
+use Rattle.spec_rules.specs.Image.{decode}
+use Rattle.spec_model.specs.Builder.{Out, andThen}
+use Rattle.spec_model.specs.Lowering.{State, reserveSources, connectMemories, connectRegisters, connectOutputs, lowerState}
+use Rattle.law_nets.specs.Run.{Meets}
+use Rattle.net_view.specs.View.{room}
+use Rattle.law_walk.specs.Good.{Good}
+use Rattle.law_walk.specs.Kept.{Any}
+use Rattle.law_phases.specs.Supply.{supply}
+use Rattle.law_phases.specs.Made.{Connected}
+use Rattle.law_phases.specs.Sources.{Reserved, started, sources-run, connected}
+use Rattle.law_phases.specs.Memories.{memories-walk}
+use Rattle.law_phases.specs.Registers.{AllBits, registers-walk}
+use Rattle.law_module.specs.Good.{good}
+use Rattle.scratch_view.specs.View.{limitOf}
 use Rattle.walk_view.specs.declared.Lowered.{Lowered}
 use Rattle.walk_view.specs.declared.Lowered.the-variants.{Done}
 use Rattle.walk_view.specs.View.{walkState, Sure, Kept, Phase}

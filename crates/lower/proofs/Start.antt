@@ -7,20 +7,20 @@ use native.Mathlib.Omega.{arith}
 use lib.ListN.{length, getD, take, drop, length-take, length-drop, length-replicate, drop-of-length-le, List·getD-append}
 use lib.Seq.{ext-getD, getD-take, getD-drop, getD-append-add, length-take-le}
 use borrow.Rule.Slice.PartMut.{putMid, same-len-mid}
-use Rattle.rtl.specs.Rtl.{Expr}
-use Rattle.meaning.specs.Image.{countAt, decode}
-use Rattle.model.specs.Words.{Netlist}
-use Rattle.model.specs.Lowering.{start}
-use Rattle.checks.specs.Accepted.{Accepted}
+use Rattle.spec_rtl.specs.Rtl.{Expr}
+use Rattle.spec_rules.specs.Image.{countAt, decode}
+use Rattle.spec_model.specs.Words.{Netlist}
+use Rattle.spec_model.specs.Lowering.{start}
+use Rattle.check_image.specs.Accepted.{Accepted}
 use Rattle.expr_laws.specs.Exprs.{exprsOf}
-use Rattle.ranges.specs.Table.{filled, filled-width, filled-kept, length-filled}
-use Rattle.netlist_view.specs.View.{room, netlistOf}
-use Rattle.netlist_view.specs.Laws.{zeros, empty, Holds}
-use Rattle.netlist_index.specs.Index.{Held}
-use Rattle.builder_laws.specs.Start.{held-start}
-use Rattle.table_view.specs.View.{limitOf, exprColumn, exprAt, stateOf}
-use Rattle.table_view.specs.Frame.{Stays, Same, stays}
-use Rattle.layout.specs.Stages as layout
+use Rattle.expr_ranges.specs.Table.{filled, filled-width, filled-kept, length-filled}
+use Rattle.net_view.specs.View.{room, netlistOf}
+use Rattle.net_view.specs.Laws.{zeros, empty, Holds}
+use Rattle.net_index.specs.Index.{Held}
+use Rattle.net_start.specs.Start.{held-start}
+use Rattle.scratch_view.specs.View.{limitOf, exprColumn, exprAt, stateOf}
+use Rattle.scratch_view.specs.Frame.{Stays, Same, stays}
+use Rattle.scratch_layout.specs.Stages as layout
 use Rattle.walk_view.specs.View.{indexOf, walkState, Narrowed}
 use Rattle.lower.specs.Lower.{Prepared}
 

@@ -3,19 +3,19 @@ use mathlib.Core.Path.{_≡_}
 use mathlib.Core.List.{List}
 use Prim.Native.Nat.{ℕ, _+_, _*_, _≤_, _<_}
 use lib.ListN.{length, replicate}
-use Rattle.meaning.specs.Image.{decode}
-use Rattle.meaning.specs.Checks.{netlistNeed, scratchNeed}
-use Rattle.model.specs.Words.{Netlist, words}
-use Rattle.model.specs.Builder.{Out, refused, done}
-use Rattle.model.specs.Lowering.{start, lower}
-use Rattle.call.specs.Call.{outcome}
-use Rattle.checks.specs.Accepted.{Accepted}
-use Rattle.netlist_view.specs.View.{room}
-use Rattle.table_view.specs.View.{limitOf}
+use Rattle.spec_rules.specs.Image.{decode}
+use Rattle.spec_rules.specs.Checks.{netlistNeed, scratchNeed}
+use Rattle.spec_model.specs.Words.{Netlist, words}
+use Rattle.spec_model.specs.Builder.{Out, refused, done}
+use Rattle.spec_model.specs.Lowering.{start, lower}
+use Rattle.spec_call.specs.Call.{outcome}
+use Rattle.check_image.specs.Accepted.{Accepted}
+use Rattle.net_view.specs.View.{room}
+use Rattle.scratch_view.specs.View.{limitOf}
 use Rattle.walk_view.specs.View.{walkState, Ready}
 use Rattle.walk_view.specs.declared.Lowered.{Lowered}
 use Rattle.walk_view.specs.declared.Lowered.the-variants as L
-use Rattle.outcome.specs.Answer.{endOf}
+use Rattle.lower_outcome.specs.Answer.{endOf}
 
 -- ---- the walk ----
 

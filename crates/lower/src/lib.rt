@@ -2,18 +2,18 @@
 // Follows `lower` of struo-synth.
 ghost use mathlib.Core.Path.{_≡_};
 ghost use mathlib.Core.Bool.{false};
-ghost use Rattle.meaning.specs.Image.{decode};
-ghost use Rattle.meaning.specs.Checks as rule;
-ghost use Rattle.model.specs.Lowering as model;
-ghost use Rattle.call.specs.Call as call;
-ghost use Rattle.checks.specs.Accepted.{Accepted};
-ghost use Rattle.netlist_view.specs.View.{room};
-ghost use Rattle.table_view.specs.View.{limitOf};
+ghost use Rattle.spec_rules.specs.Image.{decode};
+ghost use Rattle.spec_rules.specs.Checks as rule;
+ghost use Rattle.spec_model.specs.Lowering as model;
+ghost use Rattle.spec_call.specs.Call as call;
+ghost use Rattle.check_image.specs.Accepted.{Accepted};
+ghost use Rattle.net_view.specs.View.{room};
+ghost use Rattle.scratch_view.specs.View.{limitOf};
 ghost use Rattle.walk_view.specs.View.{Phase};
-ghost use Rattle.outcome.specs.Answer.{answerOf};
+ghost use Rattle.lower_outcome.specs.Answer.{answerOf};
 ghost use Rattle.lower.specs.Lower.{keptOf, Lent, Begun, Prepared, Ended};
-use checks::Checked;
-use outcome::Outcome;
+use check_image::Checked;
+use lower_outcome::Outcome;
 use walk_view::Lowered;
 
 // The start: the scratch laid out, the widths of narrowed adders, an empty netlist.
@@ -21,10 +21,10 @@ fn prepare(image: &[u8], n: u32, net: &mut [u32], scr: &mut [u32])
     requires { ⌜ Lent (now image) n (now net) (now scr) ⌝ }
     ensures { λ _. ⌜ Prepared (now (image .entry)) n (room n (now (net .entry))) (now (net .exit)) (now (scr .exit)) ⌝ }
 {
-    layout::lay(image, n, false, scr);
+    scratch_layout::lay(image, n, false, scr);
     let at = scr[2] as usize;
-    ranges::adder_widths(image, &mut scr[at..]);
-    nodes::start(net, n);
+    expr_ranges::adder_widths(image, &mut scr[at..]);
+    net_nodes::start(net, n);
 }
 
 // The phases in their order, up to the first that refuses.
@@ -32,19 +32,19 @@ fn phases(image: &[u8], net: &mut [u32], scr: &mut [u32]) -> Lowered
     requires { ⌜ Begun (now image) (now net) (now scr) ⌝ }
     ensures { λ r. ⌜ Phase (model.lowerState false (decode (now (image .entry))) (limitOf (now (scr .entry))) (room (limitOf (now (scr .entry))) (now (net .entry)))) (now (image .entry)) (now (net .entry)) (now (scr .entry)) r (now (net .exit)) (now (scr .exit)) ⌝ }
 {
-    let a = sources::reserve_sources(image, net, scr);
+    let a = phase_sources::reserve_sources(image, net, scr);
     let Lowered::Done = a else {
         return a;
     };
-    let b = connect_memories::connect_memories(image, net, scr);
+    let b = phase_memories::connect_memories(image, net, scr);
     let Lowered::Done = b else {
         return b;
     };
-    let c = connect_registers::connect_registers(image, net, scr);
+    let c = phase_registers::connect_registers(image, net, scr);
     let Lowered::Done = c else {
         return c;
     };
-    connect_outputs::connect_outputs(image, net, scr)
+    phase_outputs::connect_outputs(image, net, scr)
 }
 
 // After a refusal the netlist words are 0.
@@ -52,7 +52,7 @@ fn clear_refused(r: Lowered, net: &mut [u32])
     ensures { λ _. ⌜ now (net .exit) ≡ keptOf r (now (net .entry)) ⌝ }
 {
     let Lowered::Done = r else {
-        nodes::clear(net);
+        net_nodes::clear(net);
         return;
     };
 }
@@ -65,7 +65,7 @@ fn lower_accepted(image: &[u8], n: u32, net: &mut [u32], scr: &mut [u32]) -> Low
     prepare(image, n, net, scr);
     let r = phases(image, net, scr);
     clear_refused(r, net);
-    nodes::clear(scr);
+    net_nodes::clear(scr);
     r
 }
 
@@ -74,8 +74,8 @@ fn scratch_need(image: &[u8], n: u32) -> usize
     requires { ⌜ Accepted (now image) ⌝ }
     ensures { λ r. ⌜ r ≡ rule.scratchNeed (now (image .entry)) n ⌝ }
 {
-    let bits = 4 * header::signal_bits(image) + header::expr_bits(image);
-    let need = bits + 8 * (fields::count(image, 1) as u64) + 4 * (n as u64) + 64;
+    let bits = 4 * check_header::signal_bits(image) + check_header::expr_bits(image);
+    let need = bits + 8 * (image_fields::count(image, 1) as u64) + 4 * (n as u64) + 64;
     need as usize
 }
 
@@ -84,12 +84,12 @@ fn scratch_need(image: &[u8], n: u32) -> usize
 pub fn lower(image: &[u8], n: u32, p: u32, netlist: &mut [u32], scratch: &mut [u32]) -> Outcome
     ensures { λ r. ⌜ call.Lowered (now (image .entry)) n p (now (netlist .entry)) (now (scratch .entry)) (answerOf r) (now (netlist .exit)) (now (scratch .exit)) ⌝ }
 {
-    let c = checks::check(image, n, p, netlist.len(), scratch.len());
+    let c = check_image::check(image, n, p, netlist.len(), scratch.len());
     let Checked::Fine = c else {
-        return outcome::of_check(c);
+        return lower_outcome::of_check(c);
     };
     let words = 16 + 6 * (n as usize) + (p as usize);
     let need = scratch_need(image, n);
     let r = lower_accepted(image, n, &mut netlist[..words], &mut scratch[..need]);
-    outcome::of_walk(r)
+    lower_outcome::of_walk(r)
 }

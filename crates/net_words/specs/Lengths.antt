@@ -4,9 +4,9 @@ use mathlib.Core.List.{List}
 use mathlib.Core.Path.{_≡_, refl}
 use native.Mathlib.Omega.{arith}
 use lib.ListN.{length, drop, getD}
-use Rattle.rules.specs.Rules.{_≡?_, pick}
-use Rattle.rules.specs.Laws.{eq-no, pick-skip}
-use Rattle.meaning.specs.NetlistImage.{portLength, recordLength}
+use Rattle.spec_tests.specs.Rules.{_≡?_, pick}
+use Rattle.spec_tests.specs.Laws.{eq-no, pick-skip}
+use Rattle.spec_rules.specs.NetlistImage.{portLength, recordLength}
 
 unfoldable pub secondLength : List ℕ → List ℕ → ℕ
 secondLength l p = pick (getD l 5 0 ≡? 2) (portLength (drop (portLength p) p)) 0

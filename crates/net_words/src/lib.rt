@@ -2,7 +2,7 @@
 ghost use mathlib.Core.Path.{_≡_};
 ghost use Prim.Native.Nat.{_≤_};
 ghost use lib.ListN.{take, drop, getD};
-ghost use Rattle.meaning.specs.NetlistImage as image;
+ghost use Rattle.spec_rules.specs.NetlistImage as image;
 ghost use Rattle.net_words.specs.Lengths.{secondLength, memoryLength};
 
 // Word i, 0 past the end.

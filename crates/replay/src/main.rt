@@ -3,7 +3,7 @@
 ghost use mathlib.Core.Path.{_≡_};
 ghost use Prim.Native.Nat.{_≤_};
 ghost use lib.ListN.{length};
-use fields::word;
+use image_fields::word;
 
 // What each lent word holds before a call.
 const BEFORE: u32 = 2779096485;
@@ -90,9 +90,9 @@ fn least(a: u64, b: u64) -> u64
 
 // The words of the scratch that an image that passes the checks needs: it has at most 4,096 bits of signals and 32,768 of expressions.
 fn scratch_need(image: &[u8], n: u32) -> usize {
-    let signals = least(header::signal_bits(image), 4096);
-    let exprs = least(header::expr_bits(image), 32768);
-    let count = fields::count(image, 1) as u64;
+    let signals = least(check_header::signal_bits(image), 4096);
+    let exprs = least(check_header::expr_bits(image), 32768);
+    let count = image_fields::count(image, 1) as u64;
     (4 * signals + exprs + 8 * count + 4 * (n as u64) + 64) as usize
 }
 
@@ -233,7 +233,7 @@ fn entry_agrees(image: &mut [u8], netlist: &mut [u32], scratch: &mut [u32]) -> A
     io::read_full(0, &mut image[..padded]);
     let mut numbers = [0u8; 44];
     io::read_full(0, &mut numbers);
-    calls_agree(fields::stretch(image, 0, bytes), &numbers, netlist, scratch)
+    calls_agree(image_fields::stretch(image, 0, bytes), &numbers, netlist, scratch)
 }
 
 fn one_if(yes: bool) -> u32

@@ -2,9 +2,9 @@
 use mathlib.Core.Path.{_≡_, ap, _∙_, subst}
 use mathlib.Core.List.{List}
 use Prim.Native.Nat.{ℕ}
-use Rattle.rules.specs.Rules.{Answer}
-use Rattle.call.specs.Call as Call
-use Rattle.call.specs.Call.{numbersOf}
+use Rattle.spec_tests.specs.Rules.{Answer}
+use Rattle.spec_call.specs.Call as Call
+use Rattle.spec_call.specs.Call.{numbersOf}
 use Rattle.struo.specs.Answers.{Answers}
 
 pub answers : (s : List ℕ) (N P : ℕ) (buffer scratch answer buffer′ scratch′ : List ℕ) (a : Answer) → Call.Lowered s N P buffer scratch a buffer′ scratch′

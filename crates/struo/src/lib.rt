@@ -1,7 +1,7 @@
 // The library's public calls.
 ghost use mathlib.Core.Path.{_≡_};
-ghost use Rattle.meaning.specs.Checks.{checked};
-ghost use Rattle.call.specs.Call.{numbersOf};
+ghost use Rattle.spec_rules.specs.Checks.{checked};
+ghost use Rattle.spec_call.specs.Call.{numbersOf};
 ghost use Rattle.struo.specs.Answers.{Answers};
 
 // Checks a module image: refusals 1 to 5, for net limit n, list limit p and the words that the netlist buffer and the scratch will have.
@@ -17,7 +17,7 @@ pub extern "C" fn struo_check(
 )
     ensures { λ _. ⌜ now (answer .exit) ≡ numbersOf (checked (now (image .entry)) n p netlist scratch) ⌝ }
 {
-    *answer = outcome::numbers(outcome::of_check(checks::check(image, n, p, netlist, scratch)));
+    *answer = lower_outcome::numbers(lower_outcome::of_check(check_image::check(image, n, p, netlist, scratch)));
 }
 
 // Lowers a module image into the netlist image that the model gives, for net limit n and list limit p. The answer is the refusal's
@@ -34,5 +34,5 @@ pub extern "C" fn struo_lower(
 )
     ensures { λ _. ⌜ Answers (now (image .entry)) n p (now (netlist .entry)) (now (scratch .entry)) (now (answer .exit)) (now (netlist .exit)) (now (scratch .exit)) ⌝ }
 {
-    *answer = outcome::numbers(lower::lower(image, n, p, netlist, scratch));
+    *answer = lower_outcome::numbers(lower::lower(image, n, p, netlist, scratch));
 }

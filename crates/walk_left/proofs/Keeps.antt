@@ -5,18 +5,18 @@ use mathlib.Core.List.{List, []}
 use Prim.Native.Nat.{ℕ, _<_}
 use native.Mathlib.Omega.{arith}
 use lib.ListN.{getD}
-use Rattle.meaning.specs.Image.{countAt, exprWidth}
-use Rattle.meaning.specs.Checks.{exprBits}
-use Rattle.model.specs.Lowering.{setSignalBit}
-use Rattle.netlist_view.specs.View.{netlistOf}
-use Rattle.table_view.specs.View.{limitOf, exprBit, bitAt, netWord, isWhole, stateOf, Laid, Writes}
-use Rattle.table_view.specs.Laws.{netWord-some, expr-ends}
-use Rattle.table_view.specs.Reads.{whole-net}
-use Rattle.tables.specs.Answers.{ExprNet}
+use Rattle.spec_rules.specs.Image.{countAt, exprWidth}
+use Rattle.spec_rules.specs.Checks.{exprBits}
+use Rattle.spec_model.specs.Lowering.{setSignalBit}
+use Rattle.net_view.specs.View.{netlistOf}
+use Rattle.scratch_view.specs.View.{limitOf, exprBit, bitAt, netWord, isWhole, stateOf, Laid, Writes}
+use Rattle.scratch_view.specs.Laws.{netWord-some, expr-ends}
+use Rattle.scratch_view.specs.Reads.{whole-net}
+use Rattle.scratch_tables.specs.Answers.{ExprNet}
 use Rattle.walk_view.specs.declared.Lowered.{Lowered}
 use Rattle.walk_view.specs.declared.Lowered.the-variants.{Done, Undriven, Loop, Reset, TooManyNets, ListFull}
-use Rattle.sure_laws.specs.Stores.{no-store}
-use Rattle.walk_steps.specs.Answers.{Refused}
+use Rattle.walk_sure.specs.Stores.{no-store}
+use Rattle.walk_invariant.specs.Answers.{Refused}
 use Rattle.walk_left.specs.Left.{driven, Keeps}
 
 pub keep-refused : (s w : List ℕ) (p b e o : ℕ) (x : Lowered) → Laid s w → Refused x → Keeps s w p b e o x x w

@@ -5,21 +5,21 @@ use mathlib.Core.List.{List, [], _∷_, _++_, append-assoc}
 use Prim.Native.Nat.{ℕ, _+_, _≤_, _<_}
 use native.Mathlib.Omega.{arith}
 use lib.ListN.{drop}
-use Rattle.model.specs.Words.{Netlist}
-use Rattle.model.specs.Lowering as M
-use Rattle.model.specs.Lowering.{State, signalBit}
-use Rattle.table_view.specs.View.{stateOf}
-use Rattle.tables.specs.declared.Known.{Known}
-use Rattle.tables.specs.declared.Known.the-variants.{Net}
-use Rattle.tables.specs.Answers.{knownOf}
+use Rattle.spec_model.specs.Words.{Netlist}
+use Rattle.spec_model.specs.Lowering as M
+use Rattle.spec_model.specs.Lowering.{State, signalBit}
+use Rattle.scratch_view.specs.View.{stateOf}
+use Rattle.scratch_tables.specs.declared.Known.{Known}
+use Rattle.scratch_tables.specs.declared.Known.the-variants.{Net}
+use Rattle.scratch_tables.specs.Answers.{knownOf}
 use Rattle.walk_view.specs.Met.{met, isSome}
-use Rattle.plan.specs.declared.Need.{Need}
-use Rattle.plan.specs.declared.Need.the-variants.{Bit, Whole, Range, Nothing}
-use Rattle.plan.specs.declared.Turn.{Turn}
-use Rattle.plan.specs.declared.Turn.the-variants as T
-use Rattle.plan.specs.Plan.{needsOf, bitsNeeds, TurnOf}
-use Rattle.plan.specs.Kinds.{none-left}
-use Rattle.plan.specs.Lists.{signal-length, signal-next}
+use Rattle.walk_plan.specs.declared.Need.{Need}
+use Rattle.walk_plan.specs.declared.Need.the-variants.{Bit, Whole, Range, Nothing}
+use Rattle.walk_plan.specs.declared.Turn.{Turn}
+use Rattle.walk_plan.specs.declared.Turn.the-variants as T
+use Rattle.walk_plan.specs.Plan.{needsOf, bitsNeeds, TurnOf}
+use Rattle.walk_plan.specs.Kinds.{none-left}
+use Rattle.walk_plan.specs.Lists.{signal-length, signal-next}
 use Rattle.walk_left.specs.declared.Left.{Left}
 use Rattle.walk_left.specs.declared.Left.the-variants as F
 use Rattle.walk_left.specs.Needs.{NeedsMet}

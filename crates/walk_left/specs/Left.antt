@@ -4,15 +4,15 @@ use mathlib.Core.Bool.{Bool, false}
 use mathlib.Core.List.{List, [], _++_}
 use Prim.Native.Nat.{ℕ, _*_, _≤_, _<_}
 use lib.ListN.{drop}
-use Rattle.model.specs.Words.{Netlist}
-use Rattle.model.specs.Lowering as M
-use Rattle.model.specs.Lowering.{State, setSignalBit, wholeNet}
-use Rattle.table_view.specs.View.{stateOf, Writes}
+use Rattle.spec_model.specs.Words.{Netlist}
+use Rattle.spec_model.specs.Lowering as M
+use Rattle.spec_model.specs.Lowering.{State, setSignalBit, wholeNet}
+use Rattle.scratch_view.specs.View.{stateOf, Writes}
 use Rattle.walk_view.specs.declared.Lowered.{Lowered}
 use Rattle.walk_view.specs.declared.Lowered.the-variants.{Done, Undriven, Loop, Reset, TooManyNets, ListFull}
-use Rattle.plan.specs.declared.Turn.{Turn}
-use Rattle.plan.specs.declared.Turn.the-variants as T
-use Rattle.plan.specs.Plan.{needsOf, BitsThere, TurnOf, wholeNeeds}
+use Rattle.walk_plan.specs.declared.Turn.{Turn}
+use Rattle.walk_plan.specs.declared.Turn.the-variants as T
+use Rattle.walk_plan.specs.Plan.{needsOf, BitsThere, TurnOf, wholeNeeds}
 use Rattle.walk_left.specs.declared.Left.{Left}
 use Rattle.walk_left.specs.declared.Left.the-variants as F
 use Rattle.walk_left.specs.Needs.{NeedsMet}

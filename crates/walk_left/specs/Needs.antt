@@ -2,9 +2,9 @@
 use mathlib.Core.Path.{_≡_}
 use mathlib.Core.Bool.{true}
 use mathlib.Core.List.{List, [], _∷_}
-use Rattle.model.specs.Builder.{Out, done, andThen}
-use Rattle.model.specs.Lowering as M
-use Rattle.model.specs.Lowering.{State}
+use Rattle.spec_model.specs.Builder.{Out, done, andThen}
+use Rattle.spec_model.specs.Lowering as M
+use Rattle.spec_model.specs.Lowering.{State}
 use Rattle.walk_view.specs.Met.{met}
 
 unfoldable pub lowerNeeds : (M.Need → State → Out State) → List M.Need → State → Out State

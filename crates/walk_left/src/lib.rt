@@ -3,17 +3,17 @@
 ghost use mathlib.Core.Path.{_≡_};
 ghost use mathlib.Core.Bool.{true};
 ghost use Prim.Native.Nat.{_+_, _*_, _≤_, _<_};
-ghost use Rattle.meaning.specs.Image.{countAt, signalWidth, exprWidth};
-ghost use Rattle.model.specs.Words.{Netlist};
-ghost use Rattle.model.specs.Lowering as model;
-ghost use Rattle.checks.specs.Accepted.{Accepted};
-ghost use Rattle.table_view.specs.View.{limitOf, isWhole, stateOf, Laid};
+ghost use Rattle.spec_rules.specs.Image.{countAt, signalWidth, exprWidth};
+ghost use Rattle.spec_model.specs.Words.{Netlist};
+ghost use Rattle.spec_model.specs.Lowering as model;
+ghost use Rattle.check_image.specs.Accepted.{Accepted};
+ghost use Rattle.scratch_view.specs.View.{limitOf, isWhole, stateOf, Laid};
 ghost use Rattle.walk_view.specs.declared.Lowered.the-variants as L;
-ghost use Rattle.plan.specs.Plan.{bitsNeeds, BitsThere, rangeRest};
+ghost use Rattle.walk_plan.specs.Plan.{bitsNeeds, BitsThere, rangeRest};
 ghost use Rattle.walk_left.specs.Left.{LeftOf, LeftIn, wholeRest, TurnThere, LeavesTurn, FirstTurn, Keeps};
-use plan::Need;
-use plan::Turn;
-use tables::Known;
+use walk_plan::Need;
+use walk_plan::Turn;
+use scratch_tables::Known;
 use walk_view::Lowered;
 
 // What is left to lower before an expression: a need, the turn after it, and where the part of a Concat that this turn takes begins; or
@@ -35,7 +35,7 @@ fn next_bit(image: &[u8], scr: &[u32], p: u32, first: u32, n: u32, from: u32) ->
 {
     let mut k = from;
     while k < n {
-        let Known::Net(_) = tables::signal_net(image, scr, p, first + k) else {
+        let Known::Net(_) = scratch_tables::signal_net(image, scr, p, first + k) else {
             return Left::Lower(Need::Bit(p, first + k), k + 1, 0);
         };
         k += 1;
@@ -64,7 +64,7 @@ pub fn whole_left(image: &[u8], scr: &[u32], e: u32, k: u32) -> Left
     if k == END {
         return Left::Build;
     }
-    left_by(image, scr, plan::whole_turn(image, e, k), k)
+    left_by(image, scr, walk_plan::whole_turn(image, e, k), k)
 }
 
 // What is left before a range of it.
@@ -75,7 +75,7 @@ pub fn range_left(image: &[u8], scr: &[u32], e: u32, lsb: u32, w: u32, k: u32, a
     if k == END {
         return Left::Build;
     }
-    left_by(image, scr, plan::range_turn(image, e, lsb, w, k, at), k)
+    left_by(image, scr, walk_plan::range_turn(image, e, lsb, w, k, at), k)
 }
 
 // ---- what is there ----
@@ -86,7 +86,7 @@ pub fn whole_known(image: &[u8], scr: &[u32], e: u32, k: u32) -> bool
     ensures { λ r. ⌜ FirstTurn k r (isWhole (now (image .entry)) (limitOf (now (scr .entry))) (now (scr .entry)) e) ⌝ }
 {
     if k == 0 {
-        return tables::is_whole(image, scr, e);
+        return scratch_tables::is_whole(image, scr, e);
     }
     false
 }
@@ -97,7 +97,7 @@ pub fn range_known(image: &[u8], scr: &[u32], e: u32, lsb: u32, w: u32, k: u32) 
     ensures { λ r. ⌜ ((l : Netlist) → FirstTurn k r (model.rangeKnown (stateOf (now (image .entry)) l (now (scr .entry))) e lsb w)) ⌝ }
 {
     if k == 0 {
-        return tables::range_known(image, scr, e, lsb, w);
+        return scratch_tables::range_known(image, scr, e, lsb, w);
     }
     false
 }
@@ -120,7 +120,7 @@ pub fn keep_driven(
     let Lowered::Done = x else {
         return x;
     };
-    let n = tables::expr_net(image, scr, e, o);
-    tables::keep_signal(image, scr, p, b, n);
+    let n = scratch_tables::expr_net(image, scr, e, o);
+    scratch_tables::keep_signal(image, scr, p, b, n);
     Lowered::Done
 }

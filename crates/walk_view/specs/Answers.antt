@@ -1,7 +1,7 @@
 -- Answers of the walk that are no `Done`, and what they make of the model's outcome. Assumes nothing.
 use mathlib.Core.Path.{_≡_, refl, subst}
-use Rattle.model.specs.Builder.{Out, andThen}
-use Rattle.model.specs.Lowering.{State}
+use Rattle.spec_model.specs.Builder.{Out, andThen}
+use Rattle.spec_model.specs.Lowering.{State}
 use Rattle.walk_view.specs.declared.Lowered.{Lowered}
 use Rattle.walk_view.specs.declared.Lowered.the-variants.{Done, Undriven, Loop, Reset, TooManyNets, ListFull}
 use Rattle.walk_view.specs.View.{outOf}

@@ -3,14 +3,14 @@ use mathlib.Core.Path.{_≡_, refl, sym, ap, _∙_}
 use mathlib.Core.List.{List}
 use Prim.Native.Nat.{ℕ, zero, suc, _+_, _≤_, _<_}
 use native.Mathlib.Omega.{arith}
-use Rattle.rules.specs.Rules.{each}
-use Rattle.rtl.specs.Rtl.{Expr}
-use Rattle.meaning.specs.Image.{countAt, field, exprWidth}
-use Rattle.model.specs.Ranges as model
-use Rattle.fields.specs.Fields.{fieldIn}
-use Rattle.records.specs.Expr.{exprMeans, expressionIn, expressionOf, expr-means}
-use Rattle.checks.specs.Accepted.{Accepted}
-use Rattle.accepted.specs.Fits.{kindFits, expr-fits}
+use Rattle.spec_tests.specs.Rules.{each}
+use Rattle.spec_rtl.specs.Rtl.{Expr}
+use Rattle.spec_rules.specs.Image.{countAt, field, exprWidth}
+use Rattle.spec_model.specs.Ranges as model
+use Rattle.image_fields.specs.Fields.{fieldIn}
+use Rattle.image_records.specs.Expr.{exprMeans, expressionIn, expressionOf, expr-means}
+use Rattle.check_image.specs.Accepted.{Accepted}
+use Rattle.law_accepted.specs.Fits.{kindFits, expr-fits}
 use Rattle.word_laws.specs.Widths.{AllBelow}
 use Rattle.expr_laws.specs.Exprs.{exprsOf, expr-at}
 

@@ -8,8 +8,8 @@ use Prim.Native.Nat.{ℕ, zero, suc, _+_, _≤_, _<_}
 use native.Mathlib.Omega.{arith}
 use lib.ListN.{length, getD, set, take, drop, length-map}
 use lib.Seq.{getD-set-same, length-take-le, take-at, drop-at}
-use Rattle.model.specs.Words.{Netlist}
-use Rattle.model.specs.Lowering.{State, Need, Bit, Whole, Range, Step, Always, Unless, cell, put, withNetlist, mark, setSignalBit, setWhole, setRange, signalBit, whole, allSome, knownBy, rangesBy, rangeKnown}
+use Rattle.spec_model.specs.Words.{Netlist}
+use Rattle.spec_model.specs.Lowering.{State, Need, Bit, Whole, Range, Step, Always, Unless, cell, put, withNetlist, mark, setSignalBit, setWhole, setRange, signalBit, whole, allSome, knownBy, rangesBy, rangeKnown}
 
 abbrev pub isSome : {A : Type 0} → Option A → Bool
 isSome none = false

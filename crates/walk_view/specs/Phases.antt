@@ -2,8 +2,8 @@
 use mathlib.Core.Path.{_≡_, refl, ap, _∙_}
 use mathlib.Core.List.{List}
 use Prim.Native.Nat.{ℕ}
-use Rattle.model.specs.Builder.{Out, done, andThen}
-use Rattle.model.specs.Lowering.{State}
+use Rattle.spec_model.specs.Builder.{Out, done, andThen}
+use Rattle.spec_model.specs.Lowering.{State}
 use Rattle.walk_view.specs.declared.Lowered.{Lowered}
 use Rattle.walk_view.specs.declared.Lowered.the-variants.{Done}
 use Rattle.walk_view.specs.View.{walkState, Ready, outOf, Phase}

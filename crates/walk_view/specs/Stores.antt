@@ -5,10 +5,10 @@ use Prim.Native.Nat.{ℕ, zero, suc, _+_, _*_}
 use native.Mathlib.Omega.{arith}
 use lib.ListN.{length, take, drop}
 use lib.Seq.{take-take}
-use Rattle.model.specs.Lowering.{State}
-use Rattle.netlist_view.specs.View.{netlistOf}
-use Rattle.netlist_index.specs.Index.{Held}
-use Rattle.table_view.specs.View.{limitOf, stateOf, Laid, Writes}
+use Rattle.spec_model.specs.Lowering.{State}
+use Rattle.net_view.specs.View.{netlistOf}
+use Rattle.net_index.specs.Index.{Held}
+use Rattle.scratch_view.specs.View.{limitOf, stateOf, Laid, Writes}
 use Rattle.walk_view.specs.Met.{met, Grows}
 use Rattle.walk_view.specs.View.{indexOf, walkState, Ready, Kept}
 

@@ -5,17 +5,17 @@ use mathlib.Core.Bool.{true, false}
 use mathlib.Core.List.{List}
 use Prim.Native.Nat.{ℕ, _+_, _*_, _≤_, _<_}
 use lib.ListN.{length, getD, take, drop}
-use Rattle.meaning.specs.Image.{countAt, signalWidth, exprWidth, decode}
-use Rattle.model.specs.Builder.{Out, refused, done}
-use Rattle.model.specs.Ranges.{adderWidth}
-use Rattle.model.specs.Lowering.{State, Need, Bit, Whole, Range, lowerNeed}
-use Rattle.checks.specs.Accepted.{Accepted}
+use Rattle.spec_rules.specs.Image.{countAt, signalWidth, exprWidth, decode}
+use Rattle.spec_model.specs.Builder.{Out, refused, done}
+use Rattle.spec_model.specs.Ranges.{adderWidth}
+use Rattle.spec_model.specs.Lowering.{State, Need, Bit, Whole, Range, lowerNeed}
+use Rattle.check_image.specs.Accepted.{Accepted}
 use Rattle.expr_laws.specs.Exprs.{exprsOf}
-use Rattle.range_rows.specs.Rows.{narrowWord}
-use Rattle.netlist_view.specs.View.{netlistOf}
-use Rattle.netlist_index.specs.Index.{Held}
-use Rattle.table_view.specs.View.{limitOf, exprAt, stateOf, free, Laid}
-use Rattle.walk_laws.specs.Kept.{Inv}
+use Rattle.expr_range_rows.specs.Rows.{narrowWord}
+use Rattle.net_view.specs.View.{netlistOf}
+use Rattle.net_index.specs.Index.{Held}
+use Rattle.scratch_view.specs.View.{limitOf, exprAt, stateOf, free, Laid}
+use Rattle.law_walk.specs.Kept.{Inv}
 use Rattle.walk_view.specs.Met.{met, Grows}
 use Rattle.walk_view.specs.declared.Lowered.{Lowered}
 use Rattle.walk_view.specs.declared.Lowered.the-variants.{Done, Undriven, Loop, Reset, TooManyNets, ListFull}

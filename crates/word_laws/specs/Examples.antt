@@ -4,8 +4,8 @@ use mathlib.Core.Bool.{true, false}
 use mathlib.Core.List.{[], _∷_}
 use Prim.Native.Nat.{_+_, _*_, _^_}
 use lib.IntN.{pos, negsuc}
-use Rattle.rtl.specs.Word.{value, bits}
-use Rattle.rtl.specs.Ops.{top, signed, notW, andW, orW, xorW, addW, addC, subW, mulW, eqW, ltU, leU, ltS, leS, shl, shr, anyR, allR, parR, joinW, sliceW}
+use Rattle.spec_rtl.specs.Word.{value, bits}
+use Rattle.spec_rtl.specs.Ops.{top, signed, notW, andW, orW, xorW, addW, addC, subW, mulW, eqW, ltU, leU, ltS, leS, shl, shr, anyR, allR, parR, joinW, sliceW}
 
 -- 8'd255 + 8'd1, 8'd200 + 8'd100 + 1, 8'd3 - 8'd5, 8'd16 * 8'd17
 sum-wraps : value (addW (bits 8 255) (bits 8 1)) ≡ 0

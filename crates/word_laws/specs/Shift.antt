@@ -9,8 +9,8 @@ use native.Mathlib.Omega.{arith}
 use lib.Dec.{T, ltb, lt→ltb}
 use lib.Arith.{le→nltb}
 use lib.ListN.{length, getD, List·getD-eq-default}
-use Rattle.rtl.specs.Word.{value}
-use Rattle.rtl.specs.Ops.{tab, top, shl, shr, map2}
+use Rattle.spec_rtl.specs.Word.{value}
+use Rattle.spec_rtl.specs.Ops.{tab, top, shl, shr, map2}
 
 pub length-tab : (w : ℕ) (f : ℕ → Bool) → length (tab w f) ≡ w
 length-tab zero f = refl

@@ -11,8 +11,8 @@ use lib.Arith.{le→nltb, lt→nleb}
 use lib.ListN.{length, getD, length-map, List·getD-map}
 use lib.IntN.{ℤ, pos, negsuc, negℤ, subℕ, _+ℤ_, +ℤ-idr, +ℤ-negℤ-cancel, -ℤ-+ℤ-cancel}
 use lib.Signed.{ltZ, leZ, shrZ, _≤ℤ_, _<ℤ_}
-use Rattle.rtl.specs.Word.{value, bit-lt}
-use Rattle.rtl.specs.Ops.{tab, top, signed, xorB, notW, ltU, ltS, leS, shr}
+use Rattle.spec_rtl.specs.Word.{value, bit-lt}
+use Rattle.spec_rtl.specs.Ops.{tab, top, signed, xorB, notW, ltU, ltS, leS, shr}
 use Rattle.word_laws.specs.Add.{value-not}
 use Rattle.word_laws.specs.Shift.{T-true, T-false, tab-ext, top-shr}
 use Rattle.word_laws.specs.Tree.{test-iff}

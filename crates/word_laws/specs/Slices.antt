@@ -7,7 +7,7 @@ use native.Mathlib.Nat.{zero-add, suc-add}
 use native.Mathlib.Omega.{arith}
 use lib.ListN.{length, take, drop}
 use lib.Seq.{take-nil, drop-nil, take-take}
-use Rattle.rtl.specs.Ops.{tab, map2, sliceW}
+use Rattle.spec_rtl.specs.Ops.{tab, map2, sliceW}
 use Rattle.word_laws.specs.Shift.{tab-ext}
 
 pub map-slice : (f : Bool → Bool) (lsb w : ℕ) (a : List Bool) → sliceW lsb w (map f a) ≡ map f (sliceW lsb w a)

@@ -7,8 +7,8 @@ use native.Mathlib.Nat.{not-suc-le-zero, le-of-suc-le-suc}
 use native.Mathlib.Omega.{arith}
 use lib.Dec.{T, eqb, eqb→eq, eqb-refl}
 use lib.ListN.{length}
-use Rattle.rtl.specs.Word.{bit, value}
-use Rattle.rtl.specs.Ops.{xorB, map2, eqW, anyR, allR, parR}
+use Rattle.spec_rtl.specs.Word.{bit, value}
+use Rattle.spec_rtl.specs.Ops.{xorB, map2, eqW, anyR, allR, parR}
 
 -- one level: neighbours joined, an odd one kept
 module _ {A : Type 0} (f : A → A → A) where

@@ -10,8 +10,8 @@ use lib.Dec.{T, eqb, ltb, eqb→eq, eqb-refl}
 use lib.ListN.{length, take, drop, getD, replicate, length-append, length-take, length-drop, length-replicate, getD-replicate, List·getD-append}
 use lib.Seq.{getD-drop, getD-append-add}
 use lib.Pow.{pow-pos}
-use Rattle.rtl.specs.Word.{bit, value, odd, value-lt, value-bits, value-inj, value-append, value-zeros, value-take, value-drop}
-use Rattle.rtl.specs.Ops.{map2, tab, addW, addC, subW, mulW, eqW, shl, shr, anyR, allR, parR, joinW, sliceW}
+use Rattle.spec_rtl.specs.Word.{bit, value, odd, value-lt, value-bits, value-inj, value-append, value-zeros, value-take, value-drop}
+use Rattle.spec_rtl.specs.Ops.{map2, tab, addW, addC, subW, mulW, eqW, shl, shr, anyR, allR, parR, joinW, sliceW}
 use Rattle.word_laws.specs.Shift.{tab-ext, cond-lt, cond-ge}
 use Rattle.word_laws.specs.Tree.{eqb-iff, eqb-no}
 

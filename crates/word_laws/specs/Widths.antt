@@ -6,12 +6,12 @@ use Prim.Native.Nat.{ℕ, zero, suc, _+_, _≤_, _<_}
 use native.Mathlib.Nat.{not-suc-le-zero}
 use native.Mathlib.Omega.{arith}
 use lib.ListN.{length, getD, length-map, length-append}
-use Rattle.rtl.specs.Word.{length-bits}
-use Rattle.rtl.specs.Ops.{joinW}
-use Rattle.rtl.specs.Table.{entry-is}
-use Rattle.rtl.specs.Rtl as R
-use Rattle.rtl.specs.Rtl.{Expr, Kind, Valuation, word, word1, rule, unary, binary}
-use Rattle.model.specs.Ranges.{exprAt, widthAt}
+use Rattle.spec_rtl.specs.Word.{length-bits}
+use Rattle.spec_rtl.specs.Ops.{joinW}
+use Rattle.spec_rtl.specs.Table.{entry-is}
+use Rattle.spec_rtl.specs.Rtl as R
+use Rattle.spec_rtl.specs.Rtl.{Expr, Kind, Valuation, word, word1, rule, unary, binary}
+use Rattle.spec_model.specs.Ranges.{exprAt, widthAt}
 use Rattle.word_laws.specs.Shift.{length-tab}
 use Rattle.word_laws.specs.Values.{length-map2, slice-wide}
 

@@ -3,8 +3,8 @@ use borrow.Author.Needs.{needs}
 use Rattle.lower.proofs.prepare.Statement.{statement}
 use Rattle.lower.proofs.prepare.Tie as tie
 use mathlib.Core.Path.{refl}
-use Rattle.accepted.specs.Sized.{sized}
-use Rattle.accepted.specs.Formed.{readable}
+use Rattle.law_accepted.specs.Sized.{sized}
+use Rattle.law_accepted.specs.Formed.{readable}
 use Rattle.lower.proofs.Start.{rows-fit, prepared}
 
 lay-requires : tie.Need-lay-requires

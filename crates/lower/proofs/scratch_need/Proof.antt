@@ -3,7 +3,7 @@ use borrow.Author.Needs.{needs}
 use Rattle.lower.proofs.scratch_need.Statement.{statement}
 use Rattle.lower.proofs.scratch_need.Tie as tie
 use native.Mathlib.Omega.{arith}
-use Rattle.meaning.specs.Checks.{scratchNeed}
+use Rattle.spec_rules.specs.Checks.{scratchNeed}
 
 signal-bits-requires : tie.Need-signal-bits-requires
 signal-bits-requires c κs = search needs

@@ -6,7 +6,7 @@ use Prim.Native.Nat.{ℕ, _+_, _*_}
 use mathlib.Core.Path.{ap, _∙_}
 use lib.ListN.{getD}
 use denote.Ref.{now}
-use Rattle.meaning.specs.NetlistImage.{nodeWord}
+use Rattle.spec_rules.specs.NetlistImage.{nodeWord}
 
 word-at-requires : tie.Need-word-at-requires
 word-at-requires c κs = search needs

@@ -3,7 +3,7 @@ use borrow.Author.Needs.{needs}
 use Rattle.net_words.proofs.port_length.Statement.{statement}
 use Rattle.net_words.proofs.port_length.Tie as tie
 use native.Mathlib.Omega.{arith}
-use Rattle.meaning.specs.NetlistImage.{portLength, portLists}
+use Rattle.spec_rules.specs.NetlistImage.{portLength, portLists}
 
 word-at-requires : tie.Need-word-at-requires
 word-at-requires c κs = search needs

@@ -5,7 +5,7 @@ use Rattle.net_words.proofs.record_length.Tie as tie
 use mathlib.Core.Path.{sym, ap, _∙_}
 use native.Mathlib.Omega.{arith}
 use denote.Ref.{now}
-use Rattle.rules.specs.Rules.{pick, _≡?_}
+use Rattle.spec_tests.specs.Rules.{pick, _≡?_}
 use Rattle.net_words.specs.Lengths.{lengthBy, record-length, length-other}
 
 word-at-requires : tie.Need-word-at-requires

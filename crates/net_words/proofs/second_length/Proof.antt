@@ -7,8 +7,8 @@ use mathlib.Core.Path.{refl, sym, ap, _∙_}
 use native.Mathlib.Omega.{arith}
 use lib.ListN.{drop}
 use denote.Ref.{now}
-use Rattle.rules.specs.Laws.{eq-yes, eq-no, pick-hit, pick-skip}
-use Rattle.meaning.specs.NetlistImage.{portLength}
+use Rattle.spec_tests.specs.Laws.{eq-yes, eq-no, pick-hit, pick-skip}
+use Rattle.spec_rules.specs.NetlistImage.{portLength}
 use Rattle.net_words.specs.Lengths.{secondLength}
 
 word-at-requires : tie.Need-word-at-requires

@@ -3,7 +3,7 @@ use borrow.Author.Needs.{needs}
 use Rattle.struo.proofs.struo_check.Statement.{statement}
 use Rattle.struo.proofs.struo_check.Tie as tie
 use mathlib.Core.Path.{ap, _∙_}
-use Rattle.call.specs.Call.{numbersOf}
+use Rattle.spec_call.specs.Call.{numbersOf}
 
 check-requires : tie.Need-check-requires
 check-requires c κs = search needs

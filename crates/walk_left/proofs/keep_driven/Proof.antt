@@ -2,7 +2,7 @@
 use borrow.Author.Needs.{needs}
 use Rattle.walk_left.proofs.keep_driven.Statement.{statement}
 use Rattle.walk_left.proofs.keep_driven.Tie as tie
-use Rattle.walk_steps.specs.Answers.{not-done-tag}
+use Rattle.walk_invariant.specs.Answers.{not-done-tag}
 use Rattle.walk_left.proofs.Keeps.{keep-refused, net-small, keep-done}
 
 enum-told : tie.Need-enum-told

@@ -5,7 +5,7 @@ use Prim.Native.Nat.{_-_, _≤_}
 use lib.ListN.{drop}
 use native.Mathlib.Omega.{arith}
 use borrow.Author.Needs.{needs}
-use Rattle.plan.specs.Plan.{bitsNeeds}
+use Rattle.walk_plan.specs.Plan.{bitsNeeds}
 use Rattle.walk_left.specs.Left.{Skips}
 use Rattle.walk_left.proofs.Lefts.{bits-begin, bits-on, bits-found, bits-over, bit-met}
 

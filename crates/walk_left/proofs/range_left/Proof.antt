@@ -3,8 +3,8 @@ use borrow.Author.Needs.{needs}
 use Rattle.walk_left.proofs.range_left.Statement.{statement}
 use Rattle.walk_left.proofs.range_left.Tie as tie
 use native.Mathlib.Omega.{arith}
-use Rattle.plan.specs.Plan.{rangeRest}
-use Rattle.plan.specs.Fits.{range-short}
+use Rattle.walk_plan.specs.Plan.{rangeRest}
+use Rattle.walk_plan.specs.Fits.{range-short}
 use Rattle.walk_left.proofs.Lefts.{left-ends, turn-there}
 
 returns : tie.Need-returns

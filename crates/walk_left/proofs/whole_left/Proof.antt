@@ -3,7 +3,7 @@ use borrow.Author.Needs.{needs}
 use Rattle.walk_left.proofs.whole_left.Statement.{statement}
 use Rattle.walk_left.proofs.whole_left.Tie as tie
 use native.Mathlib.Omega.{arith}
-use Rattle.plan.specs.Fits.{whole-short}
+use Rattle.walk_plan.specs.Fits.{whole-short}
 use Rattle.walk_left.specs.Left.{wholeRest}
 use Rattle.walk_left.proofs.Lefts.{left-ends, turn-there}
 

@@ -1,0 +1,398 @@
+-- The rows of document 01's bench, each computed by the checker from the image's bytes. K3, K4 and K10 stand as document 01 writes
+-- them, where constant operands fold (docs/DIFFERENCES.md, 1), with the number that their sum is; and primed, with operands that
+-- have those values but no constant nets. Assumes nothing.
+use Prim.Native.Nat.{ℕ, _+_, _*_}
+use mathlib.Core.List.{List, [], _∷_}
+use mathlib.Core.Path.{_≡_, refl}
+use Rattle.spec_tests.specs.Rules as Rules
+use Rattle.spec_rules.specs.Image as Image
+use Rattle.spec_rules.specs.Checks as Checks
+use Rattle.spec_rules.specs.NetlistImage as NetlistImage
+use Rattle.spec_model.specs.Words as Words
+use Rattle.spec_model.specs.Builder as Builder
+use Rattle.spec_model.specs.WordCells as WordCells
+use Rattle.spec_model.specs.Ranges as Ranges
+use Rattle.spec_model.specs.Lowering as Lowering
+use Rattle.spec_call.specs.Call as Call
+use Rattle.bench_cases.specs.Images as Images
+use Rattle.bench.specs.Row as Row
+use Rattle.bench.specs.Row.{Numbers, Nets, AdderWidths, Carries, Outputs, ResetValue, Holds}
+use Rattle.bench.specs.Carried as Carried
+use Rattle.bench.specs.Carried.{seen, said, carried}
+
+-- to open this is to open every definition that a row computes
+computing : ℕ
+unfolding Rules._<?_ Rules._≡?_ Rules._≢?_ Rules._or_ Rules._and_ Rules.pick Rules.outside Rules.upTo Rules.first Rules.any Rules.sumTo Rules.each Rules.listOf Rules.only Rules.sameText Rules.andThen Image.wordAt Image.sizeOf Image.mostOf Image.countAt Image.offsetAt Image.bytesOf Image.startOf Image.part Image.field Image.listWord Image.nameOf Image.signalWidth Image.exprWidth Image.direction Image.unaryOf Image.binaryOf Image.constantWords Image.constantOf Image.kindOf Image.controlOf Image.optional Image.signalAt Image.exprAt Image.assignAt Image.registerOf Image.registerAt Image.portOf Image.memoryAt Image.decode Checks.wrongCount Checks.wrongField Checks.firstField Checks.header Checks.badName Checks.nameTaken Checks.noSignal Checks.noExpr Checks.badBit Checks.badControl Checks.notZero Checks.badOptional Checks.isInput Checks.assigned Checks.targeted Checks.readInto Checks.driven Checks.badSignal Checks.badUnary Checks.badBinary Checks.late Checks.badConcat Checks.badKind Checks.badExpr Checks.badAssign Checks.badValue Checks.badReset Checks.badRegister Checks.badAddress Checks.badPort Checks.badSecond Checks.badMemory Checks.section Checks.records Checks.netlistNeed Checks.signalBits Checks.exprBits Checks.scratchNeed Checks.refuse Checks.checked NetlistImage.nodeWord NetlistImage.nodeOf NetlistImage.nodeAt NetlistImage.portLists NetlistImage.portLength NetlistImage.recordLength NetlistImage.split NetlistImage.recordsOf NetlistImage.recordsWith NetlistImage.registerBitOf NetlistImage.memoryPortOf NetlistImage.memoryOf NetlistImage.arithmeticOf NetlistImage.comparisonOf NetlistImage.outPortOf NetlistImage.notOutput NetlistImage.isOutputPort NetlistImage.netlist Words.used Words.count Words.words Builder.addNode Builder.push Builder.nodeForNet Builder.constantValue Builder.same Builder.find Builder.addCached Builder.addConstant Builder.addNot Builder.addAnd Builder.addOr Builder.addXor Builder.addMux Builder.each Builder.both Builder.from Builder.addNodes Builder.addRecorded Builder.addInputPort Builder.addOutputPort Builder.constantValues Builder.foldConstantArithmetic Builder.addArithmetic Builder.addComparison WordCells.begins WordCells.findCell WordCells.arithmetic WordCells.comparison Ranges.binaryRange Ranges.rangeAt Ranges.adderWidth Lowering.level Lowering.levels Lowering.reduceTree Lowering.addEqual Lowering.equalWords Lowering.stages Lowering.shift Lowering.lowerUnary Lowering.lowerBinary Lowering.isZeroExpression Lowering.carryLsb Lowering.addOperands Lowering.operandsOf Lowering.setSignalBit Lowering.setSignal Lowering.mark Lowering.setWhole Lowering.whole Lowering.setRange Lowering.signalBit Lowering.signalNet Lowering.signalNets Lowering.wholeNets Lowering.wholeNet Lowering.rangeNets Lowering.rangeKnown Lowering.signalSteps Lowering.wholeSteps Lowering.pieces Lowering.concatPieces Lowering.rangeSteps Lowering.buildBinary Lowering.buildWhole Lowering.buildRange Lowering.lowerSteps Lowering.driverOf Lowering.drive Lowering.resolveSignalBit Lowering.keepWhole Lowering.lowerExpression Lowering.keepRange Lowering.lowerExpressionRange Lowering.lowerNeed Lowering.plenty Lowering.lowerAll Lowering.start Lowering.reserveInputs Lowering.reserveRegisters Lowering.reserveMemories Lowering.reserveSources Lowering.connectMemories Lowering.registerBits Lowering.connectRegisters Lowering.connectOutputs Lowering.lowerState Lowering.expressionNet Lowering.lowerWith Lowering.lower Call.outcome Call.imageOf Call.numbersOf Row.reply Carried.required Carried.whole Carried.seenIn
+computing = 0
+
+abbrev pub accepted : List ℕ
+accepted = 0 ∷ 0 ∷ 0 ∷ []
+
+-- a netlist's header: nets, list words used, the limit N, then how many ports, registers, memories, arithmetic and comparison records
+abbrev pub counts : ℕ → ℕ → ℕ → ℕ → ℕ → ℕ → ℕ → ℕ → List ℕ
+counts nets used N ports registers memories arithmetic comparisons =
+    1 ∷ nets ∷ 16 ∷ used ∷ (16 + 6 * N) ∷ ports ∷ registers ∷ memories ∷ arithmetic ∷ comparisons ∷ 0 ∷ 0 ∷ 0 ∷ 0 ∷ 0 ∷ 0 ∷ []
+
+-- after a refusal
+abbrev pub blank : List ℕ
+blank = 0 ∷ 0 ∷ 0 ∷ 0 ∷ 0 ∷ 0 ∷ 0 ∷ 0 ∷ 0 ∷ 0 ∷ 0 ∷ 0 ∷ 0 ∷ 0 ∷ 0 ∷ 0 ∷ []
+
+abbrev pub k1 : Row.Row
+k1 = record {
+  name = "K1";
+  text = "no records: accepted, 0 nets";
+  image = Images.k01;
+  limits = (1, 0);
+  asked = Nets;
+  document = 0 ∷ [];
+  found = 0 ∷ [];
+  answer = accepted;
+  header = counts 0 0 1 0 0 0 0 0;
+}
+
+k1-seen : seen k1 ≡ said k1
+unfolding computing
+k1-seen = refl
+
+pub k1-holds : Holds k1 (Row.Promised k1)
+k1-holds = carried k1 k1-seen
+
+abbrev pub k2 : Row.Row
+k2 = record {
+  name = "K2";
+  text = "8-bit Add of two zero-extended 4-bit words: cell width 5";
+  image = Images.k02;
+  limits = (22, 44);
+  asked = AdderWidths;
+  document = 5 ∷ [];
+  found = 5 ∷ [];
+  answer = accepted;
+  header = counts 22 44 22 3 0 0 1 0;
+}
+
+k2-seen : seen k2 ≡ said k2
+unfolding computing
+k2-seen = refl
+
+pub k2-holds : Holds k2 (Row.Promised k2)
+k2-holds = carried k2 k2-seen
+
+abbrev pub k3 : Row.Row
+k3 = record {
+  name = "K3";
+  text = "8-bit 0 + 0: cell width 1";
+  image = Images.k03;
+  limits = (9, 11);
+  asked = AdderWidths;
+  document = 1 ∷ [];
+  found = [];
+  answer = accepted;
+  header = counts 9 11 9 1 0 0 0 0;
+}
+
+k3-seen : seen k3 ≡ said k3
+unfolding computing
+k3-seen = refl
+
+pub k3-holds : Holds k3 (Row.Promised k3)
+k3-holds = carried k3 k3-seen
+
+abbrev pub k3-sum : Row.Row
+k3-sum = record {
+  name = "K3";
+  text = "8-bit 0 + 0";
+  image = Images.k03;
+  limits = (9, 11);
+  asked = (Outputs 8 (0 ∷ []));
+  document = 0 ∷ [];
+  found = 0 ∷ [];
+  answer = accepted;
+  header = counts 9 11 9 1 0 0 0 0;
+}
+
+k3-sum-seen : seen k3-sum ≡ said k3-sum
+unfolding computing
+k3-sum-seen = refl
+
+pub k3-sum-holds : Holds k3-sum (Row.Promised k3-sum)
+k3-sum-holds = carried k3-sum k3-sum-seen
+
+abbrev pub k3′ : Row.Row
+k3′ = record {
+  name = "K3'";
+  text = "8-bit 0 + 0: cell width 1";
+  image = Images.k03prime;
+  limits = (31, 77);
+  asked = AdderWidths;
+  document = 1 ∷ [];
+  found = 1 ∷ [];
+  answer = accepted;
+  header = counts 31 77 31 2 0 0 2 0;
+}
+
+k3′-seen : seen k3′ ≡ said k3′
+unfolding computing
+k3′-seen = refl
+
+pub k3′-holds : Holds k3′ (Row.Promised k3′)
+k3′-holds = carried k3′ k3′-seen
+
+abbrev pub k4 : Row.Row
+k4 = record {
+  name = "K4";
+  text = "8-bit 254 + 1: width 8, not narrowed";
+  image = Images.k04;
+  limits = (10, 11);
+  asked = AdderWidths;
+  document = 8 ∷ [];
+  found = [];
+  answer = accepted;
+  header = counts 10 11 10 1 0 0 0 0;
+}
+
+k4-seen : seen k4 ≡ said k4
+unfolding computing
+k4-seen = refl
+
+pub k4-holds : Holds k4 (Row.Promised k4)
+k4-holds = carried k4 k4-seen
+
+abbrev pub k4-sum : Row.Row
+k4-sum = record {
+  name = "K4";
+  text = "8-bit 254 + 1";
+  image = Images.k04;
+  limits = (10, 11);
+  asked = (Outputs 8 (0 ∷ []));
+  document = 255 ∷ [];
+  found = 255 ∷ [];
+  answer = accepted;
+  header = counts 10 11 10 1 0 0 0 0;
+}
+
+k4-sum-seen : seen k4-sum ≡ said k4-sum
+unfolding computing
+k4-sum-seen = refl
+
+pub k4-sum-holds : Holds k4-sum (Row.Promised k4-sum)
+k4-sum-holds = carried k4-sum k4-sum-seen
+
+abbrev pub k4′ : Row.Row
+k4′ = record {
+  name = "K4'";
+  text = "8-bit 254 + 1: width 8, not narrowed";
+  image = Images.k04prime;
+  limits = (38, 98);
+  asked = AdderWidths;
+  document = 8 ∷ [];
+  found = 8 ∷ [];
+  answer = accepted;
+  header = counts 38 98 38 2 0 0 2 0;
+}
+
+k4′-seen : seen k4′ ≡ said k4′
+unfolding computing
+k4′-seen = refl
+
+pub k4′-holds : Holds k4′ (Row.Promised k4′)
+k4′-holds = carried k4′ k4′-seen
+
+abbrev pub k5 : Row.Row
+k5 = record {
+  name = "K5";
+  text = "64-bit Add of zero-extended 32-bit words: 33";
+  image = Images.k05;
+  limits = (162, 240);
+  asked = AdderWidths;
+  document = 33 ∷ [];
+  found = 33 ∷ [];
+  answer = accepted;
+  header = counts 162 240 162 3 0 0 1 0;
+}
+
+k5-seen : seen k5 ≡ said k5
+unfolding computing
+k5-seen = refl
+
+pub k5-holds : Holds k5 (Row.Promised k5)
+k5-holds = carried k5 k5-seen
+
+abbrev pub k6 : Row.Row
+k6 = record {
+  name = "K6";
+  text = "at 65 bits: not narrowed";
+  image = Images.k06;
+  limits = (195, 337);
+  asked = AdderWidths;
+  document = 65 ∷ [];
+  found = 65 ∷ [];
+  answer = accepted;
+  header = counts 195 337 195 3 0 0 1 0;
+}
+
+k6-seen : seen k6 ≡ said k6
+unfolding computing
+k6-seen = refl
+
+pub k6-holds : Holds k6 (Row.Promised k6)
+k6-holds = carried k6 k6-seen
+
+abbrev pub k7 : Row.Row
+k7 = record {
+  name = "K7";
+  text = "8-bit signed 128 below 127: 1; unsigned: 0";
+  image = Images.k07;
+  limits = (6, 48);
+  asked = (Outputs 1 (0 ∷ 1 ∷ []));
+  document = 1 ∷ 0 ∷ [];
+  found = 1 ∷ 0 ∷ [];
+  answer = accepted;
+  header = counts 6 48 6 2 0 0 0 2;
+}
+
+k7-seen : seen k7 ≡ said k7
+unfolding computing
+k7-seen = refl
+
+pub k7-holds : Holds k7 (Row.Promised k7)
+k7-holds = carried k7 k7-seen
+
+abbrev pub k8 : Row.Row
+k8 = record {
+  name = "K8";
+  text = "8-bit arithmetic right shift of 128 by 8: 255; by 7: 255; by 6: 254";
+  image = Images.k08;
+  limits = (26, 33);
+  asked = (Outputs 8 (0 ∷ 1 ∷ 2 ∷ []));
+  document = 255 ∷ 255 ∷ 254 ∷ [];
+  found = 255 ∷ 255 ∷ 254 ∷ [];
+  answer = accepted;
+  header = counts 26 33 26 3 0 0 0 0;
+}
+
+k8-seen : seen k8 ≡ said k8
+unfolding computing
+k8-seen = refl
+
+pub k8-holds : Holds k8 (Row.Promised k8)
+k8-holds = carried k8 k8-seen
+
+abbrev pub k9 : Row.Row
+k9 = record {
+  name = "K9";
+  text = "s (2 bits) = {s[0], a}, s an output: 7, signal s, bit 0";
+  image = Images.k09;
+  limits = (16, 16);
+  asked = Numbers;
+  document = 7 ∷ 1 ∷ 0 ∷ [];
+  found = 7 ∷ 1 ∷ 0 ∷ [];
+  answer = 7 ∷ 1 ∷ 0 ∷ [];
+  header = blank;
+}
+
+k9-seen : seen k9 ≡ said k9
+unfolding computing
+k9-seen = refl
+
+pub k9-holds : Holds k9 (Row.Promised k9)
+k9-holds = carried k9 k9-seen
+
+abbrev pub k10 : Row.Row
+k10 = record {
+  name = "K10";
+  text = "reset value 1 + 1 on 8 bits: 8, bit 0";
+  image = Images.k10;
+  limits = (20, 123);
+  asked = Numbers;
+  document = 8 ∷ 0 ∷ 0 ∷ [];
+  found = 0 ∷ 0 ∷ 0 ∷ [];
+  answer = accepted;
+  header = counts 20 123 20 3 8 0 0 0;
+}
+
+k10-seen : seen k10 ≡ said k10
+unfolding computing
+k10-seen = refl
+
+pub k10-holds : Holds k10 (Row.Promised k10)
+k10-holds = carried k10 k10-seen
+
+abbrev pub k10-sum : Row.Row
+k10-sum = record {
+  name = "K10";
+  text = "reset value 1 + 1 on 8 bits";
+  image = Images.k10;
+  limits = (20, 123);
+  asked = ResetValue;
+  document = 2 ∷ [];
+  found = 2 ∷ [];
+  answer = accepted;
+  header = counts 20 123 20 3 8 0 0 0;
+}
+
+k10-sum-seen : seen k10-sum ≡ said k10-sum
+unfolding computing
+k10-sum-seen = refl
+
+pub k10-sum-holds : Holds k10-sum (Row.Promised k10-sum)
+k10-sum-holds = carried k10-sum k10-sum-seen
+
+abbrev pub k10′ : Row.Row
+k10′ = record {
+  name = "K10'";
+  text = "reset value 1 + 1 on 8 bits: 8, bit 0";
+  image = Images.k10prime;
+  limits = (64, 128);
+  asked = Numbers;
+  document = 8 ∷ 0 ∷ 0 ∷ [];
+  found = 8 ∷ 0 ∷ 0 ∷ [];
+  answer = 8 ∷ 0 ∷ 0 ∷ [];
+  header = blank;
+}
+
+k10′-seen : seen k10′ ≡ said k10′
+unfolding computing
+k10′-seen = refl
+
+pub k10′-holds : Holds k10′ (Row.Promised k10′)
+k10′-holds = carried k10′ k10′-seen
+
+abbrev pub k11 : Row.Row
+k11 = record {
+  name = "K11";
+  text = "(a + b) + {0, c}: one cell with carry";
+  image = Images.k11;
+  limits = (9, 29);
+  asked = Carries;
+  document = 1 ∷ [];
+  found = 1 ∷ [];
+  answer = accepted;
+  header = counts 9 29 9 4 0 0 1 0;
+}
+
+k11-seen : seen k11 ≡ said k11
+unfolding computing
+k11-seen = refl
+
+pub k11-holds : Holds k11 (Row.Promised k11)
+k11-holds = carried k11 k11-seen
+
+abbrev pub k12 : Row.Row
+k12 = record {
+  name = "K12";
+  text = "(a + b) + {c, 0}: two cells";
+  image = Images.k12;
+  limits = (12, 39);
+  asked = Carries;
+  document = 0 ∷ 0 ∷ [];
+  found = 0 ∷ 0 ∷ [];
+  answer = accepted;
+  header = counts 12 39 12 4 0 0 2 0;
+}
+
+k12-seen : seen k12 ≡ said k12
+unfolding computing
+k12-seen = refl
+
+pub k12-holds : Holds k12 (Row.Promised k12)
+k12-holds = carried k12 k12-seen

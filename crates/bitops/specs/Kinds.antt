@@ -1,9 +1,0 @@
--- The kinds of gate in the code and in the model. Assumes nothing.
-use Rattle.model.specs.Ranges as M
-use Rattle.bitops.specs.declared.Gate.{Gate}
-use Rattle.bitops.specs.declared.Gate.the-variants.{And, Or, Xor}
-
-abbrev pub gateOf : Gate → M.Gate
-gateOf And = M.AndGate
-gateOf Or = M.OrGate
-gateOf Xor = M.XorGate

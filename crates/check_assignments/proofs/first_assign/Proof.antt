@@ -1,0 +1,80 @@
+-- `check_assignments::first_assign` meets its contract. The loop's invariant: no record below r breaks a rule, and the bits of these are marked. Assumes nothing.
+use Rattle.check_assignments.proofs.first_assign.Statement.{statement}
+use Rattle.check_assignments.proofs.first_assign.Tie as tie
+use mathlib.Core.Path.{_≡_, refl, sym, _∙_, subst}
+use Prim.Native.Nat.{ℕ, _-_, _≤_}
+use native.Mathlib.Omega.{arith}
+use lib.ListN.{length}
+use Rattle.spec_tests.specs.Rules.{first}
+use Rattle.spec_tests.specs.Laws.{from, begins, passed, found, ended}
+use Rattle.spec_rules.specs.Image.{countAt}
+use Rattle.spec_rules.specs.Checks.{badAssign}
+use Rattle.check_drivers.specs.Bits.{Marks}
+use borrow.Author.Needs.{needs}
+
+abbrev Inv-loop : tie.InvT-loop
+Inv-loop s firsts taken₀ n r₀ taken r = (r ≤ countAt s 3) × (first (badAssign s) (countAt s 3) ≡ from (badAssign s) (countAt s 3) r) × (Marks s r 0 0 taken) × (length taken ≡ length taken₀)
+
+abbrev μ-loop : tie.MeasureT-loop
+μ-loop s firsts taken₀ n r₀ taken r = n - r
+
+count-requires : tie.Need-count-requires Inv-loop μ-loop
+count-requires c κs = search needs
+
+loop-holds : tie.Need-loop-holds Inv-loop μ-loop
+loop-holds c = (omega arith, begins _ _, c .before .before .before .before .pre .1, refl)
+
+check-assign-requires : tie.Need-check-assign-requires Inv-loop μ-loop
+check-assign-requires c κs =
+    let c4 = c .before .before .before .before in
+    (c4 .before .before .before .pre .0, c .before .before .loop .inv .2)
+
+same-length : tie.Need-same-length Inv-loop μ-loop
+same-length c = search needs
+
+returns : tie.Need-returns Inv-loop μ-loop
+returns c = (
+  sym (found _ _ _ (omega arith) (c .before .before .before .before .before .before .loop .inv .1) (sym (c .before .before .before .check-assign .ensures .0) ∙ c .if1 .taken)),
+  λ h. absurd (omega arith),
+)
+
+add-r : tie.Need-add-r Inv-loop μ-loop
+add-r c = search needs
+
+loop-less : tie.Need-loop-less Inv-loop μ-loop
+loop-less c = search needs
+
+loop-again : tie.Need-loop-again Inv-loop μ-loop
+loop-again c = (
+  omega arith,
+  c .before .before .before .before .before .before .loop .inv .1 ∙ passed _ _ _ (omega arith) (sym (c .before .before .before .check-assign .ensures .0) ∙ c .if1 .left),
+  c .before .before .before .check-assign .ensures .1 (c .if1 .left),
+  search needs,
+)
+
+same-length-2 : tie.Need-same-length-2 Inv-loop μ-loop
+same-length-2 c = search needs
+
+returns-2 : tie.Need-returns-2 Inv-loop μ-loop
+returns-2 c =
+    let e : c .before .loop .r ≡ countAt (c .before .before .before .before .before .before .args .s .now) 3 = omega arith in (
+      c .before .before .count .ensures ∙ sym (ended _ _ _ (omega arith) (omega arith) (c .before .loop .inv .1)),
+      λ h. subst (λ (k : ℕ). Marks (c .before .before .before .before .before .before .args .s .now) k 0 0 (c .before .loop .taken)) e (c .before .loop .inv .2),
+    )
+
+pub first-assign-spec : {M : Type 1} → statement M
+first-assign-spec =
+    tie.close
+    (tie.spec
+    Inv-loop
+    μ-loop
+    count-requires
+    loop-holds
+    check-assign-requires
+    same-length
+    returns
+    add-r
+    loop-less
+    loop-again
+    same-length-2
+    returns-2)

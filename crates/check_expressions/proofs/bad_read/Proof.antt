@@ -1,0 +1,44 @@
+-- `check_expressions::bad_read` meets its contract. Assumes nothing.
+use Rattle.check_expressions.proofs.bad_read.Statement.{statement}
+use Rattle.check_expressions.proofs.bad_read.Tie as tie
+use mathlib.Core.Path.{refl, sym, _∙_}
+use borrow.Author.Needs.{needs}
+use Rattle.spec_tests.specs.Laws.{or-hit, or-skip, ne-same}
+use Rattle.check_expressions.specs.Kinds.{badRead}
+
+no-signal-requires : tie.Need-no-signal-requires
+no-signal-requires c κs = search needs
+
+returns : tie.Need-returns
+unfolding badRead
+returns c = or-hit _ (sym (c .before .no-signal .ensures) ∙ c .if1 .taken)
+
+signal-width-requires : tie.Need-signal-width-requires
+signal-width-requires c κs = search needs
+
+below-sum-requires : tie.Need-below-sum-requires
+below-sum-requires c κs = search needs
+
+returns-2 : tie.Need-returns-2
+unfolding badRead
+returns-2 c =
+    or-skip (sym (c .before .before .before .before .no-signal .ensures) ∙ c .before .before .before .if1 .left)
+    (or-hit _ (sym (rw (c .before .before .signal-width .ensures) at (c .before .below-sum .ensures)) ∙ c .if2 .taken))
+
+returns-3 : tie.Need-returns-3
+unfolding badRead
+returns-3 c =
+    or-skip (sym (c .before .before .before .before .no-signal .ensures) ∙ c .before .before .before .if1 .left)
+    (or-skip (sym (rw (c .before .before .signal-width .ensures) at (c .before .below-sum .ensures)) ∙ c .if2 .left)
+    (ne-same refl refl))
+
+pub bad-read-spec : {M : Type 1} → statement M
+bad-read-spec =
+    tie.close
+    (tie.spec
+    no-signal-requires
+    returns
+    signal-width-requires
+    below-sum-requires
+    returns-2
+    returns-3)

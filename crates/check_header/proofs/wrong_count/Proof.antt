@@ -1,0 +1,33 @@
+-- `check_header::wrong_count` meets its contract. Assumes nothing.
+use borrow.Author.Needs.{needs}
+use Rattle.check_header.proofs.wrong_count.Statement.{statement}
+use Rattle.check_header.proofs.wrong_count.Tie as tie
+use mathlib.Core.Path.{refl}
+use native.Mathlib.Omega.{arith}
+use Rattle.spec_tests.specs.Laws.{or-hit, or-skip, and-miss, and-skip, lt-yes, lt-no, eq-yes, eq-no, ne-same}
+use Rattle.spec_rules.specs.Checks.{wrongCount}
+
+most-requires : tie.Need-most-requires
+most-requires c κs = search needs
+
+count-requires : tie.Need-count-requires
+count-requires c κs = search needs
+
+returns : tie.Need-returns
+unfolding wrongCount
+returns c = or-hit _ (lt-yes _ _ (omega arith))
+
+start-requires : tie.Need-start-requires
+start-requires c κs = search needs
+
+returns-2 : tie.Need-returns-2
+unfolding wrongCount
+returns-2 c = or-skip (lt-no _ _ (omega arith)) (and-skip (eq-yes _ _ (omega arith)) (ne-same (c .start .ensures) refl))
+
+returns-3 : tie.Need-returns-3
+unfolding wrongCount
+returns-3 c = or-skip (lt-no _ _ (omega arith)) (and-miss _ (eq-no _ _ (c .if2 .left)))
+
+pub wrong-count-spec : {M : Type 1} → statement M
+wrong-count-spec =
+    tie.close (tie.spec most-requires count-requires returns start-requires returns-2 returns-3)

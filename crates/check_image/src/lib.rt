@@ -1,0 +1,100 @@
+// The check of an image: refusals 1 to 5, in their order.
+ghost use mathlib.Core.Path.{_≡_};
+ghost use Prim.Native.Nat.{_≤_};
+ghost use lib.ListN.{length};
+ghost use Rattle.spec_rules.specs.Image.{countAt};
+ghost use Rattle.spec_rules.specs.Checks as rule;
+ghost use Rattle.check_drivers.specs.Bits.{SignalsFit, Firsts, Marks};
+ghost use Rattle.check_image.specs.Accepted.{Counts};
+ghost use Rattle.check_image.specs.Checked.{answerOf, driversThen, recordsThen};
+
+pub enum Checked {
+    Fine,
+    Limits,
+    NetlistShort,
+    Field(u32),
+    Record(u32, u32),
+    ScratchShort,
+}
+
+// The answer of the assignments, registers, memories and the scratch; firsts has each signal's first bit, and taken no marked bit.
+fn check_sections(s: &[u8], firsts: &[u32], taken: &mut [u8], n: u32, scratch: usize) -> Checked
+    requires { ⌜ (Counts (now s)) × (rule.exprBits (now s) ≤ 32768) × (Firsts (now s) (now firsts)) × (Marks (now s) 0 0 0 (now taken)) ⌝ }
+    ensures { λ c. ⌜ answerOf c ≡ driversThen (now (s .entry)) n scratch ⌝ }
+{
+    let a = check_assignments::first_assign(s, firsts, taken);
+    if a < image_fields::count(s, 3) {
+        return Checked::Record(3, a);
+    }
+    let r = check_registers::first_register(s, firsts, taken);
+    if r < image_fields::count(s, 4) {
+        return Checked::Record(4, r);
+    }
+    let m = check_memories::first_memory(s, firsts, taken);
+    if m < image_fields::count(s, 5) {
+        return Checked::Record(5, m);
+    }
+    if check_header::scratch_short(s, n, scratch) {
+        return Checked::ScratchShort;
+    }
+    Checked::Fine
+}
+
+// The same, with a table for 256 bits where there are no more; firsts has room for the signals.
+fn check_bits(s: &[u8], firsts: &mut [u32], n: u32, scratch: usize) -> Checked
+    requires { ⌜ (Counts (now s)) × (SignalsFit (now s)) × (rule.exprBits (now s) ≤ 32768) × (countAt (now s) 0 ≤ length (now firsts)) ⌝ }
+    ensures { λ c. ⌜ answerOf c ≡ driversThen (now (s .entry)) n scratch ⌝ }
+{
+    if check_drivers::lay_firsts(s, firsts) <= 256 {
+        let mut taken: [u8; 256] = [0; 256];
+        return check_sections(s, firsts, &mut taken, n, scratch);
+    }
+    let mut taken: [u8; 4096] = [0; 4096];
+    check_sections(s, firsts, &mut taken, n, scratch)
+}
+
+// The same, with a table for 32 signals where there are no more.
+fn check_drivers(s: &[u8], n: u32, scratch: usize) -> Checked
+    requires { ⌜ (Counts (now s)) × (SignalsFit (now s)) × (rule.exprBits (now s) ≤ 32768) ⌝ }
+    ensures { λ c. ⌜ answerOf c ≡ driversThen (now (s .entry)) n scratch ⌝ }
+{
+    if image_fields::count(s, 0) <= 32 {
+        let mut firsts: [u32; 32] = [0; 32];
+        return check_bits(s, &mut firsts, n, scratch);
+    }
+    let mut firsts: [u32; 512] = [0; 512];
+    check_bits(s, &mut firsts, n, scratch)
+}
+
+// The answer of all records and the scratch.
+fn check_records(s: &[u8], n: u32, scratch: usize) -> Checked
+    requires { ⌜ Counts (now s) ⌝ }
+    ensures { λ c. ⌜ answerOf c ≡ recordsThen (now (s .entry)) n scratch ⌝ }
+{
+    let p = check_signals::first_signal(s);
+    if p < image_fields::count(s, 0) {
+        return Checked::Record(0, p);
+    }
+    let e = check_expressions::first_expr(s);
+    if e < image_fields::count(s, 1) {
+        return Checked::Record(1, e);
+    }
+    check_drivers(s, n, scratch)
+}
+
+// The check of an image, for net limit n, list limit p and the words of the two buffers.
+pub fn check(image: &[u8], n: u32, p: u32, netlist: usize, scratch: usize) -> Checked
+    ensures { λ c. ⌜ answerOf c ≡ rule.checked (now (image .entry)) n p netlist scratch ⌝ }
+{
+    if check_header::bad_limits(n, p) {
+        return Checked::Limits;
+    }
+    if check_header::netlist_short(n, p, netlist) {
+        return Checked::NetlistShort;
+    }
+    let f = check_header::first_field(image);
+    if f < 16 {
+        return Checked::Field(f);
+    }
+    check_records(image, n, scratch)
+}

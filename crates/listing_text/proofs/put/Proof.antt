@@ -1,0 +1,56 @@
+-- `listing_text::put` meets its contract. Assumes nothing.
+use Rattle.listing_text.proofs.put.Statement.{statement}
+use Rattle.listing_text.proofs.put.Tie as tie
+use Prim.Native.Nat.{_≤_, _-_}
+use native.Mathlib.Omega.{arith}
+use lib.ListN.{length, take}
+use denote.Ref.{now}
+use Rattle.listing_text.specs.Text.{Wrote, wrote-none}
+use Rattle.listing_text.specs.Text.{wrote-step, wrote-all}
+
+abbrev Inv-loop : tie.InvT-loop
+Inv-loop out₀ at text to₀ i₀ out to i = (i ≤ length text) × Wrote out₀ at (take i text) out to
+
+abbrev μ-loop : tie.MeasureT-loop
+μ-loop out₀ at text to₀ i₀ out to i = length text - i
+
+loop-holds : tie.Need-loop-holds Inv-loop μ-loop
+loop-holds c = (omega arith, wrote-none _ _ (c .before .before .pre))
+
+shared-slice-read-put-byte : tie.Need-shared-slice-read-put-byte Inv-loop μ-loop
+shared-slice-read-put-byte c = omega arith
+
+put-byte-requires : tie.Need-put-byte-requires Inv-loop μ-loop
+put-byte-requires c κs = omega arith
+
+add-i : tie.Need-add-i Inv-loop μ-loop
+add-i c = omega arith
+
+loop-less : tie.Need-loop-less Inv-loop μ-loop
+loop-less c = omega arith
+
+loop-again : tie.Need-loop-again Inv-loop μ-loop
+loop-again c =
+    let t = c .before .before .before .before .before .before in
+    (omega arith, wrote-step (t .loop .i) (now (t .before .before .before .args .text)) (omega arith) (t .loop .inv .1) (c .before .before .put-byte .ensures))
+
+same-length : tie.Need-same-length Inv-loop μ-loop
+same-length c = c .before .loop .inv .1 .size
+
+returns : tie.Need-returns Inv-loop μ-loop
+returns c = wrote-all (c .before .loop .i) (now (c .before .before .before .before .args .text)) (omega arith) (c .before .loop .inv .1)
+
+pub put-spec : {M : Type 1} → statement M
+put-spec =
+    tie.close
+    (tie.spec
+    Inv-loop
+    μ-loop
+    loop-holds
+    shared-slice-read-put-byte
+    put-byte-requires
+    add-i
+    loop-less
+    loop-again
+    same-length
+    returns)

@@ -1,0 +1,146 @@
+-- The ways through the gates' code, each as a law of the model. Assumes nothing.
+use mathlib.Core.Path.{_≡_, refl, _∙_}
+use mathlib.Core.Bool.{Bool, true, false, not, cond}
+use mathlib.Core.List.{List}
+use mathlib.Core.Option.{none, some}
+use Prim.Native.Nat.{ℕ, min, max}
+use lib.Dec.{eqb}
+use borrow.Author.Tests.{eq-eqb, ne-eqb}
+use Rattle.spec_model.specs.Words.{absent, Node, gate, Netlist}
+use Rattle.spec_model.specs.Builder.{done, Made, nodeForNet, constantValue, isValue, isConstant, addCached, addConstant, addNot, addAnd, addOr, addXor, addMux}
+use Rattle.net_view.specs.View.{netlistOf}
+use Rattle.net_index.specs.Index.{Held}
+use Rattle.net_nodes.specs.Gives.{Gives}
+use Rattle.net_nodes.specs.declared.Added.{Added}
+use Rattle.net_nodes.specs.declared.Added.the-variants.{Net}
+use Rattle.net_gates.specs.Turns.{muxNode}
+
+-- the model says the same of both
+pub gives-by : (m m′ : Made ℕ) (n : ℕ) (r : Added) (w idx : List ℕ) → m ≡ m′ → Gives m′ n r w idx → Gives m n r w idx
+gives-by m m′ n r w idx e g = record { says = e ∙ g .says; held = g .held }
+
+-- nothing was added
+pub gives-net : (m : Made ℕ) (n k : ℕ) (w idx : List ℕ) → Held n w idx → m ≡ done (k, netlistOf n w) → Gives m n (Net k) w idx
+gives-net m n k w idx h e = record { says = e; held = h }
+
+pub is-one : (v : Bool) → isValue v (some true) ≡ v
+is-one true = refl
+is-one false = refl
+
+pub is-zero : (v : Bool) → isValue v (some false) ≡ not v
+is-zero true = refl
+is-zero false = refl
+
+module _ (l : Netlist) (a : ℕ) where
+  pub not-value : (v : Bool) → constantValue l a ≡ some v → addNot a l ≡ addConstant (not v) l
+  unfolding addNot
+  not-value v e = rw e
+
+  pub not-not : constantValue l a ≡ none → nodeForNet l a .kind ≡ 5 → addNot a l ≡ done (nodeForNet l a .in0, l)
+  unfolding addNot
+  not-not e k = rw (e, eq-eqb _ _ k)
+
+  pub not-gate : constantValue l a ≡ none → (nodeForNet l a .kind ≡ 5 → ⊥) → addNot a l ≡ addCached (gate 5 a absent absent) l
+  unfolding addNot
+  not-gate e k = rw (e, ne-eqb _ _ k)
+
+module _ (l : Netlist) (a b : ℕ) where
+  pub and-same : a ≡ b → addAnd a b l ≡ done (a, l)
+  unfolding addAnd
+  and-same e = rw (eq-eqb a b e)
+
+  pub or-same : a ≡ b → addOr a b l ≡ done (a, l)
+  unfolding addOr
+  or-same e = rw (eq-eqb a b e)
+
+  pub xor-same : a ≡ b → addXor a b l ≡ addConstant false l
+  unfolding addXor
+  xor-same e = rw (eq-eqb a b e)
+
+  module _ (d : a ≡ b → ⊥) where
+    pub and-zero : isConstant false l a ≡ true → addAnd a b l ≡ addConstant false l
+    unfolding addAnd
+    and-zero x = rw (ne-eqb a b d, x)
+
+    pub or-one : isConstant true l a ≡ true → addOr a b l ≡ addConstant true l
+    unfolding addOr
+    or-one x = rw (ne-eqb a b d, x)
+
+    pub xor-zero : isConstant false l a ≡ true → addXor a b l ≡ done (b, l)
+    unfolding addXor
+    xor-zero x = rw (ne-eqb a b d, x)
+
+    module _ (x : isConstant false l a ≡ false) where
+      pub and-zero₂ : isConstant false l b ≡ true → addAnd a b l ≡ addConstant false l
+      unfolding addAnd
+      and-zero₂ y = rw (ne-eqb a b d, x, y)
+
+      pub xor-zero₂ : isConstant false l b ≡ true → addXor a b l ≡ done (a, l)
+      unfolding addXor
+      xor-zero₂ y = rw (ne-eqb a b d, x, y)
+
+      module _ (y : isConstant false l b ≡ false) where
+        pub and-one : isConstant true l a ≡ true → addAnd a b l ≡ done (b, l)
+        unfolding addAnd
+        and-one x₁ = rw (ne-eqb a b d, x, y, x₁)
+
+        pub xor-one : isConstant true l a ≡ true → addXor a b l ≡ addNot b l
+        unfolding addXor
+        xor-one x₁ = rw (ne-eqb a b d, x, y, x₁)
+
+        module _ (x₁ : isConstant true l a ≡ false) where
+          pub and-one₂ : isConstant true l b ≡ true → addAnd a b l ≡ done (a, l)
+          unfolding addAnd
+          and-one₂ y₁ = rw (ne-eqb a b d, x, y, x₁, y₁)
+
+          pub xor-one₂ : isConstant true l b ≡ true → addXor a b l ≡ addNot a l
+          unfolding addXor
+          xor-one₂ y₁ = rw (ne-eqb a b d, x, y, x₁, y₁)
+
+          pub and-gate : isConstant true l b ≡ false → addAnd a b l ≡ addCached (gate 2 (min a b) (max a b) absent) l
+          unfolding addAnd
+          and-gate y₁ = rw (ne-eqb a b d, x, y, x₁, y₁)
+
+          pub xor-gate : isConstant true l b ≡ false → addXor a b l ≡ addCached (gate 4 (min a b) (max a b) absent) l
+          unfolding addXor
+          xor-gate y₁ = rw (ne-eqb a b d, x, y, x₁, y₁)
+
+    module _ (x₁ : isConstant true l a ≡ false) where
+      pub or-one₂ : isConstant true l b ≡ true → addOr a b l ≡ addConstant true l
+      unfolding addOr
+      or-one₂ y₁ = rw (ne-eqb a b d, x₁, y₁)
+
+      module _ (y₁ : isConstant true l b ≡ false) where
+        pub or-zero : isConstant false l a ≡ true → addOr a b l ≡ done (b, l)
+        unfolding addOr
+        or-zero x = rw (ne-eqb a b d, x₁, y₁, x)
+
+        pub or-zero₂ : isConstant false l a ≡ false → isConstant false l b ≡ true → addOr a b l ≡ done (a, l)
+        unfolding addOr
+        or-zero₂ x y = rw (ne-eqb a b d, x₁, y₁, x, y)
+
+        pub or-gate : isConstant false l a ≡ false → isConstant false l b ≡ false → addOr a b l ≡ addCached (gate 3 (min a b) (max a b) absent) l
+        unfolding addOr
+        or-gate x y = rw (ne-eqb a b d, x₁, y₁, x, y)
+
+module _ (l : Netlist) (c t e : ℕ) where
+  pub mux-same : t ≡ e → addMux c t e l ≡ done (t, l)
+  unfolding addMux
+  mux-same p = rw (eq-eqb t e p)
+
+  module _ (d : t ≡ e → ⊥) where
+    pub mux-one : constantValue l c ≡ some true → addMux c t e l ≡ done (t, l)
+    unfolding addMux
+    mux-one p = rw (ne-eqb t e d, p)
+
+    pub mux-zero : constantValue l c ≡ some false → addMux c t e l ≡ done (e, l)
+    unfolding addMux
+    mux-zero p = rw (ne-eqb t e d, p)
+
+    pub mux-node : constantValue l c ≡ none → addMux c t e l ≡ addCached (muxNode l c t e) l
+    unfolding addMux
+    mux-node p = rw (ne-eqb t e d, p) (cached-if (eqb (nodeForNet l c .kind) 5) (gate 6 (nodeForNet l c .in0) e t) (gate 6 c t e))
+      where
+        cached-if : (b : Bool) (x y : Node) → cond b (addCached x l) (addCached y l) ≡ addCached (cond b x y) l
+        cached-if true x y = refl
+        cached-if false x y = refl

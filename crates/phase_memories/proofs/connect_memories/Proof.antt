@@ -1,0 +1,92 @@
+-- `phase_memories::connect_memories` meets its contract. Assumes nothing.
+use Rattle.phase_memories.proofs.connect_memories.Statement.{statement}
+use Rattle.phase_memories.proofs.connect_memories.Tie as tie
+use borrow.Author.Needs.{needs}
+use mathlib.Core.Bool.{false}
+use Prim.Native.Nat.{_-_}
+use native.Mathlib.Omega.{arith}
+use Rattle.spec_rules.specs.Image.{decode}
+use Rattle.spec_model.specs.Lowering.{connectMemories}
+use Rattle.walk_view.specs.View.{walkState, Sure}
+use Rattle.walk_view.proofs.Answers.{not-done-tag}
+use Rattle.walk_view.specs.Turns.{Turning, turning-start, turning-more, turning-out, turning-end}
+use Rattle.phase_parts.specs.Ran.{ran-phase}
+use Rattle.phase_memories.specs.Turns.{memoryTurn}
+use Rattle.phase_memories.proofs.Laws.{all-memories}
+
+abbrev Inv-loop : tie.InvT-loop
+Inv-loop image net₀ scr₀ n k₀ net scr k =
+    (Turning (connectMemories (decode image) false 0 (decode image .memories) (walkState image net₀ scr₀)) (memoryTurn image) n image net₀ scr₀ net scr k) × (Sure image net scr)
+
+abbrev μ-loop : tie.MeasureT-loop
+μ-loop image net₀ scr₀ n k₀ net scr k = n - k
+
+count-requires : tie.Need-count-requires Inv-loop μ-loop
+count-requires c κs = search needs
+
+loop-holds : tie.Need-loop-holds Inv-loop μ-loop
+loop-holds c =
+    let s = c .before .before .before .before in
+    (turning-start _ _ _ _ _ _ _ (c .count .ensures) (all-memories (s .args .image .now) _) (s .pre .0), s .pre .1)
+
+connect-memory-requires : tie.Need-connect-memory-requires Inv-loop μ-loop
+connect-memory-requires c κs =
+    let q = c .before .before .before .loop in
+    (q .inv .0 .ready, q .inv .1, omega (arith, c .before .before .loop-test .taken, c .before .before .before .before .count .ensures))
+
+enum-told : tie.Need-enum-told Inv-loop μ-loop
+enum-told c = search needs
+
+same-length : tie.Need-same-length Inv-loop μ-loop
+same-length c = search needs
+
+same-length-2 : tie.Need-same-length-2 Inv-loop μ-loop
+same-length-2 c = search needs
+
+returns : tie.Need-returns Inv-loop μ-loop
+returns c =
+    let c8 = c .before .before .before .before .before .before .before .before in
+    let g = c .before .before .before .before .before .connect-memory in
+    turning-out _ _ _ _ _ _ _ _ _ (c8 .before .loop .inv .0) (g .result) _ _ (c8 .loop-test .taken) (not-done-tag (g .result) (c .match .keys2)) (ran-phase (g .ensures))
+
+add-k : tie.Need-add-k Inv-loop μ-loop
+add-k c = search needs
+
+loop-less : tie.Need-loop-less Inv-loop μ-loop
+loop-less c = search needs
+
+loop-again : tie.Need-loop-again Inv-loop μ-loop
+loop-again c =
+    let c8 = c .before .before .before .before .before .before .before .before in
+    let g = c .before .before .before .before .before .before .connect-memory in
+    let e = c .enum-told .given .1 in
+    (turning-more _ _ _ _ _ _ _ _ _ (c8 .before .before .loop .inv .0) (g .result) _ _ (c8 .before .loop-test .taken) e (ran-phase (g .ensures)), g .ensures .sure e)
+
+same-length-3 : tie.Need-same-length-3 Inv-loop μ-loop
+same-length-3 c = search needs
+
+same-length-4 : tie.Need-same-length-4 Inv-loop μ-loop
+same-length-4 c = search needs
+
+returns-2 : tie.Need-returns-2 Inv-loop μ-loop
+returns-2 c = turning-end _ _ _ _ _ _ _ _ _ (c .before .loop .inv .0) (c .loop-test .left)
+
+pub connect-memories-spec : {M : Type 1} → statement M
+connect-memories-spec =
+    tie.close
+    (tie.spec
+    Inv-loop
+    μ-loop
+    count-requires
+    loop-holds
+    connect-memory-requires
+    enum-told
+    same-length
+    same-length-2
+    returns
+    add-k
+    loop-less
+    loop-again
+    same-length-3
+    same-length-4
+    returns-2)

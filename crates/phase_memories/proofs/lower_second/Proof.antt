@@ -1,0 +1,49 @@
+-- `phase_memories::lower_second` meets its contract. Assumes nothing.
+use borrow.Author.Needs.{needs}
+use Rattle.phase_memories.proofs.lower_second.Statement.{statement}
+use Rattle.phase_memories.proofs.lower_second.Tie as tie
+use Rattle.phase_parts.specs.Steps.{gives-none}
+use Rattle.phase_memory_records.specs.Second.{absent-means, present-means}
+
+enum-told : tie.Need-enum-told
+enum-told c = search needs
+
+enum-known-o : tie.Need-enum-known-o
+enum-known-o c = search needs
+
+lower-last-requires : tie.Need-lower-last-requires
+lower-last-requires c κs =
+    let o = c .before .before .before .o in
+    let pre = c .before .before .before .before .before .before .before .before .pre in
+    let args = c .before .before .before .before .before .before .before .before .args in
+    (pre .0, pre .1, rw (present-means (args .o) (o .given .0 .0) (o .given .1)) at (pre .2))
+
+returns : tie.Need-returns
+returns c =
+    let pre = c .before .before .before .before .before .pre in
+    let a = c .before .before .before .before .before .args in
+    rw (absent-means (a .o) (c .enum-told .given .1)) (gives-none (a .image .now) (a .net .now) (a .scr .now) (pre .0) (pre .1))
+
+same-length : tie.Need-same-length
+same-length c = search needs
+
+same-length-2 : tie.Need-same-length-2
+same-length-2 c = search needs
+
+returns-2 : tie.Need-returns-2
+returns-2 c =
+    let o = c .before .before .before .before .before .before .before .before .o in
+    let args = c .before .before .before .before .before .before .before .before .before .before .before .before .before .args in
+    rw (present-means (args .o) (o .given .0 .0) (o .given .1)) (c .before .before .before .before .lower-last .ensures)
+
+pub lower-second-spec : {M : Type 1} → statement M
+lower-second-spec =
+    tie.close
+    (tie.spec
+    enum-told
+    enum-known-o
+    lower-last-requires
+    returns
+    same-length
+    same-length-2
+    returns-2)

@@ -1,0 +1,40 @@
+-- `phase_memory_records::put_signal` meets its contract. Assumes nothing.
+use borrow.Author.Needs.{needs}
+use Rattle.phase_memory_records.proofs.put_signal.Statement.{statement}
+use Rattle.phase_memory_records.proofs.put_signal.Tie as tie
+use native.Mathlib.Omega.{arith}
+use mathlib.Core.Path.{refl}
+use Rattle.phase_memory_records.proofs.Laws.{signal-put}
+
+signal-width-requires : tie.Need-signal-width-requires
+signal-width-requires c κs = search needs
+
+copy-signal-requires : tie.Need-copy-signal-requires
+copy-signal-requires c κs = search needs
+
+cast-result : tie.Need-cast-result
+cast-result c = search needs
+
+add-result : tie.Need-add-result
+add-result c = search needs
+
+same-length : tie.Need-same-length
+same-length c = search needs
+
+returns : tie.Need-returns
+returns c =
+    let signal-width = c .before .before .before .before .signal-width in
+    let pre = c .before .before .before .before .before .before .before .before .pre in
+    let a = c .before .before .before .before .before .before .before .before .args in
+    (omega (arith, signal-width .ensures), λ l. signal-put (a .image .now) (a .scr .now) l (a .p) (pre .1) _ (a .at) _ _ _ (signal-width .ensures) (pre .2) refl (c .before .before .copy-signal .ensures l))
+
+pub put-signal-spec : {M : Type 1} → statement M
+put-signal-spec =
+    tie.close
+    (tie.spec
+    signal-width-requires
+    copy-signal-requires
+    cast-result
+    add-result
+    same-length
+    returns)
