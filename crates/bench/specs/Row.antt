@@ -1,4 +1,4 @@
--- A row of the bench table: an image with its limits, what document 01 says of it, and what comes out; and what a call that was
+-- A row of the bench table: an image with its limits, what the bench says of it (docs/RULES.md), and what comes out; and what a call that was
 -- given that image shows. Assumes nothing.
 use Prim.Native.Nat.{ℕ, _≤_, _<_}
 use Prim.Native.String.{String}
@@ -15,7 +15,7 @@ use Rattle.spec_rules.specs.NetlistImage.{Netlist, recordsWith, netlist}
 use Rattle.spec_rules.specs.Step.{Contents, ofNetlist, perhaps}
 use Rattle.spec_call.specs.Call.{numbersOf, Lowered}
 
--- what document 01 says a number of
+-- what the bench says a number of
 pub data Question : Type 0 where
   Numbers : Question  -- the answer's three numbers
   Nets : Question  -- how many nets there are
@@ -46,11 +46,11 @@ reply ResetValue n w = value (map (λ r. getD r 12 0 ≡? 1) (recordsWith 1 w)) 
 
 pub record Row : Type 0 where
   pub name : String
-  pub text : String  -- document 01's words
+  pub text : String  -- the bench's words
   pub image : List ℕ
   pub limits : ℕ × ℕ  -- N and P
   pub asked : Question
-  pub document : List ℕ  -- document 01's reply
+  pub document : List ℕ  -- the bench's reply
   pub found : List ℕ  -- the reply that comes out
   pub answer : List ℕ  -- the answer's three numbers
   pub header : List ℕ  -- the netlist buffer's first 16 words

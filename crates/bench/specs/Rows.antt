@@ -1,4 +1,4 @@
--- The rows of document 01's bench, each computed by the checker from the image's bytes. K3, K4 and K10 stand as document 01 writes
+-- The rows of the bench (docs/RULES.md), each computed by the checker from the image's bytes. K3, K4 and K10 stand as the bench writes
 -- them, where constant operands fold (docs/DIFFERENCES.md, 1), with the number that their sum is; and primed, with operands that
 -- have those values but no constant nets. Assumes nothing.
 use Prim.Native.Nat.{ℕ, _+_, _*_}

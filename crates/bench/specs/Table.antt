@@ -1,5 +1,5 @@
 -- The joint table of the bench cases: for each row, what every call that keeps the lowering call's promise answers and leaves; and in
--- which rows the number that comes out is not document 01's. Assumes nothing.
+-- which rows the number that comes out is not the bench's. Assumes nothing.
 use Prim.Native.Nat.{ℕ}
 use mathlib.Core.Bool.{Bool, not}
 use mathlib.Core.List.{List, [], _∷_, map}
@@ -34,7 +34,7 @@ every-row =
     k1-holds & k2-holds & k3-holds & k3-sum-holds & k3′-holds & k4-holds & k4-sum-holds & k4′-holds & k5-holds & k6-holds & k7-holds & k8-holds & k9-holds
     & k10-holds & k10-sum-holds & k10′-holds & k11-holds & k12-holds & end
 
--- ---- document 01's numbers beside what comes out ----
+-- ---- the bench's numbers beside what comes out ----
 
 abbrev differs : Row → Bool
 differs r = not (sameText (r .document) (r .found))

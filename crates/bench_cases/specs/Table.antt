@@ -1,6 +1,6 @@
--- Document 01's bench cases K1 to K12 and its listing example, computed by the checker from the images' bytes: what the call
+-- The bench cases K1 to K12 and the listing's example (docs/RULES.md), computed by the checker from the images' bytes: what the call
 -- answers, how many nets it makes, which arithmetic cells. K3, K4 and K10 stand twice: as written, where constant operands fold
--- (docs/DIFFERENCES.md, 1), and primed, with operands that have those values but no constant nets. Then cases of document 02, Q-5 and Q-1,
+-- (docs/DIFFERENCES.md, 1), and primed, with operands that have those values but no constant nets. Then cases of requests Q-5 and Q-1,
 -- and that every image of another edition is refused.
 use Prim.Native.Nat.{ℕ}
 use mathlib.Core.Path.{_≡_, refl, sym, ap}

@@ -1,1 +1,1 @@
-// Document 01's bench cases as theorems about the definitions, in specs/: no code.
+// The bench cases as theorems about the definitions, in specs/: no code.

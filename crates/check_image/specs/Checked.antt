@@ -1,4 +1,4 @@
--- The answer of the check as document 01's numbers, and laws of the order in which the checks run.
+-- The answer of the check as its numbers, and laws of the order in which the checks run.
 use Prim.Native.Nat.{ℕ, _≤_, _<_}
 use mathlib.Core.List.{List}
 use mathlib.Core.Bool.{Bool, true, false}

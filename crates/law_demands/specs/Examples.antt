@@ -1,4 +1,4 @@
--- Document 01's example, y = BitNot a: it is a good module, its lowering succeeds, and so demand 3 holds of its netlist. Assumes nothing.
+-- The listing's example in docs/RULES.md, y = BitNot a: it is a good module, its lowering succeeds, and so demand 3 holds of its netlist. Assumes nothing.
 use mathlib.Core.Path.{_≡_, refl, subst}
 use mathlib.Core.Bool.{false}
 use mathlib.Core.List.{[], _∷_}

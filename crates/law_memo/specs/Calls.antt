@@ -1,4 +1,4 @@
--- Document 02, Q-10, of the call: for every image that the checks pass, whatever the limits and the buffers' lengths, with either flag, each bit of an
+-- Request Q-10 (docs/requests/Q-10.md), of the call: for every image that the checks pass, whatever the limits and the buffers' lengths, with either flag, each bit of an
 -- expression has one net. Assumes nothing.
 use Prim.Native.Nat.{ℕ, _≤_}
 use mathlib.Core.Bool.{Bool}

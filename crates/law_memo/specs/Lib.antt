@@ -1,4 +1,4 @@
--- One word for each expression bit (document 02, Q-10): what was lowered is lowered again to the same nets, and nothing is made. `Memo` has the
+-- One word for each expression bit (request Q-10): what was lowered is lowered again to the same nets, and nothing is made. `Memo` has the
 -- claim, `Calls` shows it of every image that the checks pass.
 pub mod Memo
 pub mod Along

@@ -1,4 +1,4 @@
--- Document 02, Q-10: "Whole lowerings and range lowerings hold the same net for the same bit, so one word per expression bit can serve both", "lowering an
+-- Request Q-10: "Whole lowerings and range lowerings hold the same net for the same bit, so one word per expression bit can serve both", "lowering an
 -- expression bit again makes no net and gives the same one". Stated of the states that the call goes through, with either flag; `Calls` shows it. Assumes nothing.
 use mathlib.Core.Path.{_≡_}
 use mathlib.Core.Bool.{Bool}

@@ -1,2 +1,2 @@
--- The smaller scratch of document 02 against that of document 01.
+-- The call beside the one that asked for the former, larger scratch.
 pub mod Scratch

@@ -1,4 +1,4 @@
--- Document 02, Q-10: "Netlist and refusals are identical for every image and limits that the old scratch was large enough for." The promise with document 01's
+-- Request Q-10: "Netlist and refusals are identical for every image and limits that the old scratch was large enough for." The promise with the former
 -- sum stands here beside the present one. Where that call was not refused by 5, answer and netlist buffer are the same, and so is the scratch up to the
 -- present sum; the words after it, which were cleared, are beyond now and stay as they were. Assumes nothing.
 use Prim.Native.Nat.{ℕ, _+_, _*_, _≤_}
@@ -18,7 +18,7 @@ use Rattle.spec_model.specs.Lowering.{lower}
 use Rattle.spec_call.specs.Call as Call
 use Rattle.spec_call.specs.Call.{outcome, imageOf}
 
--- ---- the promise of document 01 ----
+-- ---- the promise with the former sum ----
 
 -- "4 × signal bits + 2 × expression bits + 8 × expressions + 4N + 64 words"
 unfoldable pub formerNeed : List ℕ → ℕ → ℕ
@@ -125,7 +125,7 @@ same s N P buffer scratch e = record {
 pub same-unrefused : (s : List ℕ) (N P : ℕ) (buffer scratch : List ℕ) → (formerChecked s N P (length buffer) (length scratch) ≡ Refused 5 0 0 → ⊥) → Same s N P buffer scratch
 same-unrefused s N P buffer scratch g = same s N P buffer scratch (unrefused s N P buffer scratch g)
 
--- where the scratch has document 01's words
+-- where the scratch has the former words
 pub same-large : (s : List ℕ) (N P : ℕ) (buffer scratch : List ℕ) → formerNeed s N ≤ length scratch → Same s N P buffer scratch
 same-large s N P buffer scratch h = same s N P buffer scratch (large s N P buffer scratch h)
 

@@ -1,1 +1,1 @@
-// Laws only, in specs/: the call beside the one that asked for document 01's scratch.
+// Laws only, in specs/: the call beside the one that asked for the former, larger scratch.

@@ -1,4 +1,4 @@
--- A module that document 01's checks accept: what the laws of the lowering ask of it. Assumes nothing.
+-- A module that the checks accept: what the laws of the lowering ask of it. Assumes nothing.
 use mathlib.Core.Path.{_≡_}
 use mathlib.Core.Option.{some}
 use Prim.Native.Nat.{ℕ, _+_, _≤_, _<_}

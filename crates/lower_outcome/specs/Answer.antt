@@ -1,4 +1,4 @@
--- A call's answer by document 01's number and places: of the enum `Outcome`, and of what the walk answers. Assumes nothing.
+-- A call's answer by its number and places (docs/RULES.md): of the enum `Outcome`, and of what the walk answers. Assumes nothing.
 use Rattle.spec_tests.specs.Rules.{Answer, Fine, Refused}
 use Rattle.walk_view.specs.declared.Lowered.{Lowered}
 use Rattle.walk_view.specs.declared.Lowered.the-variants as L

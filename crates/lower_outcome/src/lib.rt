@@ -1,4 +1,4 @@
-// The answer of a call: accepted, or a refusal of document 01 with its place, and its three numbers.
+// The answer of a call: accepted, or a refusal with its place, and its three numbers.
 ghost use mathlib.Core.Path.{_≡_};
 ghost use Rattle.spec_call.specs.Call.{numbersOf};
 ghost use Rattle.check_image.specs.Checked as checked;
@@ -6,7 +6,7 @@ ghost use Rattle.lower_outcome.specs.Answer.{answerOf, endOf};
 use check_image::Checked;
 use walk_view::Lowered;
 
-// Accepted, or a refusal of document 01 with its place: 1 to 10 in this order.
+// Accepted, or a refusal with its place (docs/RULES.md): 1 to 10 in this order.
 pub enum Outcome {
     Fine,
     Limits,

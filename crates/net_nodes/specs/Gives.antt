@@ -13,7 +13,7 @@ use Rattle.net_nodes.specs.declared.Added.the-variants.{Net, TooManyNets
 use Rattle.net_nodes.specs.declared.Constant.{Constant}
 use Rattle.net_nodes.specs.declared.Constant.the-variants.{Zero, One, Other}
 
--- document 01's refusals 9 and 10
+-- refusals 9 and 10
 abbrev pub outOf : Added → Netlist → Made ℕ
 outOf (Net k) l = done (k, l)
 outOf TooManyNets l = refused 9 0 0

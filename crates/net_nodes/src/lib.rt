@@ -12,7 +12,7 @@ ghost use Rattle.net_nodes.specs.Gives.{valueOf, Adds};
 
 pub const ABSENT: u32 = 4294967295;
 
-// What adding gives: the net, or document 01's refusals 9 and 10.
+// What adding gives: the net, or refusal 9 or 10.
 pub enum Added {
     Net(u32),
     TooManyNets,

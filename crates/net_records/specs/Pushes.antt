@@ -11,7 +11,7 @@ use Rattle.net_index.specs.Index.{isCell, Held}
 use Rattle.net_records.specs.declared.Pushed.{Pushed}
 use Rattle.net_records.specs.declared.Pushed.the-variants.{Done, ListFull}
 
--- document 01's refusal 10
+-- refusal 10
 abbrev pub pushedOf : Pushed → Netlist → Out Netlist
 pushedOf Done l = done l
 pushedOf ListFull l = refused 10 0 0

@@ -6,7 +6,7 @@ ghost use lib.Seq.{sets};
 ghost use Rattle.net_view.specs.View.{Formed, Built};
 ghost use Rattle.net_records.specs.Pushes.{Pushes};
 
-// What pushing gives: document 01's refusal 10 if the record would pass the list's limit.
+// What pushing gives: refusal 10 if the record would pass the list's limit.
 pub enum Pushed {
     Done,
     ListFull,

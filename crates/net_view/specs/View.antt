@@ -42,7 +42,7 @@ pub record Fit (n p : ℕ) (l : Netlist) : Type 0 where
   pub short : used (l .records) ≤ p
   pub formed : AllFormed (l .records)
 
--- the words are the image of the netlist that they hold; the limits are those of document 01
+-- the words are the image of the netlist that they hold; the limits are those that refusal 1 lets pass
 pub record Built (n : ℕ) (w : List ℕ) : Type 0 where
   pub told : w ≡ words n (room n w) (netlistOf n w)
   pub fit : Fit n (room n w) (netlistOf n w)

@@ -32,7 +32,7 @@ scratchAfter s N P buffer scratch = Promise.scratchAfter lower outcome imageOf s
 abbrev pub Lowered : List ℕ → ℕ → ℕ → List ℕ → List ℕ → Answer → List ℕ → List ℕ → Type 0
 Lowered s N P buffer scratch a buffer′ scratch′ = Promise.Promise lower outcome imageOf s N P buffer scratch a buffer′ scratch′
 
--- document 01's three numbers of an answer: the refusal's number and its two place numbers, all 0 for acceptance
+-- the three numbers of an answer: the refusal's number and its two place numbers, all 0 for acceptance
 unfoldable pub numbersOf : Answer → List ℕ
 numbersOf Fine = 0 ∷ 0 ∷ 0 ∷ []
 numbersOf (Refused n a b) = n ∷ a ∷ b ∷ []

@@ -495,7 +495,7 @@ lowerBy rec m ob (Whole e) st = lowerExpression rec m ob e st
 lowerBy rec m ob (Range e lsb w) st = lowerExpressionRange rec m ob e lsb w st
 
 -- on a fuel, of which `plenty` is enough: with u signal bits unmarked and C = 2 expressions + 1 a signal bit costs u C, an expression
--- u C + 2 e + 1, a range u C + 2 e + 2. Without fuel it answers with a number that no refusal of document 01 has
+-- u C + 2 e + 1, a range u C + 2 e + 2. Without fuel it answers with a number that no refusal has
 unfoldable pub lowerNeed : ℕ → Module → Bool → Need → State → Out State
 lowerNeed zero m ob n st = refused absent 0 0
 lowerNeed (suc f) m ob n st = lowerBy (λ n′ st′. lowerNeed f m ob n′ st′) m ob n st

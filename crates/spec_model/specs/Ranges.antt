@@ -1,4 +1,4 @@
--- ranges.rs, with document 02's rows of Or and Xor: to what width an Add is narrowed. Assumes nothing.
+-- ranges.rs, with rows of Or and Xor (request Q-5): to what width an Add is narrowed. Assumes nothing.
 use mathlib.Core.Bool.{Bool, cond, _&&_}
 use mathlib.Core.List.{List, [], _∷_}
 use mathlib.Core.Option.{Option, none, some}

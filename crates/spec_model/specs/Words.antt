@@ -1,4 +1,4 @@
--- A netlist as it is built, and the netlist image of document 01 as words. Assumes nothing.
+-- A netlist as it is built, and the netlist image (docs/FORMATS.md) as words. Assumes nothing.
 use mathlib.Core.Bool.{Bool, true, false}
 use mathlib.Core.List.{List, [], _∷_, _++_}
 use mathlib.Core.Option.{Option, none, some}

@@ -1,4 +1,4 @@
--- Refusals 1 to 5 of document 01, for document 02's edition 2. Each rule is a test that is true where the rule is broken. Assumes nothing.
+-- Refusals 1 to 5 of docs/RULES.md. Each rule is a test that is true where the rule is broken. Assumes nothing.
 use Prim.Native.Nat.{ℕ, _+_, _*_, _-_, _/_, _%_}
 use mathlib.Core.Bool.{Bool, true, not}
 use mathlib.Core.List.{List}
@@ -193,7 +193,7 @@ badSecond s r n w =
     true)
 
 -- "all read and write data of a memory have one width": that of the first port's read data. "A width that differs from the read data's is
--- refused under 4" (document 02): the word width of the record
+-- refused under 4" (request Q-1): the word width of the record
 unfoldable pub badMemory : List ℕ → ℕ → Bool
 badMemory s r =
     let w = signalWidth s (field s 5 r (firstPort + 1)) in

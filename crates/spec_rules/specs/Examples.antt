@@ -44,7 +44,7 @@ too-small : checked image 3 8 42 101 ≡ Refused 5 0 0
 unfolding _<?_ _≡?_ _≢?_ _or_ _and_ pick outside upTo first any sumTo each listOf only sameText andThen wordAt sizeOf mostOf countAt offsetAt bytesOf startOf part field listWord nameOf signalWidth exprWidth direction unaryOf binaryOf constantWords constantOf kindOf controlOf optional signalAt exprAt assignAt registerOf registerAt portOf memoryAt decode wrongCount wrongField firstField header badName nameTaken noSignal noExpr badBit badControl notZero badOptional isInput assigned targeted readInto driven badSignal badUnary badBinary late badConcat badKind badExpr badAssign badValue badReset badRegister badAddress badPort badSecond badMemory section records netlistNeed signalBits exprBits scratchNeed refuse checked
 too-small = refl
 
--- document 01's example
+-- the listing's example in docs/RULES.md
 listed : listing image Fine right ≡ text "nets 3 list 8\n0 input a\n1 not 0\n2 output y 1\nport a 0\nport y 2\n"
 unfolding _<?_ _≡?_ _or_ pick each listOf wordAt sizeOf offsetAt part field nameOf signalWidth nodeWord portLists portLength recordLength split recordsOf digits decimal line together kindWord bitName signalName registerName memoryName owned inputs netLine recordLine listing
 listed = refl

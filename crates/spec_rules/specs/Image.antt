@@ -1,4 +1,4 @@
--- The module image of document 01, in document 02's edition 2: its fields, header, sections and records, and the module that it stands for.
+-- The module image of docs/FORMATS.md: its fields, header, sections and records, and the module that it stands for.
 -- Readers are total: a byte past the end is 0. Assumes nothing.
 use Prim.Native.Nat.{ℕ, _+_, _*_, _^_, _/_, _%_}
 use mathlib.Core.List.{List, [], _∷_}

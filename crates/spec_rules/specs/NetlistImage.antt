@@ -1,4 +1,4 @@
--- The netlist image of document 01, read from its words alone: nodes, list records, and the netlist that they make.
+-- The netlist image of docs/FORMATS.md, read from its words alone: nodes, list records, and the netlist that they make.
 -- Readers are total: a word past the end is 0. Assumes nothing.
 use Prim.Native.Nat.{ℕ, zero, suc, _+_, _*_}
 use mathlib.Core.Bool.{Bool, false, not}

@@ -1,6 +1,6 @@
 // The answer of the walk's functions. What they hold between calls, and what each call gives, is in specs/.
 
-// Done, or a refusal of document 01 with its place: 6, 7, 8, 9, 10.
+// Done, or a refusal with its place: 6, 7, 8, 9, 10.
 pub enum Lowered {
     Done,
     Undriven(u32, u32),

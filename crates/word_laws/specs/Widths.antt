@@ -1,4 +1,4 @@
--- Well-formed expressions (document 01, Widths; operands have lower numbers), and that the word of each has its width. Assumes nothing.
+-- Well-formed expressions (docs/RULES.md, widths; operands have lower numbers), and that the word of each has its width. Assumes nothing.
 use mathlib.Core.Path.{_≡_, refl, sym, _∙_}
 use mathlib.Core.Bool.{Bool, true, false, not, cond}
 use mathlib.Core.List.{List, [], _∷_, map}
@@ -80,7 +80,7 @@ BinWidth R.ShiftL w a b = a ≡ w
 BinWidth R.ShiftR w a b = a ≡ w
 BinWidth R.ShiftA w a b = a ≡ w
 
--- document 01, Widths
+-- docs/RULES.md, widths
 abbrev pub WidthOk : (ℕ → ℕ) → ℕ → Kind → Type 0
 WidthOk g w (R.Signal s lsb) = Unit {0}
 WidthOk g w (R.Constant n) = Unit {0}

@@ -1,4 +1,4 @@
--- Worked cases of narrowing and fusion (document 01, K2 to K6, K11, K12; document 02, Q-5), by computation. Assumes nothing.
+-- Worked cases of narrowing and fusion (bench cases K2 to K6, K11, K12; request Q-5), by computation. Assumes nothing.
 use mathlib.Core.Path.{_≡_, refl}
 use mathlib.Core.List.{List, [], _∷_}
 use mathlib.Core.Option.{none, some}
