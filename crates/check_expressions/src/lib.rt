@@ -131,7 +131,12 @@ fn bad_binary_of(s: &[u8], r: u32, w: u32, a: u32, b: u32, c: u32) -> bool
     if is_late(r, c) {
         return true;
     }
-    bad_binary(a, w, image_fields::expr_width(s, b), image_fields::expr_width(s, c))
+    bad_binary(
+        a,
+        w,
+        image_fields::expr_width(s, b),
+        image_fields::expr_width(s, c),
+    )
 }
 
 fn bad_mux(s: &[u8], r: u32, w: u32, a: u32, b: u32, c: u32) -> bool

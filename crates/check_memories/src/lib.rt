@@ -110,7 +110,10 @@ fn bad_rest(s: &[u8], firsts: &[u32], taken: &[u8], r: u32) -> bool
     requires { ⌜ (Firsts (now s) (now firsts)) × (Marks (now s) (countAt (now s) 3) (countAt (now s) 4) r (now taken)) ⌝ }
     ensures { λ b. ⌜ b ≡ badRest (now (s .entry)) r ⌝ }
 {
-    let w = image_fields::signal_width(s, image_fields::record_field(s, 5, r, image_fields::FIRST_DATA));
+    let w = image_fields::signal_width(
+        s,
+        image_fields::record_field(s, 5, r, image_fields::FIRST_DATA),
+    );
     if bad_shape(s, r, w) {
         return true;
     }

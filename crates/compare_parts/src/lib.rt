@@ -16,12 +16,12 @@ ghost use Rattle.net_gates.specs.Nots.{PlainNots};
 ghost use Rattle.compare_parts.specs.Rows.{passing, Widened, carryWord, testWords, rowOf, PutRow, PutRows, Fused};
 ghost use Rattle.compare_parts.specs.Build.{someNet, poolWord, someNets, digestOf, gateOf, gateStep, arithmeticAt, arithmeticStep, comparisonAt, comparisonStep, inputStep, outputStep, wordStep, doneFor, stepOf, sequence, refusalWord, Ran, fitting, Tried};
 ghost use Rattle.compare_parts.specs.Steps.{Steps};
-use net_cells::ComparisonOp;
 use check_image::Checked;
-use net_fold::ArithmeticOp;
-use net_fold::Filled;
 use expr_fusion::Carry;
 use expr_fusion::Fusion;
+use net_cells::ComparisonOp;
+use net_fold::ArithmeticOp;
+use net_fold::Filled;
 use net_nodes::ABSENT;
 use net_nodes::Added;
 

@@ -11,9 +11,9 @@ ghost use Rattle.expr_range_rows.specs.Rows.{shown, known, Held};
 ghost use Rattle.expr_laws.specs.Exprs.{exprsOf, Readable};
 ghost use Rattle.expr_ranges.specs.Table.{rangeIn, putRow, filled};
 ghost use Rattle.expr_ranges.specs.Steps.{Row, Rows, RowList, TwoRows, MuxRows, SliceRow, partsRange, rangeBy, rowWidth, rowRange};
-use image_operators::OpClass;
 use expr_range_rows::Known;
 use expr_range_rows::Range;
+use image_operators::OpClass;
 use image_records::BinaryOp;
 use image_records::ExprKind;
 

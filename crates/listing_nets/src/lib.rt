@@ -102,7 +102,10 @@ fn memory_name(s: &[u8], out: &mut [u8], at: usize, m: u32, bit: u32) -> usize
     requires { ⌜ at ≤ length (now out) ⌝ }
     ensures { λ r. ⌜ Wrote (now (out .entry)) at (32 ∷ listing.memoryName (now (s .entry)) m bit) (now (out .exit)) r ⌝ }
 {
-    let w = image_fields::signal_width(s, image_fields::record_field(s, 5, m, image_fields::FIRST_DATA));
+    let w = image_fields::signal_width(
+        s,
+        image_fields::record_field(s, 5, m, image_fields::FIRST_DATA),
+    );
     let name = image_fields::name(s, 5, m);
     if bit < w {
         return bit_name(out, at, name, w, bit);

@@ -9,8 +9,8 @@ ghost use Rattle.net_view.specs.View.{netlistOf};
 ghost use Rattle.net_index.specs.Index.{Held};
 ghost use Rattle.net_cells.specs.Cells.{Ready, Makes, CellKey, compareOf};
 use net_cell_index::Found;
-use net_records::Pushed;
 use net_nodes::Added;
+use net_records::Pushed;
 
 // A new cell: its output nodes, its record, its place in the index. The first k words of the buffer are its key.
 pub fn add_cell(

@@ -11,9 +11,9 @@ ghost use Rattle.net_view.specs.View.{netlistOf, Built};
 ghost use Rattle.net_index.specs.Index.{isGate};
 ghost use Rattle.net_records.specs.Pushes.{Pushes};
 ghost use Rattle.net_ports.specs.Fills.{Runs, outputNode};
-use net_records::Pushed;
 use net_nodes::ABSENT;
 use net_nodes::Added;
+use net_records::Pushed;
 
 // Nodes of a kind and an owner for w bits from bit b on; the answer is the first.
 pub fn add_nodes(net: &mut [u32], n: u32, kind: u32, owner: u32, b: u32, w: u32) -> Added

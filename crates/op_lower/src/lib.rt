@@ -13,15 +13,15 @@ ghost use Rattle.net_fold.specs.Values.{opOf, Fills};
 ghost use Rattle.net_cells.specs.Cells.{compareOf};
 ghost use Rattle.op_makers.specs.Class.{classOf};
 ghost use Rattle.op_lower.specs.Operators.{unaryWidth, classWidth, Fit, lowerClass, logicNot, notEqual};
-use op_bits::Gate;
+use image_records::BinaryOp;
+use image_records::UnaryOp;
 use net_cells::ComparisonOp;
 use net_fold::ArithmeticOp;
 use net_fold::Filled;
 use net_nodes::ABSENT;
 use net_nodes::Added;
+use op_bits::Gate;
 use op_makers::Class;
-use image_records::BinaryOp;
-use image_records::UnaryOp;
 
 fn logic_not(net: &mut [u32], idx: &mut [u32], n: u32, xs: &mut [u32]) -> Filled
     requires { ⌜ (Held n (now net) (now idx)) × (0 < length (now xs)) ⌝ }

@@ -1,10 +1,10 @@
 // A binary operator by what makes it.
 ghost use mathlib.Core.Path.{_≡_};
 ghost use Rattle.op_makers.specs.Class.{classOf};
-use op_bits::Gate;
+use image_records::BinaryOp;
 use net_cells::ComparisonOp;
 use net_fold::ArithmeticOp;
-use image_records::BinaryOp;
+use op_bits::Gate;
 use op_shifts::ShiftKind;
 
 pub enum Class {

@@ -9,9 +9,9 @@ ghost use Rattle.net_view.specs.View.{netlistOf};
 ghost use Rattle.net_index.specs.Index.{Held};
 ghost use Rattle.net_fold.specs.Values.{Fills};
 ghost use Rattle.op_bits.specs.Kinds.{gateOf};
-use op_bits::Gate;
 use net_fold::Filled;
 use net_nodes::Added;
+use op_bits::Gate;
 
 // A level over the first len nets. Pair i gives net i; the odd net follows, if there is one (if not, it is past the new end).
 fn level(net: &mut [u32], idx: &mut [u32], n: u32, g: Gate, xs: &mut [u32], len: usize) -> Filled

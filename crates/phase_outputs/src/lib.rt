@@ -9,8 +9,8 @@ ghost use Rattle.law_walk.specs.Reads.{AllAfter};
 ghost use Rattle.walk_view.specs.View.{walkState, Ready, Sure, Phase};
 ghost use Rattle.phase_parts.specs.Ran.{Ran};
 ghost use Rattle.phase_outputs.specs.Outputs.{outputTurn, portTurn, lowered};
-use net_nodes::Added;
 use image_records::Direction;
+use net_nodes::Added;
 use walk_view::Lowered;
 
 fn answer(x: Added) -> Lowered

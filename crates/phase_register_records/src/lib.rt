@@ -10,10 +10,10 @@ ghost use Rattle.scratch_view.specs.View.{Laid};
 ghost use Rattle.walk_view.specs.View.{walkState, Ready, Sure};
 ghost use Rattle.phase_parts.specs.Ran.{Ran};
 ghost use Rattle.phase_register_records.specs.Registers.{bitsTurn, resetOf, ThereReset, There, WholeReset, Wholes, bitWords, fourWords, IsReset};
-use net_nodes::Constant;
 use image_records::Register;
 use image_records::Reset;
 use image_records::ResetOption;
+use net_nodes::Constant;
 use scratch_tables::ABSENT;
 use walk_view::Lowered;
 

@@ -12,8 +12,8 @@ ghost use Rattle.scratch_view.specs.View.{Laid, Writes};
 ghost use Rattle.net_nodes.specs.declared.Added.the-variants.{Net};
 ghost use Rattle.walk_view.specs.View.{walkState, Ready, Phase};
 ghost use Rattle.phase_sources.specs.Reserves.{Keeps, inputAt, outputsAt, dataAt};
-use net_nodes::Added;
 use image_records::Direction;
+use net_nodes::Added;
 use walk_view::Lowered;
 
 // ---- nets for one signal ----

@@ -233,7 +233,12 @@ fn entry_agrees(image: &mut [u8], netlist: &mut [u32], scratch: &mut [u32]) -> A
     io::read_full(0, &mut image[..padded]);
     let mut numbers = [0u8; 44];
     io::read_full(0, &mut numbers);
-    calls_agree(image_fields::stretch(image, 0, bytes), &numbers, netlist, scratch)
+    calls_agree(
+        image_fields::stretch(image, 0, bytes),
+        &numbers,
+        netlist,
+        scratch,
+    )
 }
 
 fn one_if(yes: bool) -> u32

@@ -17,7 +17,13 @@ pub extern "C" fn struo_check(
 )
     ensures { λ _. ⌜ now (answer .exit) ≡ numbersOf (checked (now (image .entry)) n p netlist scratch) ⌝ }
 {
-    *answer = lower_outcome::numbers(lower_outcome::of_check(check_image::check(image, n, p, netlist, scratch)));
+    *answer = lower_outcome::numbers(lower_outcome::of_check(check_image::check(
+        image,
+        n,
+        p,
+        netlist,
+        scratch,
+    )));
 }
 
 // Lowers a module image into the netlist image that the model gives, for net limit n and list limit p. The answer is the refusal's

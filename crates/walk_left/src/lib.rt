@@ -11,9 +11,9 @@ ghost use Rattle.scratch_view.specs.View.{limitOf, isWhole, stateOf, Laid};
 ghost use Rattle.walk_view.specs.declared.Lowered.the-variants as L;
 ghost use Rattle.walk_plan.specs.Plan.{bitsNeeds, BitsThere, rangeRest};
 ghost use Rattle.walk_left.specs.Left.{LeftOf, LeftIn, wholeRest, TurnThere, LeavesTurn, FirstTurn, Keeps};
+use scratch_tables::Known;
 use walk_plan::Need;
 use walk_plan::Turn;
-use scratch_tables::Known;
 use walk_view::Lowered;
 
 // What is left to lower before an expression: a need, the turn after it, and where the part of a Concat that this turn takes begins; or
@@ -75,7 +75,12 @@ pub fn range_left(image: &[u8], scr: &[u32], e: u32, lsb: u32, w: u32, k: u32, a
     if k == END {
         return Left::Build;
     }
-    left_by(image, scr, walk_plan::range_turn(image, e, lsb, w, k, at), k)
+    left_by(
+        image,
+        scr,
+        walk_plan::range_turn(image, e, lsb, w, k, at),
+        k,
+    )
 }
 
 // ---- what is there ----

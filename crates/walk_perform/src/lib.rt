@@ -17,10 +17,10 @@ ghost use Rattle.op_makers.specs.Class.{classOf};
 ghost use Rattle.op_lower.specs.Operators.{unaryWidth, classWidth, Fit};
 ghost use Rattle.walk_tasks.specs.Tasks.{taskMade, jobMade, Fits, JobFits};
 ghost use Rattle.walk_job_parts.specs.Widths.{madeWidth};
-use net_fold::ArithmeticOp;
-use net_fold::Filled;
 use image_records::BinaryOp;
 use image_records::UnaryOp;
+use net_fold::ArithmeticOp;
+use net_fold::Filled;
 use walk_tasks::Job;
 use walk_tasks::Task;
 

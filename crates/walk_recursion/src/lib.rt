@@ -10,11 +10,11 @@ ghost use Rattle.image_records.specs.Others.{enableMeans};
 ghost use Rattle.phase_parts.specs.Parts.{ThereControl};
 ghost use Rattle.walk_recursion.specs.declared.Part.the-variants as P;
 ghost use Rattle.walk_recursion.specs.Walk.{ThereNeed, GivesNeed, Begun, Turns};
-use walk_plan::Need;
 use image_records::Enable;
 use scratch_tables::Driver;
 use scratch_tables::Known;
 use walk_left::Left;
+use walk_plan::Need;
 use walk_view::Lowered;
 
 // An expression, or a range of it (lsb, width).
