@@ -38,7 +38,6 @@ if any("@" in l for a in answers.values() for l in a):
 out, i = [], 0
 while i < len(src):
     l = src[i]
-    m = re.match(r"(\S+) (\S+ )*=", l)
     name = l.split()[0] if l.strip() and not l.startswith((" ", "-", "use", "abbrev", "pub")) else None
     if name in answers and re.match(re.escape(name) + r"( \S+)* =", l):
         if name in unf:

@@ -19,13 +19,12 @@ add("borrow.Author.Tests", "ne-eqb eq-eqb lt-ltb le-ltb eqb-true eqb-false ltb-t
 add("denote.Ref", "now")
 add("lib.ListN", "length getD set length-set")
 add("lib.Seq", "getD-set-same getD-set-other")
-for mod, path in [("Rattle.rules.specs.Rules", "crates/rules/specs/Rules.antt"), ("Rattle.rules.specs.Laws", "crates/rules/specs/Laws.antt"), ("Rattle.meaning.specs.Image", "crates/meaning/specs/Image.antt"), ("Rattle.meaning.specs.Checks", "crates/meaning/specs/Checks.antt")]:
-    for n in re.findall(r"^(?:unfoldable |abbrev )?pub (?:record |data )?(\S+)", open(path).read(), re.M): IMP.setdefault(n, mod)
 import glob
-for path in sorted(glob.glob("crates/*/specs/*.antt"), key=lambda q: q.split("/")[1] != crate):
-    c = path.split("/")[1]
-    if c in ("rules", "meaning", "model", "rtl"): continue
-    m = path.split("/")[-1][:-5]
+# the definitions first, then the crate's own specs, then those of the others
+FIRST = ["crates/spec_tests/specs/Rules.antt", "crates/spec_tests/specs/Laws.antt", "crates/spec_rules/specs/Image.antt", "crates/spec_rules/specs/Checks.antt"]
+others = [q for q in sorted(glob.glob("crates/*/specs/*.antt"), key=lambda q: q.split("/")[1] != crate) if not q.split("/")[1].startswith("spec_")]
+for path in FIRST + others:
+    c, m = path.split("/")[1], path.split("/")[-1][:-5]
     mod = f"Rattle.{c}.specs.{m}" if c == crate else f"Rattle.{c}.specs.{m}"
     for n in re.findall(r"^(?:unfoldable |abbrev )?pub (?:record |data )?(\S+)", open(path).read(), re.M):
         if n != "mod": IMP.setdefault(n, mod)
@@ -77,7 +76,6 @@ for fn, ls in blocks:
     if not body[0].startswith("-- `"): body.insert(0, f"-- `{crate}::{fn}` meets its contract. Assumes nothing.\n")
     text = "\n".join(l for l in body if not l.startswith("-- `"))
     words = set(re.findall(r"[^\s(),{};]+", text))
-    bound = set()
     mods = {}
     for n, m in IMP.items():
         hit = False

@@ -1,83 +1,103 @@
 #!/usr/bin/env python3
-"""Gives crates other names, in texts and, where asked, in crates/ and crates.txt.
+"""Translates a draft that was written against former names of crates: rename.py LIST PATH..
 
-proof-tools/rename.py LIST PATH..      translates the files under each PATH in place: code, specs, proofs and edits (`Rattle.NAME`, `NAME::`),
-                                       pages and scripts besides these (crates/NAME, NAME/specs, `NAME`, `NAME.law`)
-proof-tools/rename.py LIST --crates    moves the folders of crates/ and translates crates.txt
+Changes the files under each PATH in place, and moves folders crates/FORMER. LIST has a line `former present` for each name; lines that begin
+with # are comments. A name may stand on both sides, so translate a draft once.
 
-LIST has a line `former present` for each name; lines that begin with # are comments. A name may stand on both sides: a text is read once.
-Bare names in backticks are translated in pages only, where each is printed: a field or a function may have the same name as a crate.
+  everywhere            `Rattle.NAME`, `NAME::`, crates/NAME, NAME/specs, NAME/File, `rt check NAME..`, calls-NAME·f
+  lists crates.txt*     every word of the lines that are no comments
+  pages and scripts     also `NAME`, `NAME.law` and `NAME/edit` in backticks; each such line is printed, since a field or a function may have
+                        the same name as a crate
 """
 import os
 import re
 import sys
 
-CODE = (".rt", ".antt", ".edit")
-PAGES = (".md", ".txt.part", "")
+CODE = (".rt", ".antt", ".edit", ".patch", ".diff")
+WORD = re.compile(r"[A-Za-z0-9_]+")
+CALLED = re.compile(r"(?<=\bcalls-)[a-z0-9-]+(?=·)")
+COMMAND = re.compile(r"(?<=\brt )(check|dev|staticlib)((?: [a-z0-9_]+)+)")
 
 
-def pairs(path):
+def read_names(path):
     with open(path, encoding="utf-8") as opened:
-        lines = [line.split() for line in opened if line.strip() and not line.startswith("#")]
-    return dict(lines)
+        return dict(line.split() for line in opened if line.strip() and not line.startswith("#"))
 
 
-class Renamed:
+class Names:
     def __init__(self, names):
         self.names = names
-        one = "(" + "|".join(sorted(map(re.escape, names), key=len, reverse=True)) + ")"
-        self.module = re.compile(rf"Rattle.{one}(?![A-Za-z0-9_])")
-        self.path = re.compile(rf"(?<![A-Za-z0-9_:.·]){one}(?=::)")
-        self.folder = re.compile(rf"(?<=crates/){one}(?![A-Za-z0-9_])|(?<![\w/.-]){one}(?=/(?:specs|src|proofs|must-fail)\b)")
-        self.quoted = re.compile(rf"(?<=`){one}(?=`|\.(?!r[st]\b)[A-Za-z]|/[a-z])")
+        one = "(?:" + "|".join(sorted(map(re.escape, names), key=len, reverse=True)) + ")"
+        code = [
+            rf"(?<=Rattle·){one}(?![A-Za-z0-9_])",
+            rf"(?<![A-Za-z0-9_:.·]){one}(?=::)",
+            rf"(?<=crates/){one}(?![A-Za-z0-9_])",
+            rf"(?<![\w/.-]){one}(?=/(?:(?:specs|src|proofs|must-fail)\b|[A-Z]))",
+        ]
+        self.code = re.compile("|".join(code))
+        self.page = re.compile("|".join([*code, rf"(?<=`){one}(?=`|\.(?!r[st]\b)[A-Za-z]|/[a-z])"]))
 
-    def new(self, match):
-        return self.names[next(group for group in match.groups() if group)]
+    def words(self, text):
+        return WORD.sub(lambda match: self.names.get(match.group(), match.group()), text)
 
-    def code(self, text):
-        text = self.module.sub(lambda match: "Rattle·" + self.new(match), text)
-        return self.folder.sub(self.new, self.path.sub(self.new, text))
+    def listed(self, line):
+        """A line of crates.txt; crates that became one stand there once."""
+        return " ".join(dict.fromkeys(self.words(line).split()))
 
-    def page(self, text, where):
-        lines = self.code(text).split("\n")
+    def line(self, pattern, line):
+        """A line in which each name is read once."""
+        line = pattern.sub(lambda match: self.names[match.group()], line)
+        line = CALLED.sub(lambda match: self.words(match.group().replace("-", "_")).replace("_", "-"), line)
+        return COMMAND.sub(lambda match: match.group(1) + self.words(match.group(2)), line)
+
+    def translated(self, path, text):
+        lines = text.split("\n")
+        if os.path.basename(path).startswith("crates.txt"):
+            return "\n".join(line if line.startswith("#") else self.listed(line) for line in lines)
+        if path.endswith(CODE):
+            return "\n".join(self.line(self.code, line) for line in lines)
         for number, line in enumerate(lines, 1):
-            lines[number - 1] = self.quoted.sub(self.new, line)
-            if lines[number - 1] != line:
-                print(f"{where}:{number}: {lines[number - 1]}")
+            lines[number - 1] = self.line(self.page, line)
+            if lines[number - 1] != self.line(self.code, line):
+                print(f"{path}:{number}: {lines[number - 1]}")
         return "\n".join(lines)
 
     def file(self, path):
-        with open(path, encoding="utf-8") as opened:
-            try:
+        try:
+            with open(path, encoding="utf-8") as opened:
                 text = opened.read()
-            except UnicodeDecodeError:
-                return
-        changed = self.code(text) if path.endswith(CODE) else self.page(text, path)
+        except UnicodeDecodeError:
+            return
+        changed = self.translated(path, text)
         if changed != text:
             with open(path, "w", encoding="utf-8") as opened:
                 opened.write(changed)
 
-    def crates(self):
-        for former in self.names:
-            os.rename(f"crates/{former}", f"crates/.{former}")
-        for former, present in self.names.items():
-            os.rename(f"crates/.{former}", f"crates/{present}")
-        with open("crates.txt", encoding="utf-8") as opened:
-            lines = opened.read().split("\n")
-        word = re.compile(r"[A-Za-z0-9_]+")
-        lines = [line if line.startswith("#") else word.sub(lambda match: self.names.get(match.group(), match.group()), line) for line in lines]
-        with open("crates.txt", "w", encoding="utf-8") as opened:
-            opened.write("\n".join(lines))
+    def move(self, crates):
+        """Moves the folders of a folder crates/."""
+        former = [name for name in os.listdir(crates) if name in self.names]
+        for name in former:
+            os.rename(f"{crates}/{name}", f"{crates}/.{name}")
+        for name in former:
+            present = f"{crates}/{self.names[name]}"
+            if os.path.exists(present):
+                print(f"{crates}/.{name}: not moved, {present} is there")
+            else:
+                os.rename(f"{crates}/.{name}", present)
 
 
 def main():
-    renamed = Renamed(pairs(sys.argv[1]))
-    if sys.argv[2:] == ["--crates"]:
-        return renamed.crates()
+    if len(sys.argv) < 3:
+        sys.exit(__doc__.strip())
+    names = Names(read_names(sys.argv[1]))
     for path in sys.argv[2:]:
-        found = [path] if os.path.isfile(path) else [os.path.join(folder, file) for folder, _, files in os.walk(path) for file in files]
-        for file in found:
-            renamed.file(file)
+        if os.path.isfile(path):
+            names.file(path)
+        for folder, _, files in os.walk(path, topdown=False):
+            for file in files:
+                names.file(os.path.join(folder, file))
+            if os.path.basename(os.path.abspath(folder)) == "crates":
+                names.move(folder)
 
 
 main()

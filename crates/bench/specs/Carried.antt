@@ -20,7 +20,7 @@ use Rattle.spec_model.specs.Lowering.{lower}
 use Rattle.spec_call.specs.Call.{outcome, imageOf, numbersOf}
 use Rattle.check_image.specs.Checked.{then-fine, then-refused, then-both, refuse-yes, refuse-no}
 use Rattle.law_call.specs.Further.{Whole, netlist-same}
-use Rattle.bench.specs.Row.{Question, Numbers, Nets, AdderWidths, Carries, Outputs, ResetValue, outputNumber, reply, Row, words, room, Shows, Refuses, Holds, Promised}
+use Rattle.bench.specs.Row.{Question, Numbers, Nets, AdderWidths, Carries, Outputs, ResetValue, outputNumber, reply, Row, words, room, Shows, Refuses, RowHolds, Promised}
 
 -- ---- a row computed from the image's bytes ----
 
@@ -196,7 +196,7 @@ module _ (r : Row) (e : seen r ≡ said r) where
         let e : p .given ≡ Refused n 0 0 = p .kept .answered ∙ rw q in
         record { refused = p .numbers ∙ ap numbersOf e; same-buffer = p .kept .leftBuffer ∙ rw q; same-scratch = p .kept .leftScratch ∙ rw q }
 
-pub carried : (r : Row) → seen r ≡ said r → Holds r (Promised r)
+pub carried : (r : Row) → seen r ≡ said r → RowHolds r (Promised r)
 carried r e = record {
   long = λ buffer scratch answer buffer′ scratch′ h k p. shows r e buffer scratch answer buffer′ scratch′ p h k;
   short-buffer = λ buffer scratch answer buffer′ scratch′ h p. refuses r e buffer scratch answer buffer′ scratch′ p 2 (checks-short (r .image) (r .limits .0) (r .limits .1) (fine r e) _ _ h);

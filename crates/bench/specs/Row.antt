@@ -78,7 +78,7 @@ pub record Refuses (n : ℕ) (buffer scratch answer buffer′ scratch′ : List 
 
 -- a row holds of every call in `Called`, a relation of both buffers at entry, the answer's numbers and both buffers at exit: with buffers
 -- that are long enough it shows what the row says; with shorter ones it is refused under 2 or 5
-pub record Holds (r : Row) (Called : List ℕ → List ℕ → List ℕ → List ℕ → List ℕ → Type 0) : Type 0 where
+pub record RowHolds (r : Row) (Called : List ℕ → List ℕ → List ℕ → List ℕ → List ℕ → Type 0) : Type 0 where
   pub long : (buffer scratch answer buffer′ scratch′ : List ℕ) → words r ≤ length buffer → room r ≤ length scratch
       → Called buffer scratch answer buffer′ scratch′ → Shows r buffer scratch answer buffer′ scratch′
   pub short-buffer : (buffer scratch answer buffer′ scratch′ : List ℕ) → length buffer < words r

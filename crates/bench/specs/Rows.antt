@@ -4,26 +4,10 @@
 use Prim.Native.Nat.{ℕ, _+_, _*_}
 use mathlib.Core.List.{List, [], _∷_}
 use mathlib.Core.Path.{_≡_, refl}
-use Rattle.spec_tests.specs.Rules as Rules
-use Rattle.spec_rules.specs.Image as Image
-use Rattle.spec_rules.specs.Checks as Checks
-use Rattle.spec_rules.specs.NetlistImage as NetlistImage
-use Rattle.spec_model.specs.Words as Words
-use Rattle.spec_model.specs.Builder as Builder
-use Rattle.spec_model.specs.WordCells as WordCells
-use Rattle.spec_model.specs.Ranges as Ranges
-use Rattle.spec_model.specs.Lowering as Lowering
-use Rattle.spec_call.specs.Call as Call
-use Rattle.bench_cases.specs.Images as Images
-use Rattle.bench.specs.Row as Row
-use Rattle.bench.specs.Row.{Numbers, Nets, AdderWidths, Carries, Outputs, ResetValue, Holds}
-use Rattle.bench.specs.Carried as Carried
-use Rattle.bench.specs.Carried.{seen, said, carried}
-
--- to open this is to open every definition that a row computes
-computing : ℕ
-unfolding Rules._<?_ Rules._≡?_ Rules._≢?_ Rules._or_ Rules._and_ Rules.pick Rules.outside Rules.upTo Rules.first Rules.any Rules.sumTo Rules.each Rules.listOf Rules.only Rules.sameText Rules.andThen Image.wordAt Image.sizeOf Image.mostOf Image.countAt Image.offsetAt Image.bytesOf Image.startOf Image.part Image.field Image.listWord Image.nameOf Image.signalWidth Image.exprWidth Image.direction Image.unaryOf Image.binaryOf Image.constantWords Image.constantOf Image.kindOf Image.controlOf Image.optional Image.signalAt Image.exprAt Image.assignAt Image.registerOf Image.registerAt Image.portOf Image.memoryAt Image.decode Checks.wrongCount Checks.wrongField Checks.firstField Checks.header Checks.badName Checks.nameTaken Checks.noSignal Checks.noExpr Checks.badBit Checks.badControl Checks.notZero Checks.badOptional Checks.isInput Checks.assigned Checks.targeted Checks.readInto Checks.driven Checks.badSignal Checks.badUnary Checks.badBinary Checks.late Checks.badConcat Checks.badKind Checks.badExpr Checks.badAssign Checks.badValue Checks.badReset Checks.badRegister Checks.badAddress Checks.badPort Checks.badSecond Checks.badMemory Checks.section Checks.records Checks.netlistNeed Checks.signalBits Checks.exprBits Checks.scratchNeed Checks.refuse Checks.checked NetlistImage.nodeWord NetlistImage.nodeOf NetlistImage.nodeAt NetlistImage.portLists NetlistImage.portLength NetlistImage.recordLength NetlistImage.split NetlistImage.recordsOf NetlistImage.recordsWith NetlistImage.registerBitOf NetlistImage.memoryPortOf NetlistImage.memoryOf NetlistImage.arithmeticOf NetlistImage.comparisonOf NetlistImage.outPortOf NetlistImage.notOutput NetlistImage.isOutputPort NetlistImage.netlist Words.used Words.count Words.words Builder.addNode Builder.push Builder.nodeForNet Builder.constantValue Builder.same Builder.find Builder.addCached Builder.addConstant Builder.addNot Builder.addAnd Builder.addOr Builder.addXor Builder.addMux Builder.each Builder.both Builder.from Builder.addNodes Builder.addRecorded Builder.addInputPort Builder.addOutputPort Builder.constantValues Builder.foldConstantArithmetic Builder.addArithmetic Builder.addComparison WordCells.begins WordCells.findCell WordCells.arithmetic WordCells.comparison Ranges.binaryRange Ranges.rangeAt Ranges.adderWidth Lowering.level Lowering.levels Lowering.reduceTree Lowering.addEqual Lowering.equalWords Lowering.stages Lowering.shift Lowering.lowerUnary Lowering.lowerBinary Lowering.isZeroExpression Lowering.carryLsb Lowering.addOperands Lowering.operandsOf Lowering.setSignalBit Lowering.setSignal Lowering.mark Lowering.setWhole Lowering.whole Lowering.setRange Lowering.signalBit Lowering.signalNet Lowering.signalNets Lowering.wholeNets Lowering.wholeNet Lowering.rangeNets Lowering.rangeKnown Lowering.signalSteps Lowering.wholeSteps Lowering.pieces Lowering.concatPieces Lowering.rangeSteps Lowering.buildBinary Lowering.buildWhole Lowering.buildRange Lowering.lowerSteps Lowering.driverOf Lowering.drive Lowering.resolveSignalBit Lowering.keepWhole Lowering.lowerExpression Lowering.keepRange Lowering.lowerExpressionRange Lowering.lowerNeed Lowering.plenty Lowering.lowerAll Lowering.start Lowering.reserveInputs Lowering.reserveRegisters Lowering.reserveMemories Lowering.reserveSources Lowering.connectMemories Lowering.registerBits Lowering.connectRegisters Lowering.connectOutputs Lowering.lowerState Lowering.expressionNet Lowering.lowerWith Lowering.lower Call.outcome Call.imageOf Call.numbersOf Row.reply Carried.required Carried.whole Carried.seenIn
-computing = 0
+use Rattle.bench.specs.Images as Images
+use Rattle.bench.specs.Row.{Row, Numbers, Nets, AdderWidths, Carries, Outputs, ResetValue}
+use Rattle.bench.specs.Carried.{seen, said}
+use Rattle.bench.specs.Computing.{computing}
 
 abbrev pub accepted : List ℕ
 accepted = 0 ∷ 0 ∷ 0 ∷ []
@@ -37,7 +21,7 @@ counts nets used N ports registers memories arithmetic comparisons =
 abbrev pub blank : List ℕ
 blank = 0 ∷ 0 ∷ 0 ∷ 0 ∷ 0 ∷ 0 ∷ 0 ∷ 0 ∷ 0 ∷ 0 ∷ 0 ∷ 0 ∷ 0 ∷ 0 ∷ 0 ∷ 0 ∷ []
 
-abbrev pub k1 : Row.Row
+abbrev pub k1 : Row
 k1 = record {
   name = "K1";
   text = "no records: accepted, 0 nets";
@@ -50,14 +34,11 @@ k1 = record {
   header = counts 0 0 1 0 0 0 0 0;
 }
 
-k1-seen : seen k1 ≡ said k1
+pub k1-seen : seen k1 ≡ said k1
 unfolding computing
 k1-seen = refl
 
-pub k1-holds : Holds k1 (Row.Promised k1)
-k1-holds = carried k1 k1-seen
-
-abbrev pub k2 : Row.Row
+abbrev pub k2 : Row
 k2 = record {
   name = "K2";
   text = "8-bit Add of two zero-extended 4-bit words: cell width 5";
@@ -70,14 +51,11 @@ k2 = record {
   header = counts 22 44 22 3 0 0 1 0;
 }
 
-k2-seen : seen k2 ≡ said k2
+pub k2-seen : seen k2 ≡ said k2
 unfolding computing
 k2-seen = refl
 
-pub k2-holds : Holds k2 (Row.Promised k2)
-k2-holds = carried k2 k2-seen
-
-abbrev pub k3 : Row.Row
+abbrev pub k3 : Row
 k3 = record {
   name = "K3";
   text = "8-bit 0 + 0: cell width 1";
@@ -90,14 +68,11 @@ k3 = record {
   header = counts 9 11 9 1 0 0 0 0;
 }
 
-k3-seen : seen k3 ≡ said k3
+pub k3-seen : seen k3 ≡ said k3
 unfolding computing
 k3-seen = refl
 
-pub k3-holds : Holds k3 (Row.Promised k3)
-k3-holds = carried k3 k3-seen
-
-abbrev pub k3-sum : Row.Row
+abbrev pub k3-sum : Row
 k3-sum = record {
   name = "K3";
   text = "8-bit 0 + 0";
@@ -110,14 +85,11 @@ k3-sum = record {
   header = counts 9 11 9 1 0 0 0 0;
 }
 
-k3-sum-seen : seen k3-sum ≡ said k3-sum
+pub k3-sum-seen : seen k3-sum ≡ said k3-sum
 unfolding computing
 k3-sum-seen = refl
 
-pub k3-sum-holds : Holds k3-sum (Row.Promised k3-sum)
-k3-sum-holds = carried k3-sum k3-sum-seen
-
-abbrev pub k3′ : Row.Row
+abbrev pub k3′ : Row
 k3′ = record {
   name = "K3'";
   text = "8-bit 0 + 0: cell width 1";
@@ -130,14 +102,11 @@ k3′ = record {
   header = counts 31 77 31 2 0 0 2 0;
 }
 
-k3′-seen : seen k3′ ≡ said k3′
+pub k3′-seen : seen k3′ ≡ said k3′
 unfolding computing
 k3′-seen = refl
 
-pub k3′-holds : Holds k3′ (Row.Promised k3′)
-k3′-holds = carried k3′ k3′-seen
-
-abbrev pub k4 : Row.Row
+abbrev pub k4 : Row
 k4 = record {
   name = "K4";
   text = "8-bit 254 + 1: width 8, not narrowed";
@@ -150,14 +119,11 @@ k4 = record {
   header = counts 10 11 10 1 0 0 0 0;
 }
 
-k4-seen : seen k4 ≡ said k4
+pub k4-seen : seen k4 ≡ said k4
 unfolding computing
 k4-seen = refl
 
-pub k4-holds : Holds k4 (Row.Promised k4)
-k4-holds = carried k4 k4-seen
-
-abbrev pub k4-sum : Row.Row
+abbrev pub k4-sum : Row
 k4-sum = record {
   name = "K4";
   text = "8-bit 254 + 1";
@@ -170,14 +136,11 @@ k4-sum = record {
   header = counts 10 11 10 1 0 0 0 0;
 }
 
-k4-sum-seen : seen k4-sum ≡ said k4-sum
+pub k4-sum-seen : seen k4-sum ≡ said k4-sum
 unfolding computing
 k4-sum-seen = refl
 
-pub k4-sum-holds : Holds k4-sum (Row.Promised k4-sum)
-k4-sum-holds = carried k4-sum k4-sum-seen
-
-abbrev pub k4′ : Row.Row
+abbrev pub k4′ : Row
 k4′ = record {
   name = "K4'";
   text = "8-bit 254 + 1: width 8, not narrowed";
@@ -190,14 +153,11 @@ k4′ = record {
   header = counts 38 98 38 2 0 0 2 0;
 }
 
-k4′-seen : seen k4′ ≡ said k4′
+pub k4′-seen : seen k4′ ≡ said k4′
 unfolding computing
 k4′-seen = refl
 
-pub k4′-holds : Holds k4′ (Row.Promised k4′)
-k4′-holds = carried k4′ k4′-seen
-
-abbrev pub k5 : Row.Row
+abbrev pub k5 : Row
 k5 = record {
   name = "K5";
   text = "64-bit Add of zero-extended 32-bit words: 33";
@@ -210,14 +170,11 @@ k5 = record {
   header = counts 162 240 162 3 0 0 1 0;
 }
 
-k5-seen : seen k5 ≡ said k5
+pub k5-seen : seen k5 ≡ said k5
 unfolding computing
 k5-seen = refl
 
-pub k5-holds : Holds k5 (Row.Promised k5)
-k5-holds = carried k5 k5-seen
-
-abbrev pub k6 : Row.Row
+abbrev pub k6 : Row
 k6 = record {
   name = "K6";
   text = "at 65 bits: not narrowed";
@@ -230,14 +187,11 @@ k6 = record {
   header = counts 195 337 195 3 0 0 1 0;
 }
 
-k6-seen : seen k6 ≡ said k6
+pub k6-seen : seen k6 ≡ said k6
 unfolding computing
 k6-seen = refl
 
-pub k6-holds : Holds k6 (Row.Promised k6)
-k6-holds = carried k6 k6-seen
-
-abbrev pub k7 : Row.Row
+abbrev pub k7 : Row
 k7 = record {
   name = "K7";
   text = "8-bit signed 128 below 127: 1; unsigned: 0";
@@ -250,14 +204,11 @@ k7 = record {
   header = counts 6 48 6 2 0 0 0 2;
 }
 
-k7-seen : seen k7 ≡ said k7
+pub k7-seen : seen k7 ≡ said k7
 unfolding computing
 k7-seen = refl
 
-pub k7-holds : Holds k7 (Row.Promised k7)
-k7-holds = carried k7 k7-seen
-
-abbrev pub k8 : Row.Row
+abbrev pub k8 : Row
 k8 = record {
   name = "K8";
   text = "8-bit arithmetic right shift of 128 by 8: 255; by 7: 255; by 6: 254";
@@ -270,14 +221,11 @@ k8 = record {
   header = counts 26 33 26 3 0 0 0 0;
 }
 
-k8-seen : seen k8 ≡ said k8
+pub k8-seen : seen k8 ≡ said k8
 unfolding computing
 k8-seen = refl
 
-pub k8-holds : Holds k8 (Row.Promised k8)
-k8-holds = carried k8 k8-seen
-
-abbrev pub k9 : Row.Row
+abbrev pub k9 : Row
 k9 = record {
   name = "K9";
   text = "s (2 bits) = {s[0], a}, s an output: 7, signal s, bit 0";
@@ -290,14 +238,11 @@ k9 = record {
   header = blank;
 }
 
-k9-seen : seen k9 ≡ said k9
+pub k9-seen : seen k9 ≡ said k9
 unfolding computing
 k9-seen = refl
 
-pub k9-holds : Holds k9 (Row.Promised k9)
-k9-holds = carried k9 k9-seen
-
-abbrev pub k10 : Row.Row
+abbrev pub k10 : Row
 k10 = record {
   name = "K10";
   text = "reset value 1 + 1 on 8 bits: 8, bit 0";
@@ -310,14 +255,11 @@ k10 = record {
   header = counts 20 123 20 3 8 0 0 0;
 }
 
-k10-seen : seen k10 ≡ said k10
+pub k10-seen : seen k10 ≡ said k10
 unfolding computing
 k10-seen = refl
 
-pub k10-holds : Holds k10 (Row.Promised k10)
-k10-holds = carried k10 k10-seen
-
-abbrev pub k10-sum : Row.Row
+abbrev pub k10-sum : Row
 k10-sum = record {
   name = "K10";
   text = "reset value 1 + 1 on 8 bits";
@@ -330,14 +272,11 @@ k10-sum = record {
   header = counts 20 123 20 3 8 0 0 0;
 }
 
-k10-sum-seen : seen k10-sum ≡ said k10-sum
+pub k10-sum-seen : seen k10-sum ≡ said k10-sum
 unfolding computing
 k10-sum-seen = refl
 
-pub k10-sum-holds : Holds k10-sum (Row.Promised k10-sum)
-k10-sum-holds = carried k10-sum k10-sum-seen
-
-abbrev pub k10′ : Row.Row
+abbrev pub k10′ : Row
 k10′ = record {
   name = "K10'";
   text = "reset value 1 + 1 on 8 bits: 8, bit 0";
@@ -350,14 +289,11 @@ k10′ = record {
   header = blank;
 }
 
-k10′-seen : seen k10′ ≡ said k10′
+pub k10′-seen : seen k10′ ≡ said k10′
 unfolding computing
 k10′-seen = refl
 
-pub k10′-holds : Holds k10′ (Row.Promised k10′)
-k10′-holds = carried k10′ k10′-seen
-
-abbrev pub k11 : Row.Row
+abbrev pub k11 : Row
 k11 = record {
   name = "K11";
   text = "(a + b) + {0, c}: one cell with carry";
@@ -370,14 +306,11 @@ k11 = record {
   header = counts 9 29 9 4 0 0 1 0;
 }
 
-k11-seen : seen k11 ≡ said k11
+pub k11-seen : seen k11 ≡ said k11
 unfolding computing
 k11-seen = refl
 
-pub k11-holds : Holds k11 (Row.Promised k11)
-k11-holds = carried k11 k11-seen
-
-abbrev pub k12 : Row.Row
+abbrev pub k12 : Row
 k12 = record {
   name = "K12";
   text = "(a + b) + {c, 0}: two cells";
@@ -390,9 +323,6 @@ k12 = record {
   header = counts 12 39 12 4 0 0 2 0;
 }
 
-k12-seen : seen k12 ≡ said k12
+pub k12-seen : seen k12 ≡ said k12
 unfolding computing
 k12-seen = refl
-
-pub k12-holds : Holds k12 (Row.Promised k12)
-k12-holds = carried k12 k12-seen

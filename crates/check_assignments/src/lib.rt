@@ -11,56 +11,64 @@ ghost use Rattle.check_drivers.specs.Bits.{Firsts, Marks};
 ghost use Rattle.check_assignments.specs.Assign.{badAssignOf};
 
 // An assignment of w bits of signal p from at on by expression e breaks a rule; the bits that the assignments before it drive are marked.
-fn bad_assign_of(s: &[u8], firsts: &[u32], taken: &[u8], p: u32, at: u32, w: u32, e: u32) -> bool
-    requires { ⌜ (Firsts (now s) (now firsts)) × (signalBits (now s) ≤ length (now taken)) ⌝ }
-    ensures { λ b. ⌜ ((r : ℕ) → Marks (now (s .entry)) r 0 0 (now (taken .entry)) → b ≡ badAssignOf (now (s .entry)) r p at w e) ⌝ }
+fn bad_assign_of(
+    image: &[u8],
+    firsts: &[u32],
+    taken: &[u8],
+    p: u32,
+    at: u32,
+    w: u32,
+    e: u32,
+) -> bool
+    requires { ⌜ (Firsts (now image) (now firsts)) × (signalBits (now image) ≤ length (now taken)) ⌝ }
+    ensures { λ b. ⌜ ((r : ℕ) → Marks (now (image .entry)) r 0 0 (now (taken .entry)) → b ≡ badAssignOf (now (image .entry)) r p at w e) ⌝ }
 {
-    if check_references::no_signal(s, p) {
+    if check_references::no_signal(image, p) {
         return true;
     }
     if image_fields::is_outside(w, 1, 1024) {
         return true;
     }
-    if check_references::below_sum(image_fields::signal_width(s, p), at, w) {
+    if check_references::below_sum(image_fields::signal_width(image, p), at, w) {
         return true;
     }
-    if check_references::no_expr(s, e) {
+    if check_references::no_expr(image, e) {
         return true;
     }
-    if image_fields::expr_width(s, e) != w {
+    if image_fields::expr_width(image, e) != w {
         return true;
     }
-    if check_drivers::is_input(s, p) {
+    if check_drivers::is_input(image, p) {
         return true;
     }
-    check_drivers::is_assigned(s, firsts, taken, p, at, w)
+    check_drivers::is_assigned(image, firsts, taken, p, at, w)
 }
 
 // Assignment record r breaks a rule; the bits of one that breaks none are marked.
-fn check_assign(s: &[u8], firsts: &[u32], taken: &mut [u8], r: u32) -> bool
-    requires { ⌜ (Firsts (now s) (now firsts)) × (Marks (now s) r 0 0 (now taken)) ⌝ }
-    ensures { λ b. ⌜ (b ≡ badAssign (now (s .entry)) r) × (b ≡ false → Marks (now (s .entry)) (r + 1) 0 0 (now (taken .exit))) ⌝ }
+fn check_assign(image: &[u8], firsts: &[u32], taken: &mut [u8], r: u32) -> bool
+    requires { ⌜ (Firsts (now image) (now firsts)) × (Marks (now image) r 0 0 (now taken)) ⌝ }
+    ensures { λ b. ⌜ (b ≡ badAssign (now (image .entry)) r) × (b ≡ false → Marks (now (image .entry)) (r + 1) 0 0 (now (taken .exit))) ⌝ }
 {
-    let p = image_fields::record_field(s, 3, r, 0);
-    let at = image_fields::record_field(s, 3, r, 1);
-    let w = image_fields::record_field(s, 3, r, 2);
-    let e = image_fields::record_field(s, 3, r, 3);
-    if bad_assign_of(s, firsts, taken, p, at, w, e) {
+    let p = image_fields::record_field(image, image_fields::ASSIGNMENTS, r, 0);
+    let at = image_fields::record_field(image, image_fields::ASSIGNMENTS, r, 1);
+    let w = image_fields::record_field(image, image_fields::ASSIGNMENTS, r, 2);
+    let e = image_fields::record_field(image, image_fields::ASSIGNMENTS, r, 3);
+    if bad_assign_of(image, firsts, taken, p, at, w, e) {
         return true;
     }
-    check_drivers::mark_bits(s, firsts, taken, p, at, w);
+    check_drivers::mark_bits(image, firsts, taken, p, at, w);
     false
 }
 
 // The first assignment record that breaks a rule, and the number of records where none does: then the bits of all are marked.
-pub fn first_assign(s: &[u8], firsts: &[u32], taken: &mut [u8]) -> u32
-    requires { ⌜ (Firsts (now s) (now firsts)) × (Marks (now s) 0 0 0 (now taken)) ⌝ }
-    ensures { λ r. ⌜ (r ≡ first (badAssign (now (s .entry))) (countAt (now (s .entry)) 3)) × (countAt (now (s .entry)) 3 ≤ r → Marks (now (s .entry)) (countAt (now (s .entry)) 3) 0 0 (now (taken .exit))) ⌝ }
+pub fn first_assign(image: &[u8], firsts: &[u32], taken: &mut [u8]) -> u32
+    requires { ⌜ (Firsts (now image) (now firsts)) × (Marks (now image) 0 0 0 (now taken)) ⌝ }
+    ensures { λ r. ⌜ (r ≡ first (badAssign (now (image .entry))) (countAt (now (image .entry)) 3)) × (countAt (now (image .entry)) 3 ≤ r → Marks (now (image .entry)) (countAt (now (image .entry)) 3) 0 0 (now (taken .exit))) ⌝ }
 {
-    let n = image_fields::count(s, 3);
+    let n = image_fields::count(image, image_fields::ASSIGNMENTS);
     let mut r: u32 = 0;
     while r < n {
-        if check_assign(s, firsts, taken, r) {
+        if check_assign(image, firsts, taken, r) {
             return r;
         }
         r += 1;

@@ -1,4 +1,4 @@
--- Driven bits as a table with a byte for each bit of a signal, 1 where the bit has a driver: what the table holds (`Holds`, `Marks`), that its
+-- Driven bits as a table with a byte for each bit of a signal, 1 where the bit has a driver: what the table holds (`MarksSay`, `Marks`), that its
 -- answers are those of the image (`answers`), and what it holds once more bits are marked (`holds-more`).
 use Prim.Native.Nat.{ℕ, zero, suc, _+_, _-_, _≤_, _<_}
 use mathlib.Core.Bool.{Bool, true, false, true≢false}
@@ -9,8 +9,9 @@ use native.Mathlib.Omega.{arith}
 use native.Mathlib.Nat.{eq-or-lt-of-le}
 use lib.ListN.{length, getD, set, replicate, length-set, length-replicate}
 use lib.Seq.{getD-set-same, getD-set-other}
-use Rattle.spec_tests.specs.Rules.{_<?_, _≡?_, _or_, _and_, pick, upTo, first, any, sumTo}
-use Rattle.spec_tests.specs.Laws.{and-yes, lt-yes, lt-no, yes-lt, eq-yes, eq-no, yes-eq, not-any, sum-more}
+use Rattle.spec_tests.specs.Rules.{_<?_, _≡?_, _or_, _and_, any, sumTo}
+use Rattle.spec_tests.specs.Any.{same-bool, any-empty, any-at, any-found, any-more}
+use Rattle.spec_tests.specs.Laws.{or-yes, or-left, or-right, and-yes, lt-yes, yes-lt, eq-yes, eq-no, yes-eq, sum-more}
 use Rattle.spec_rules.specs.Image.{countAt, field, signalWidth, firstPort, hasSecond, secondPort}
 use Rattle.spec_rules.specs.Checks.{signalBits, assigned, targeted, readInto}
 
@@ -35,7 +36,7 @@ unfoldable pub within : ℕ → ℕ → ℕ → Bool
 within at n k = at <? k + 1 and k <? at + n
 
 -- the marks say d of each bit of each signal
-pub record Holds (s : List ℕ) (d : ℕ → ℕ → Bool) (t : List ℕ) : Type 0 where
+pub record MarksSay (s : List ℕ) (d : ℕ → ℕ → Bool) (t : List ℕ) : Type 0 where
   pub room : signalBits s ≤ length t
   pub bits : (p b : ℕ) → p < countAt s 0 → b < signalWidth s p → marked t (sumTo (signalWidth s) p + b) ≡ d p b
 
@@ -44,7 +45,7 @@ unfoldable pub bitDriven : List ℕ → ℕ → ℕ → ℕ → ℕ → ℕ → 
 bitDriven s a i j p b = assigned s a p b 1 or targeted s i p or readInto s j p
 
 pub record Marks (s : List ℕ) (a i j : ℕ) (t : List ℕ) : Type 0 where
-  pub holds : Holds s (bitDriven s a i j) t
+  pub holds : MarksSay s (bitDriven s a i j) t
   pub widths : (k : ℕ) → k < a → 1 ≤ field s 3 k 2
 
 -- the n bits from at on are marked, the others are as before
@@ -53,26 +54,6 @@ pub record Marked (at n : ℕ) (t t′ : List ℕ) : Type 0 where
   pub bits : (k : ℕ) → marked t′ k ≡ (marked t k or within at n k)
 
 -- ---- tests ----
-
-pub same-bool : {x y : Bool} → (x ≡ true → y ≡ true) → (y ≡ true → x ≡ true) → x ≡ y
-same-bool {x = true} {y} f g = sym (f refl)
-same-bool {x = false} {y = true} f g = g refl
-same-bool {x = false} {y = false} f g = refl
-
--- an `or` that holds is one of two tests that hold
-pub or-yes : {a b : Bool} → (a or b) ≡ true → (a ≡ true) ⊎ (b ≡ true)
-unfolding _or_
-or-yes {a = true} {b} e = inl refl
-or-yes {a = false} {b} e = inr e
-
-pub or-left : {a : Bool} (b : Bool) → a ≡ true → (a or b) ≡ true
-unfolding _or_
-or-left b e = rw e
-
-pub or-right : (a : Bool) {b : Bool} → b ≡ true → (a or b) ≡ true
-unfolding _or_
-or-right true e = refl
-or-right false e = e
 
 pub both : {a b : Bool} → a ≡ true → b ≡ true → (a and b) ≡ true
 unfolding _and_
@@ -85,51 +66,6 @@ swap false true true = refl
 swap false true false = refl
 swap false false true = refl
 swap false false false = refl
-
--- ---- any ----
-
-pub any-none : (p : ℕ → Bool) → any p 0 ≡ false
-unfolding any
-any-none p = lt-no _ _ (omega arith)
-
-pub any-at : (p : ℕ → Bool) (n i : ℕ) → i < n → p i ≡ true → any p n ≡ true
-any-at p n i h e = go (any p n) refl
-  where
-    go : (t : Bool) → any p n ≡ t → t ≡ true
-    go true q = refl
-    go false q = absurd (true≢false (sym e ∙ not-any p n q i h))
-
-upTo-found : (p : ℕ → Bool) (i k : ℕ) → upTo p i k < i + k → p (upTo p i k) ≡ true
-unfolding upTo pick
-upTo-found p i zero h = absurd (omega arith)
-upTo-found p i (suc k) h = go (p i) refl h (upTo-found p (suc i) k)
-  where
-    go : (b : Bool) → p i ≡ b → pick b i (upTo p (suc i) k) < i + suc k → (upTo p (suc i) k < suc i + k → p (upTo p (suc i) k) ≡ true) → p (pick b i (upTo p (suc i) k)) ≡ true
-    go true q f ih = q
-    go false q f ih = ih (omega arith)
-
--- the number that `any` has found
-pub any-found : (p : ℕ → Bool) (n : ℕ) → any p n ≡ true → (first p n < n) × (p (first p n) ≡ true)
-unfolding any first
-any-found p n e =
-    let h : upTo p 0 n < n = yes-lt _ _ e in
-    (h, upTo-found p 0 n (omega arith))
-
-pub any-more : (p : ℕ → Bool) (n : ℕ) → any p (n + 1) ≡ (any p n or p n)
-any-more p n = same-bool fore back
-  where
-    fore : any p (n + 1) ≡ true → (any p n or p n) ≡ true
-    fore e =
-        let f = any-found p (n + 1) e in
-        ⊎-elim (λ (q : first p (n + 1) ≡ n). or-right _ (ap p (sym q) ∙ f .1))
-        (λ (q : first p (n + 1) < n). or-left _ (any-at p n _ q (f .1)))
-        (eq-or-lt-of-le (omega arith))
-
-    back : (any p n or p n) ≡ true → any p (n + 1) ≡ true
-    back e =
-        ⊎-elim (λ (q : any p n ≡ true). let f = any-found p n q in any-at p (n + 1) _ (omega (arith, f .0)) (f .1))
-        (λ (q : p n ≡ true). any-at p (n + 1) n (omega arith) q)
-        (or-yes e)
 
 -- ---- places ----
 
@@ -203,7 +139,7 @@ answers s a i j t p at w h one fits m = same-bool fore back
 -- where only assignments are marked
 pub answers-assigned : (s : List ℕ) (a : ℕ) (b : Bool) (p at w : ℕ) → b ≡ (assigned s a p at w or targeted s 0 p or readInto s 0 p) → b ≡ assigned s a p at w
 unfolding targeted readInto _or_
-answers-assigned s a b p at w e = rw (any-none, any-none) at e ∙ or-false _
+answers-assigned s a b p at w e = rw (any-empty, any-empty) at e ∙ or-false _
 
 -- ---- what is marked ----
 
@@ -236,18 +172,18 @@ same-place s q at w p b fits v = same-bool fore back
         let y = yes-lt _ _ (g .1) in
         both (lt-yes _ _ (omega arith)) (lt-yes _ _ (omega arith))
 
-pub holds-same : (s : List ℕ) (d e : ℕ → ℕ → Bool) (t : List ℕ) → ((p b : ℕ) → p < countAt s 0 → b < signalWidth s p → d p b ≡ e p b) → Holds s d t → Holds s e t
+pub holds-same : (s : List ℕ) (d e : ℕ → ℕ → Bool) (t : List ℕ) → ((p b : ℕ) → p < countAt s 0 → b < signalWidth s p → d p b ≡ e p b) → MarksSay s d t → MarksSay s e t
 holds-same s d e t h m = record { room = m .room; bits = λ p b u v. m .bits p b u v ∙ h p b u v }
 
 -- w bits of signal q from at on
-pub holds-more : (s : List ℕ) (d : ℕ → ℕ → Bool) (t t′ : List ℕ) (q at w : ℕ) → at + w ≤ signalWidth s q → Marked (sumTo (signalWidth s) q + at) w t t′ → Holds s d t → Holds s (λ p b. d p b or (q ≡? p and at <? b + 1 and b <? at + w)) t′
+pub holds-more : (s : List ℕ) (d : ℕ → ℕ → Bool) (t t′ : List ℕ) (q at w : ℕ) → at + w ≤ signalWidth s q → Marked (sumTo (signalWidth s) q + at) w t t′ → MarksSay s d t → MarksSay s (λ p b. d p b or (q ≡? p and at <? b + 1 and b <? at + w)) t′
 holds-more s d t t′ q at w fits k m = record {
   room = omega (arith, m .room, k .long);
   bits = λ p b u v. k .bits (sumTo (signalWidth s) p + b) ∙ ap₂ _or_ (m .bits p b u v) (same-place s q at w p b fits v);
 }
 
 -- all bits of signal q
-pub holds-whole : (s : List ℕ) (d : ℕ → ℕ → Bool) (t t′ : List ℕ) (q : ℕ) → Marked (sumTo (signalWidth s) q + 0) (signalWidth s q) t t′ → Holds s d t → Holds s (λ p b. d p b or q ≡? p) t′
+pub holds-whole : (s : List ℕ) (d : ℕ → ℕ → Bool) (t t′ : List ℕ) (q : ℕ) → Marked (sumTo (signalWidth s) q + 0) (signalWidth s q) t t′ → MarksSay s d t → MarksSay s (λ p b. d p b or q ≡? p) t′
 holds-whole s d t t′ q k m = holds-same s _ _ t′ (λ p b u v. ap (λ (x : Bool). d p b or x) (whole p b v)) (holds-more s d t t′ q 0 (signalWidth s q) (omega arith) k m)
   where
     whole : (p b : ℕ) → b < signalWidth s p → (q ≡? p and 0 <? b + 1 and b <? 0 + signalWidth s q) ≡ (q ≡? p)
@@ -289,7 +225,7 @@ unfoldable pub readsInto : List ℕ → ℕ → ℕ → Bool
 readsInto s p j = field s 5 j (firstPort + 1) ≡? p or (field s 5 j hasSecond ≡? 1 and field s 5 j (secondPort + 1) ≡? p)
 
 -- a memory more
-marks-memory : (s : List ℕ) (a i j : ℕ) (t t′ : List ℕ) → Holds s (λ p b. bitDriven s a i j p b or readsInto s p j) t′ → Marks s a i j t → Marks s a i (j + 1) t′
+marks-memory : (s : List ℕ) (a i j : ℕ) (t t′ : List ℕ) → MarksSay s (λ p b. bitDriven s a i j p b or readsInto s p j) t′ → Marks s a i j t → Marks s a i (j + 1) t′
 unfolding bitDriven readInto readsInto
 marks-memory s a i j t t′ k m = record {
   holds = holds-same s _ _ t′ (λ p b u v. into-last _ _ _ _ ∙ ap (λ (x : Bool). assigned s a p b 1 or targeted s i p or x) (sym (any-more _ j))) k;
@@ -329,7 +265,7 @@ zero-at (suc n) (suc k) = zero-at n k
 pub marks-none : (s : List ℕ) (n : ℕ) → signalBits s ≤ n → Marks s 0 0 0 (replicate n 0)
 unfolding bitDriven marked assigned targeted readInto _or_
 marks-none s n h = record {
-  holds = record { room = simp length-replicate h; bits = λ p b u v. eq-no _ _ (λ e. let y = zero-at n (sumTo (signalWidth s) p + b) in omega arith) ∙ sym (rw (any-none, any-none, any-none)) };
+  holds = record { room = simp length-replicate h; bits = λ p b u v. eq-no _ _ (λ e. let y = zero-at n (sumTo (signalWidth s) p + b) in omega arith) ∙ sym (rw (any-empty, any-empty, any-empty)) };
   widths = λ k l. absurd (omega arith);
 }
 

@@ -9,16 +9,16 @@ ghost use Rattle.spec_rules.specs.Checks.{signalBits, isInput, assigned, target
 ghost use Rattle.check_drivers.specs.Bits.{SignalsFit, Firsts, Marks, Marked, marked};
 
 // Each signal's first bit; answers the bits of all signals.
-pub fn lay_firsts(s: &[u8], firsts: &mut [u32]) -> u32
-    requires { ⌜ (SignalsFit (now s)) × (countAt (now s) 0 ≤ length (now firsts)) ⌝ }
-    ensures { λ r. ⌜ (r ≡ signalBits (now (s .entry))) × (Firsts (now (s .entry)) (now (firsts .exit))) ⌝ }
+pub fn lay_firsts(image: &[u8], firsts: &mut [u32]) -> u32
+    requires { ⌜ (SignalsFit (now image)) × (countAt (now image) 0 ≤ length (now firsts)) ⌝ }
+    ensures { λ r. ⌜ (r ≡ signalBits (now (image .entry))) × (Firsts (now (image .entry)) (now (firsts .exit))) ⌝ }
 {
-    let n = image_fields::count(s, 0);
+    let n = image_fields::count(image, image_fields::SIGNALS);
     let mut sum: u32 = 0;
     let mut p: u32 = 0;
     while p < n {
         firsts[p as usize] = sum;
-        sum += image_fields::signal_width(s, p);
+        sum += image_fields::signal_width(image, p);
         p += 1;
     }
     sum
@@ -52,59 +52,73 @@ fn mark(taken: &mut [u8], at: usize, n: u32)
 }
 
 // Where bit b of signal p stands.
-fn place(s: &[u8], firsts: &[u32], p: u32, b: u32) -> usize
-    requires { ⌜ (Firsts (now s) (now firsts)) × (p < countAt (now s) 0) ⌝ }
-    ensures { λ r. ⌜ r ≡ sumTo (signalWidth (now (s .entry))) p + b ⌝ }
+fn place(image: &[u8], firsts: &[u32], p: u32, b: u32) -> usize
+    requires { ⌜ (Firsts (now image) (now firsts)) × (p < countAt (now image) 0) ⌝ }
+    ensures { λ r. ⌜ r ≡ sumTo (signalWidth (now (image .entry))) p + b ⌝ }
 {
     firsts[p as usize] as usize + b as usize
 }
 
 // One of the w bits of signal p from at on has a driver.
-fn is_marked(s: &[u8], firsts: &[u32], taken: &[u8], p: u32, at: u32, w: u32) -> bool
-    requires { ⌜ (Firsts (now s) (now firsts)) × (signalBits (now s) ≤ length (now taken)) × (p < countAt (now s) 0) × (1 ≤ w) × (at + w ≤ signalWidth (now s) p) ⌝ }
-    ensures { λ b. ⌜ ((a i j : ℕ) → Marks (now (s .entry)) a i j (now (taken .entry)) → b ≡ (assigned (now (s .entry)) a p at w or targeted (now (s .entry)) i p or readInto (now (s .entry)) j p)) ⌝ }
+fn is_marked(image: &[u8], firsts: &[u32], taken: &[u8], p: u32, at: u32, w: u32) -> bool
+    requires { ⌜ (Firsts (now image) (now firsts)) × (signalBits (now image) ≤ length (now taken)) × (p < countAt (now image) 0) × (1 ≤ w) × (at + w ≤ signalWidth (now image) p) ⌝ }
+    ensures { λ b. ⌜ ((a i j : ℕ) → Marks (now (image .entry)) a i j (now (taken .entry)) → b ≡ (assigned (now (image .entry)) a p at w or targeted (now (image .entry)) i p or readInto (now (image .entry)) j p)) ⌝ }
 {
-    any_marked(taken, place(s, firsts, p, at), w)
+    any_marked(taken, place(image, firsts, p, at), w)
 }
 
 // An assignment drives one of the w bits of signal p from at on, where only assignments have been marked.
-pub fn is_assigned(s: &[u8], firsts: &[u32], taken: &[u8], p: u32, at: u32, w: u32) -> bool
-    requires { ⌜ (Firsts (now s) (now firsts)) × (signalBits (now s) ≤ length (now taken)) × (p < countAt (now s) 0) × (1 ≤ w) × (at + w ≤ signalWidth (now s) p) ⌝ }
-    ensures { λ b. ⌜ ((a : ℕ) → Marks (now (s .entry)) a 0 0 (now (taken .entry)) → b ≡ assigned (now (s .entry)) a p at w) ⌝ }
+pub fn is_assigned(image: &[u8], firsts: &[u32], taken: &[u8], p: u32, at: u32, w: u32) -> bool
+    requires { ⌜ (Firsts (now image) (now firsts)) × (signalBits (now image) ≤ length (now taken)) × (p < countAt (now image) 0) × (1 ≤ w) × (at + w ≤ signalWidth (now image) p) ⌝ }
+    ensures { λ b. ⌜ ((a : ℕ) → Marks (now (image .entry)) a 0 0 (now (taken .entry)) → b ≡ assigned (now (image .entry)) a p at w) ⌝ }
 {
-    is_marked(s, firsts, taken, p, at, w)
+    is_marked(image, firsts, taken, p, at, w)
 }
 
 // Signal p is an input.
-pub fn is_input(s: &[u8], p: u32) -> bool
-    ensures { λ b. ⌜ b ≡ isInput (now (s .entry)) p ⌝ }
+pub fn is_input(image: &[u8], p: u32) -> bool
+    ensures { λ b. ⌜ b ≡ isInput (now (image .entry)) p ⌝ }
 {
-    image_fields::record_field(s, 0, p, 3) == 1
+    image_fields::record_field(image, image_fields::SIGNALS, p, 3) == 1
 }
 
 // Signal p has a driver, where all assignments have been marked.
-pub fn is_driven(s: &[u8], firsts: &[u32], taken: &[u8], p: u32) -> bool
-    requires { ⌜ (Firsts (now s) (now firsts)) × (signalBits (now s) ≤ length (now taken)) × (p < countAt (now s) 0) ⌝ }
-    ensures { λ b. ⌜ ((i j : ℕ) → Marks (now (s .entry)) (countAt (now (s .entry)) 3) i j (now (taken .entry)) → b ≡ driven (now (s .entry)) i j p) ⌝ }
+pub fn is_driven(image: &[u8], firsts: &[u32], taken: &[u8], p: u32) -> bool
+    requires { ⌜ (Firsts (now image) (now firsts)) × (signalBits (now image) ≤ length (now taken)) × (p < countAt (now image) 0) ⌝ }
+    ensures { λ b. ⌜ ((i j : ℕ) → Marks (now (image .entry)) (countAt (now (image .entry)) 3) i j (now (taken .entry)) → b ≡ driven (now (image .entry)) i j p) ⌝ }
 {
-    if is_input(s, p) {
+    if is_input(image, p) {
         return true;
     }
-    is_marked(s, firsts, taken, p, 0, image_fields::signal_width(s, p))
+    is_marked(
+        image,
+        firsts,
+        taken,
+        p,
+        0,
+        image_fields::signal_width(image, p),
+    )
 }
 
 // Marks w bits of signal p from at on.
-pub fn mark_bits(s: &[u8], firsts: &[u32], taken: &mut [u8], p: u32, at: u32, w: u32)
-    requires { ⌜ (Firsts (now s) (now firsts)) × (signalBits (now s) ≤ length (now taken)) × (p < countAt (now s) 0) × (at + w ≤ signalWidth (now s) p) ⌝ }
-    ensures { λ _. ⌜ Marked (sumTo (signalWidth (now (s .entry))) p + at) w (now (taken .entry)) (now (taken .exit)) ⌝ }
+pub fn mark_bits(image: &[u8], firsts: &[u32], taken: &mut [u8], p: u32, at: u32, w: u32)
+    requires { ⌜ (Firsts (now image) (now firsts)) × (signalBits (now image) ≤ length (now taken)) × (p < countAt (now image) 0) × (at + w ≤ signalWidth (now image) p) ⌝ }
+    ensures { λ _. ⌜ Marked (sumTo (signalWidth (now (image .entry))) p + at) w (now (taken .entry)) (now (taken .exit)) ⌝ }
 {
-    mark(taken, place(s, firsts, p, at), w);
+    mark(taken, place(image, firsts, p, at), w);
 }
 
 // Marks all bits of signal p.
-pub fn mark_signal(s: &[u8], firsts: &[u32], taken: &mut [u8], p: u32)
-    requires { ⌜ (Firsts (now s) (now firsts)) × (signalBits (now s) ≤ length (now taken)) × (p < countAt (now s) 0) ⌝ }
-    ensures { λ _. ⌜ Marked (sumTo (signalWidth (now (s .entry))) p + 0) (signalWidth (now (s .entry)) p) (now (taken .entry)) (now (taken .exit)) ⌝ }
+pub fn mark_signal(image: &[u8], firsts: &[u32], taken: &mut [u8], p: u32)
+    requires { ⌜ (Firsts (now image) (now firsts)) × (signalBits (now image) ≤ length (now taken)) × (p < countAt (now image) 0) ⌝ }
+    ensures { λ _. ⌜ Marked (sumTo (signalWidth (now (image .entry))) p + 0) (signalWidth (now (image .entry)) p) (now (taken .entry)) (now (taken .exit)) ⌝ }
 {
-    mark_bits(s, firsts, taken, p, 0, image_fields::signal_width(s, p));
+    mark_bits(
+        image,
+        firsts,
+        taken,
+        p,
+        0,
+        image_fields::signal_width(image, p),
+    );
 }

@@ -40,13 +40,13 @@ fn bad_binary(op: u32, w: u32, x: u32, y: u32) -> bool
 }
 
 // A part of a Concat in record r has no lower number.
-fn has_late_part(s: &[u8], r: u32, start: u32, count: u32) -> bool
+fn has_late_part(image: &[u8], r: u32, start: u32, count: u32) -> bool
     requires { ⌜ start + count ≤ 4294967295 ⌝ }
-    ensures { λ b. ⌜ b ≡ any (lateWord (now (s .entry)) r start) count ⌝ }
+    ensures { λ b. ⌜ b ≡ any (lateWord (now (image .entry)) r start) count ⌝ }
 {
     let mut i: u32 = 0;
     while i < count {
-        if is_late(r, image_fields::list_word(s, start + i)) {
+        if is_late(r, image_fields::list_word(image, start + i)) {
             return true;
         }
         i += 1;
@@ -55,53 +55,57 @@ fn has_late_part(s: &[u8], r: u32, start: u32, count: u32) -> bool
 }
 
 // What the widths of a Concat's parts come to.
-fn parts_sum(s: &[u8], start: u32, count: u32) -> u64
+fn parts_sum(image: &[u8], start: u32, count: u32) -> u64
     requires { ⌜ start + count ≤ 4294967295 ⌝ }
-    ensures { λ t. ⌜ t ≡ sumTo (partWidth (now (s .entry)) start) count ⌝ }
+    ensures { λ t. ⌜ t ≡ sumTo (partWidth (now (image .entry)) start) count ⌝ }
 {
     let mut t: u64 = 0;
     let mut i: u32 = 0;
     while i < count {
-        t += image_fields::expr_width(s, image_fields::list_word(s, start + i)) as u64;
+        t += image_fields::expr_width(image, image_fields::list_word(image, start + i)) as u64;
         i += 1;
     }
     t
 }
 
-fn bad_concat(s: &[u8], r: u32, w: u32, start: u32, count: u32) -> bool
-    ensures { λ b. ⌜ b ≡ badConcat (now (s .entry)) r w start count ⌝ }
+fn bad_concat(image: &[u8], r: u32, w: u32, start: u32, count: u32) -> bool
+    ensures { λ b. ⌜ b ≡ badConcat (now (image .entry)) r w start count ⌝ }
 {
     if count == 0 {
         return true;
     }
-    if check_references::below_sum(image_fields::count(s, 2), start, count) {
+    if check_references::below_sum(image_fields::count(image, image_fields::LIST), start, count) {
         return true;
     }
-    if has_late_part(s, r, start, count) {
+    if has_late_part(image, r, start, count) {
         return true;
     }
-    parts_sum(s, start, count) != (w as u64)
+    parts_sum(image, start, count) != (w as u64)
 }
 
 // ---- record r of each kind, with width w and operands a, b, c ----
 
-fn bad_read(s: &[u8], w: u32, a: u32, b: u32, c: u32) -> bool
-    ensures { λ t. ⌜ t ≡ badRead (now (s .entry)) w a b c ⌝ }
+fn bad_read(image: &[u8], w: u32, a: u32, b: u32, c: u32) -> bool
+    ensures { λ t. ⌜ t ≡ badRead (now (image .entry)) w a b c ⌝ }
 {
-    if check_references::no_signal(s, a) {
+    if check_references::no_signal(image, a) {
         return true;
     }
-    if check_references::below_sum(image_fields::signal_width(s, a), b, w) {
+    if check_references::below_sum(image_fields::signal_width(image, a), b, w) {
         return true;
     }
     c != 0
 }
 
-fn bad_constant(s: &[u8], w: u32, a: u32, b: u32, c: u32) -> bool
+fn bad_constant(image: &[u8], w: u32, a: u32, b: u32, c: u32) -> bool
     requires { ⌜ w ≤ 1024 ⌝ }
-    ensures { λ t. ⌜ t ≡ badConstant (now (s .entry)) w a b c ⌝ }
+    ensures { λ t. ⌜ t ≡ badConstant (now (image .entry)) w a b c ⌝ }
 {
-    if check_references::below_sum(image_fields::count(s, 2), a, 2 * ((w + 63) / 64)) {
+    if check_references::below_sum(
+        image_fields::count(image, image_fields::LIST),
+        a,
+        2 * ((w + 63) / 64),
+    ) {
         return true;
     }
     if b != 0 {
@@ -110,20 +114,20 @@ fn bad_constant(s: &[u8], w: u32, a: u32, b: u32, c: u32) -> bool
     c != 0
 }
 
-fn bad_unary_of(s: &[u8], r: u32, w: u32, a: u32, b: u32, c: u32) -> bool
-    ensures { λ t. ⌜ t ≡ badUnaryOf (now (s .entry)) r w a b c ⌝ }
+fn bad_unary_of(image: &[u8], r: u32, w: u32, a: u32, b: u32, c: u32) -> bool
+    ensures { λ t. ⌜ t ≡ badUnaryOf (now (image .entry)) r w a b c ⌝ }
 {
     if is_late(r, b) {
         return true;
     }
-    if bad_unary(a, w, image_fields::expr_width(s, b)) {
+    if bad_unary(a, w, image_fields::expr_width(image, b)) {
         return true;
     }
     c != 0
 }
 
-fn bad_binary_of(s: &[u8], r: u32, w: u32, a: u32, b: u32, c: u32) -> bool
-    ensures { λ t. ⌜ t ≡ badBinaryOf (now (s .entry)) r w a b c ⌝ }
+fn bad_binary_of(image: &[u8], r: u32, w: u32, a: u32, b: u32, c: u32) -> bool
+    ensures { λ t. ⌜ t ≡ badBinaryOf (now (image .entry)) r w a b c ⌝ }
 {
     if is_late(r, b) {
         return true;
@@ -134,13 +138,13 @@ fn bad_binary_of(s: &[u8], r: u32, w: u32, a: u32, b: u32, c: u32) -> bool
     bad_binary(
         a,
         w,
-        image_fields::expr_width(s, b),
-        image_fields::expr_width(s, c),
+        image_fields::expr_width(image, b),
+        image_fields::expr_width(image, c),
     )
 }
 
-fn bad_mux(s: &[u8], r: u32, w: u32, a: u32, b: u32, c: u32) -> bool
-    ensures { λ t. ⌜ t ≡ badMux (now (s .entry)) r w a b c ⌝ }
+fn bad_mux(image: &[u8], r: u32, w: u32, a: u32, b: u32, c: u32) -> bool
+    ensures { λ t. ⌜ t ≡ badMux (now (image .entry)) r w a b c ⌝ }
 {
     if is_late(r, a) {
         return true;
@@ -151,95 +155,95 @@ fn bad_mux(s: &[u8], r: u32, w: u32, a: u32, b: u32, c: u32) -> bool
     if is_late(r, c) {
         return true;
     }
-    if image_fields::expr_width(s, a) != 1 {
+    if image_fields::expr_width(image, a) != 1 {
         return true;
     }
-    if image_fields::expr_width(s, b) != w {
+    if image_fields::expr_width(image, b) != w {
         return true;
     }
-    image_fields::expr_width(s, c) != w
+    image_fields::expr_width(image, c) != w
 }
 
-fn bad_concat_of(s: &[u8], r: u32, w: u32, a: u32, b: u32, c: u32) -> bool
-    ensures { λ t. ⌜ t ≡ badConcatOf (now (s .entry)) r w a b c ⌝ }
+fn bad_concat_of(image: &[u8], r: u32, w: u32, a: u32, b: u32, c: u32) -> bool
+    ensures { λ t. ⌜ t ≡ badConcatOf (now (image .entry)) r w a b c ⌝ }
 {
-    if bad_concat(s, r, w, a, b) {
+    if bad_concat(image, r, w, a, b) {
         return true;
     }
     c != 0
 }
 
-fn bad_slice(s: &[u8], r: u32, w: u32, a: u32, b: u32, c: u32) -> bool
-    ensures { λ t. ⌜ t ≡ badSlice (now (s .entry)) r w a b c ⌝ }
+fn bad_slice(image: &[u8], r: u32, w: u32, a: u32, b: u32, c: u32) -> bool
+    ensures { λ t. ⌜ t ≡ badSlice (now (image .entry)) r w a b c ⌝ }
 {
     if is_late(r, a) {
         return true;
     }
-    if check_references::below_sum(image_fields::expr_width(s, a), b, w) {
+    if check_references::below_sum(image_fields::expr_width(image, a), b, w) {
         return true;
     }
     c != 0
 }
 
-fn bad_kind(s: &[u8], r: u32, k: u32, w: u32, a: u32, b: u32, c: u32) -> bool
+fn bad_kind(image: &[u8], r: u32, k: u32, w: u32, a: u32, b: u32, c: u32) -> bool
     requires { ⌜ w ≤ 1024 ⌝ }
-    ensures { λ t. ⌜ t ≡ badKind (now (s .entry)) r k w a b c ⌝ }
+    ensures { λ t. ⌜ t ≡ badKind (now (image .entry)) r k w a b c ⌝ }
 {
     match k {
-        0 => bad_read(s, w, a, b, c),
-        1 => bad_constant(s, w, a, b, c),
-        2 => bad_unary_of(s, r, w, a, b, c),
-        3 => bad_binary_of(s, r, w, a, b, c),
-        4 => bad_mux(s, r, w, a, b, c),
-        5 => bad_concat_of(s, r, w, a, b, c),
-        6 => bad_slice(s, r, w, a, b, c),
+        0 => bad_read(image, w, a, b, c),
+        1 => bad_constant(image, w, a, b, c),
+        2 => bad_unary_of(image, r, w, a, b, c),
+        3 => bad_binary_of(image, r, w, a, b, c),
+        4 => bad_mux(image, r, w, a, b, c),
+        5 => bad_concat_of(image, r, w, a, b, c),
+        6 => bad_slice(image, r, w, a, b, c),
         _ => true,
     }
 }
 
 // The kind and operands of record r, whose width is w.
-fn bad_fields(s: &[u8], r: u32, w: u32) -> bool
+fn bad_fields(image: &[u8], r: u32, w: u32) -> bool
     requires { ⌜ w ≤ 1024 ⌝ }
-    ensures { λ t. ⌜ t ≡ badFields (now (s .entry)) r w ⌝ }
+    ensures { λ t. ⌜ t ≡ badFields (now (image .entry)) r w ⌝ }
 {
     bad_kind(
-        s,
+        image,
         r,
-        image_fields::record_field(s, 1, r, 0),
+        image_fields::record_field(image, image_fields::EXPRESSIONS, r, 0),
         w,
-        image_fields::record_field(s, 1, r, 2),
-        image_fields::record_field(s, 1, r, 3),
-        image_fields::record_field(s, 1, r, 4),
+        image_fields::record_field(image, image_fields::EXPRESSIONS, r, 2),
+        image_fields::record_field(image, image_fields::EXPRESSIONS, r, 3),
+        image_fields::record_field(image, image_fields::EXPRESSIONS, r, 4),
     )
 }
 
 // Expression record r breaks a rule; the widths before it come to sum.
-fn bad_expr(s: &[u8], r: u32, sum: u32) -> bool
-    requires { ⌜ (sum ≡ sumTo (exprWidth (now s)) r) × (sum ≤ 32768) ⌝ }
-    ensures { λ t. ⌜ t ≡ badExpr (now (s .entry)) r ⌝ }
+fn bad_expr(image: &[u8], r: u32, sum: u32) -> bool
+    requires { ⌜ (sum ≡ sumTo (exprWidth (now image)) r) × (sum ≤ 32768) ⌝ }
+    ensures { λ t. ⌜ t ≡ badExpr (now (image .entry)) r ⌝ }
 {
-    let w = image_fields::expr_width(s, r);
+    let w = image_fields::expr_width(image, r);
     if image_fields::is_outside(w, 1, 1024) {
         return true;
     }
     if 32768 < sum + w {
         return true;
     }
-    bad_fields(s, r, w)
+    bad_fields(image, r, w)
 }
 
 // The first expression record that breaks a rule, and the number of records where none does.
-pub fn first_expr(s: &[u8]) -> u32
-    ensures { λ r. ⌜ r ≡ first (badExpr (now (s .entry))) (countAt (now (s .entry)) 1) ⌝ }
+pub fn first_expr(image: &[u8]) -> u32
+    ensures { λ r. ⌜ r ≡ first (badExpr (now (image .entry))) (countAt (now (image .entry)) 1) ⌝ }
 {
-    let n = image_fields::count(s, 1);
+    let n = image_fields::count(image, image_fields::EXPRESSIONS);
     let mut sum: u32 = 0;
     let mut r: u32 = 0;
     while r < n {
-        if bad_expr(s, r, sum) {
+        if bad_expr(image, r, sum) {
             return r;
         }
-        sum += image_fields::expr_width(s, r);
+        sum += image_fields::expr_width(image, r);
         r += 1;
     }
     n

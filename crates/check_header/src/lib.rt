@@ -17,59 +17,59 @@ fn most(k: u32) -> u32
 }
 
 // Where section k has to start: after the header and the sections before it.
-pub fn start(s: &[u8], k: u32) -> u64
+pub fn start(image: &[u8], k: u32) -> u64
     requires { ⌜ k ≤ 7 ⌝ }
-    ensures { λ r. ⌜ r ≡ startOf (now (s .entry)) k ⌝ }
+    ensures { λ r. ⌜ r ≡ startOf (now (image .entry)) k ⌝ }
 {
     let mut at: u64 = 64;
     let mut j: u32 = 0;
     while j < k {
-        at += (image_fields::count(s, j) as u64) * (image_fields::size(j) as u64);
+        at += (image_fields::count(image, j) as u64) * (image_fields::size(j) as u64);
         j += 1;
     }
     at
 }
 
-fn wrong_count(s: &[u8], k: u32) -> bool
+fn wrong_count(image: &[u8], k: u32) -> bool
     requires { ⌜ k < 7 ⌝ }
-    ensures { λ r. ⌜ r ≡ wrongCount (now (s .entry)) k ⌝ }
+    ensures { λ r. ⌜ r ≡ wrongCount (now (image .entry)) k ⌝ }
 {
-    if most(k) < image_fields::count(s, k) {
+    if most(k) < image_fields::count(image, k) {
         return true;
     }
     if k == 6 {
-        return start(s, 7) != (s.len() as u64);
+        return start(image, 7) != (image.len() as u64);
     }
     false
 }
 
 // Header field i is wrong.
-fn wrong_field(s: &[u8], i: u32) -> bool
+fn wrong_field(image: &[u8], i: u32) -> bool
     requires { ⌜ i < 16 ⌝ }
-    ensures { λ r. ⌜ r ≡ wrongField (now (s .entry)) i ⌝ }
+    ensures { λ r. ⌜ r ≡ wrongField (now (image .entry)) i ⌝ }
 {
     if i == 0 {
-        return image_fields::word(s, 0) != 2;
+        return image_fields::word(image, 0) != 2;
     }
     if i == 1 {
-        return (image_fields::word(s, 4) as usize) != s.len();
+        return (image_fields::word(image, 4) as usize) != image.len();
     }
     if i % 2 == 0 {
-        return wrong_count(s, (i - 2) / 2);
+        return wrong_count(image, (i - 2) / 2);
     }
-    (image_fields::offset(s, (i - 2) / 2) as u64) != start(s, (i - 2) / 2)
+    (image_fields::offset(image, (i - 2) / 2) as u64) != start(image, (i - 2) / 2)
 }
 
 // The first wrong header field; 16 where there is none.
-pub fn first_field(s: &[u8]) -> u32
-    ensures { λ r. ⌜ r ≡ firstField (now (s .entry)) ⌝ }
+pub fn first_field(image: &[u8]) -> u32
+    ensures { λ r. ⌜ r ≡ firstField (now (image .entry)) ⌝ }
 {
-    if s.len() < 64 {
+    if image.len() < 64 {
         return 0;
     }
     let mut i: u32 = 0;
     while i < 16 {
-        if wrong_field(s, i) {
+        if wrong_field(image, i) {
             return i;
         }
         i += 1;
@@ -95,38 +95,42 @@ pub fn netlist_short(n: u32, p: u32, words: usize) -> bool
 }
 
 // The sum of field f over the records of section k.
-fn field_sum(s: &[u8], k: u32, f: u32) -> u64
-    ensures { λ r. ⌜ r ≡ sumTo (fieldOf (now (s .entry)) k f) (countAt (now (s .entry)) k) ⌝ }
+fn field_sum(image: &[u8], k: u32, f: u32) -> u64
+    ensures { λ r. ⌜ r ≡ sumTo (fieldOf (now (image .entry)) k f) (countAt (now (image .entry)) k) ⌝ }
 {
-    let n = image_fields::count(s, k);
+    let n = image_fields::count(image, k);
     let mut sum: u64 = 0;
     let mut r: u32 = 0;
     while r < n {
-        sum += image_fields::record_field(s, k, r, f) as u64;
+        sum += image_fields::record_field(image, k, r, f) as u64;
         r += 1;
     }
     sum
 }
 
 // The bits of all signals.
-pub fn signal_bits(s: &[u8]) -> u64
-    ensures { λ r. ⌜ r ≡ signalBits (now (s .entry)) ⌝ }
+pub fn signal_bits(image: &[u8]) -> u64
+    ensures { λ r. ⌜ r ≡ signalBits (now (image .entry)) ⌝ }
 {
-    field_sum(s, 0, 2)
+    field_sum(image, image_fields::SIGNALS, 2)
 }
 
 // The bits of all expressions.
-pub fn expr_bits(s: &[u8]) -> u64
-    ensures { λ r. ⌜ r ≡ exprBits (now (s .entry)) ⌝ }
+pub fn expr_bits(image: &[u8]) -> u64
+    ensures { λ r. ⌜ r ≡ exprBits (now (image .entry)) ⌝ }
 {
-    field_sum(s, 1, 1)
+    field_sum(image, image_fields::EXPRESSIONS, 1)
 }
 
 // The scratch of this many words is too small for the image and limit n.
-pub fn scratch_short(s: &[u8], n: u32, words: usize) -> bool
-    requires { ⌜ (signalBits (now s) ≤ 4096) × (exprBits (now s) ≤ 32768) ⌝ }
-    ensures { λ r. ⌜ r ≡ (words <? scratchNeed (now (s .entry)) n) ⌝ }
+pub fn scratch_short(image: &[u8], n: u32, words: usize) -> bool
+    requires { ⌜ (signalBits (now image) ≤ 4096) × (exprBits (now image) ≤ 32768) ⌝ }
+    ensures { λ r. ⌜ r ≡ (words <? scratchNeed (now (image .entry)) n) ⌝ }
 {
-    let bits = 4 * signal_bits(s) + expr_bits(s);
-    (words as u64) < bits + 8 * (image_fields::count(s, 1) as u64) + 4 * (n as u64) + 64
+    let bits = 4 * signal_bits(image) + expr_bits(image);
+    (words as u64)
+        < bits
+            + 8 * (image_fields::count(image, image_fields::EXPRESSIONS) as u64)
+            + 4 * (n as u64)
+            + 64
 }

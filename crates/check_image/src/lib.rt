@@ -18,68 +18,68 @@ pub enum Checked {
 }
 
 // The answer of the assignments, registers, memories and the scratch; firsts has each signal's first bit, and taken no marked bit.
-fn check_sections(s: &[u8], firsts: &[u32], taken: &mut [u8], n: u32, scratch: usize) -> Checked
-    requires { ⌜ (Counts (now s)) × (rule.exprBits (now s) ≤ 32768) × (Firsts (now s) (now firsts)) × (Marks (now s) 0 0 0 (now taken)) ⌝ }
-    ensures { λ c. ⌜ answerOf c ≡ driversThen (now (s .entry)) n scratch ⌝ }
+fn check_sections(image: &[u8], firsts: &[u32], taken: &mut [u8], n: u32, scratch: usize) -> Checked
+    requires { ⌜ (Counts (now image)) × (rule.exprBits (now image) ≤ 32768) × (Firsts (now image) (now firsts)) × (Marks (now image) 0 0 0 (now taken)) ⌝ }
+    ensures { λ c. ⌜ answerOf c ≡ driversThen (now (image .entry)) n scratch ⌝ }
 {
-    let a = check_assignments::first_assign(s, firsts, taken);
-    if a < image_fields::count(s, 3) {
+    let a = check_assignments::first_assign(image, firsts, taken);
+    if a < image_fields::count(image, image_fields::ASSIGNMENTS) {
         return Checked::Record(3, a);
     }
-    let r = check_registers::first_register(s, firsts, taken);
-    if r < image_fields::count(s, 4) {
+    let r = check_registers::first_register(image, firsts, taken);
+    if r < image_fields::count(image, image_fields::REGISTERS) {
         return Checked::Record(4, r);
     }
-    let m = check_memories::first_memory(s, firsts, taken);
-    if m < image_fields::count(s, 5) {
+    let m = check_memories::first_memory(image, firsts, taken);
+    if m < image_fields::count(image, image_fields::MEMORIES) {
         return Checked::Record(5, m);
     }
-    if check_header::scratch_short(s, n, scratch) {
+    if check_header::scratch_short(image, n, scratch) {
         return Checked::ScratchShort;
     }
     Checked::Fine
 }
 
 // The same, with a table for 256 bits where there are no more; firsts has room for the signals.
-fn check_bits(s: &[u8], firsts: &mut [u32], n: u32, scratch: usize) -> Checked
-    requires { ⌜ (Counts (now s)) × (SignalsFit (now s)) × (rule.exprBits (now s) ≤ 32768) × (countAt (now s) 0 ≤ length (now firsts)) ⌝ }
-    ensures { λ c. ⌜ answerOf c ≡ driversThen (now (s .entry)) n scratch ⌝ }
+fn check_bits(image: &[u8], firsts: &mut [u32], n: u32, scratch: usize) -> Checked
+    requires { ⌜ (Counts (now image)) × (SignalsFit (now image)) × (rule.exprBits (now image) ≤ 32768) × (countAt (now image) 0 ≤ length (now firsts)) ⌝ }
+    ensures { λ c. ⌜ answerOf c ≡ driversThen (now (image .entry)) n scratch ⌝ }
 {
-    if check_drivers::lay_firsts(s, firsts) <= 256 {
+    if check_drivers::lay_firsts(image, firsts) <= 256 {
         let mut taken: [u8; 256] = [0; 256];
-        return check_sections(s, firsts, &mut taken, n, scratch);
+        return check_sections(image, firsts, &mut taken, n, scratch);
     }
     let mut taken: [u8; 4096] = [0; 4096];
-    check_sections(s, firsts, &mut taken, n, scratch)
+    check_sections(image, firsts, &mut taken, n, scratch)
 }
 
 // The same, with a table for 32 signals where there are no more.
-fn check_drivers(s: &[u8], n: u32, scratch: usize) -> Checked
-    requires { ⌜ (Counts (now s)) × (SignalsFit (now s)) × (rule.exprBits (now s) ≤ 32768) ⌝ }
-    ensures { λ c. ⌜ answerOf c ≡ driversThen (now (s .entry)) n scratch ⌝ }
+fn check_drivers(image: &[u8], n: u32, scratch: usize) -> Checked
+    requires { ⌜ (Counts (now image)) × (SignalsFit (now image)) × (rule.exprBits (now image) ≤ 32768) ⌝ }
+    ensures { λ c. ⌜ answerOf c ≡ driversThen (now (image .entry)) n scratch ⌝ }
 {
-    if image_fields::count(s, 0) <= 32 {
+    if image_fields::count(image, image_fields::SIGNALS) <= 32 {
         let mut firsts: [u32; 32] = [0; 32];
-        return check_bits(s, &mut firsts, n, scratch);
+        return check_bits(image, &mut firsts, n, scratch);
     }
     let mut firsts: [u32; 512] = [0; 512];
-    check_bits(s, &mut firsts, n, scratch)
+    check_bits(image, &mut firsts, n, scratch)
 }
 
 // The answer of all records and the scratch.
-fn check_records(s: &[u8], n: u32, scratch: usize) -> Checked
-    requires { ⌜ Counts (now s) ⌝ }
-    ensures { λ c. ⌜ answerOf c ≡ recordsThen (now (s .entry)) n scratch ⌝ }
+fn check_records(image: &[u8], n: u32, scratch: usize) -> Checked
+    requires { ⌜ Counts (now image) ⌝ }
+    ensures { λ c. ⌜ answerOf c ≡ recordsThen (now (image .entry)) n scratch ⌝ }
 {
-    let p = check_signals::first_signal(s);
-    if p < image_fields::count(s, 0) {
+    let p = check_signals::first_signal(image);
+    if p < image_fields::count(image, image_fields::SIGNALS) {
         return Checked::Record(0, p);
     }
-    let e = check_expressions::first_expr(s);
-    if e < image_fields::count(s, 1) {
+    let e = check_expressions::first_expr(image);
+    if e < image_fields::count(image, image_fields::EXPRESSIONS) {
         return Checked::Record(1, e);
     }
-    check_drivers(s, n, scratch)
+    check_drivers(image, n, scratch)
 }
 
 // The check of an image, for net limit n, list limit p and the words of the two buffers.

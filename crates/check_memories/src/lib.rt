@@ -10,155 +10,178 @@ ghost use Rattle.check_drivers.specs.Bits.{Firsts, Marks};
 ghost use Rattle.check_memories.specs.Memory.{badRead, badWrite, badShape, badRest};
 
 // Expression e is not there or no address.
-fn bad_address(s: &[u8], e: u32) -> bool
-    ensures { λ b. ⌜ b ≡ badAddress (now (s .entry)) e ⌝ }
+fn bad_address(image: &[u8], e: u32) -> bool
+    ensures { λ b. ⌜ b ≡ badAddress (now (image .entry)) e ⌝ }
 {
-    if check_references::no_expr(s, e) {
+    if check_references::no_expr(image, e) {
         return true;
     }
-    image_fields::is_outside(image_fields::expr_width(s, e), 1, 32)
+    image_fields::is_outside(image_fields::expr_width(image, e), 1, 32)
 }
 
 // What the port of memory r whose fields begin at f reads, into signal p of width w.
-fn bad_read(s: &[u8], r: u32, f: u32, w: u32, p: u32) -> bool
+fn bad_read(image: &[u8], r: u32, f: u32, w: u32, p: u32) -> bool
     requires { ⌜ f ≤ 17 ⌝ }
-    ensures { λ b. ⌜ b ≡ badRead (now (s .entry)) r f w p ⌝ }
+    ensures { λ b. ⌜ b ≡ badRead (now (image .entry)) r f w p ⌝ }
 {
-    if bad_address(s, image_fields::record_field(s, 5, r, f)) {
+    if bad_address(
+        image,
+        image_fields::record_field(image, image_fields::MEMORIES, r, f),
+    ) {
         return true;
     }
-    if check_references::no_signal(s, p) {
+    if check_references::no_signal(image, p) {
         return true;
     }
-    if image_fields::signal_width(s, p) != w {
+    if image_fields::signal_width(image, p) != w {
         return true;
     }
-    check_references::bad_optional(s, 5, r, f + 2)
+    check_references::bad_optional(image, image_fields::MEMORIES, r, f + 2)
 }
 
 // What that port writes, and its clock.
-fn bad_write(s: &[u8], r: u32, f: u32, w: u32) -> bool
+fn bad_write(image: &[u8], r: u32, f: u32, w: u32) -> bool
     requires { ⌜ f ≤ 17 ⌝ }
-    ensures { λ b. ⌜ b ≡ badWrite (now (s .entry)) r f w ⌝ }
+    ensures { λ b. ⌜ b ≡ badWrite (now (image .entry)) r f w ⌝ }
 {
-    if bad_address(s, image_fields::record_field(s, 5, r, f + 4)) {
+    if bad_address(
+        image,
+        image_fields::record_field(image, image_fields::MEMORIES, r, f + 4),
+    ) {
         return true;
     }
-    if check_references::bad_value(s, image_fields::record_field(s, 5, r, f + 5), w) {
+    if check_references::bad_value(
+        image,
+        image_fields::record_field(image, image_fields::MEMORIES, r, f + 5),
+        w,
+    ) {
         return true;
     }
-    if check_references::bad_control(s, 5, r, f + 6) {
+    if check_references::bad_control(image, image_fields::MEMORIES, r, f + 6) {
         return true;
     }
-    if check_references::bad_bit(s, image_fields::record_field(s, 5, r, f + 8)) {
+    if check_references::bad_bit(
+        image,
+        image_fields::record_field(image, image_fields::MEMORIES, r, f + 8),
+    ) {
         return true;
     }
-    1 < image_fields::record_field(s, 5, r, f + 9)
+    1 < image_fields::record_field(image, image_fields::MEMORIES, r, f + 9)
 }
 
 // The port of memory r whose fields begin at f; the bits that the assignments, the registers and the memories before it drive are marked.
-fn bad_port(s: &[u8], firsts: &[u32], taken: &[u8], r: u32, f: u32, w: u32) -> bool
-    requires { ⌜ (Firsts (now s) (now firsts)) × (Marks (now s) (countAt (now s) 3) (countAt (now s) 4) r (now taken)) × (f ≤ 17) ⌝ }
-    ensures { λ b. ⌜ b ≡ badPort (now (s .entry)) r f w ⌝ }
+fn bad_port(image: &[u8], firsts: &[u32], taken: &[u8], r: u32, f: u32, w: u32) -> bool
+    requires { ⌜ (Firsts (now image) (now firsts)) × (Marks (now image) (countAt (now image) 3) (countAt (now image) 4) r (now taken)) × (f ≤ 17) ⌝ }
+    ensures { λ b. ⌜ b ≡ badPort (now (image .entry)) r f w ⌝ }
 {
-    let p = image_fields::record_field(s, 5, r, f + 1);
-    if bad_read(s, r, f, w, p) {
+    let p = image_fields::record_field(image, image_fields::MEMORIES, r, f + 1);
+    if bad_read(image, r, f, w, p) {
         return true;
     }
-    if bad_write(s, r, f, w) {
+    if bad_write(image, r, f, w) {
         return true;
     }
-    check_drivers::is_driven(s, firsts, taken, p)
+    check_drivers::is_driven(image, firsts, taken, p)
 }
 
 // The second port of memory r, where k says whether it is there.
-fn bad_second(s: &[u8], firsts: &[u32], taken: &[u8], r: u32, k: u32, w: u32) -> bool
-    requires { ⌜ (Firsts (now s) (now firsts)) × (Marks (now s) (countAt (now s) 3) (countAt (now s) 4) r (now taken)) ⌝ }
-    ensures { λ b. ⌜ b ≡ badSecond (now (s .entry)) r k w ⌝ }
+fn bad_second(image: &[u8], firsts: &[u32], taken: &[u8], r: u32, k: u32, w: u32) -> bool
+    requires { ⌜ (Firsts (now image) (now firsts)) × (Marks (now image) (countAt (now image) 3) (countAt (now image) 4) r (now taken)) ⌝ }
+    ensures { λ b. ⌜ b ≡ badSecond (now (image .entry)) r k w ⌝ }
 {
     if k == 0 {
-        return check_references::not_zero(s, 5, r, image_fields::SECOND_PORT, 10);
+        return check_references::not_zero(
+            image,
+            image_fields::MEMORIES,
+            r,
+            image_fields::SECOND_PORT,
+            10,
+        );
     }
     if k != 1 {
         return true;
     }
-    if bad_port(s, firsts, taken, r, image_fields::SECOND_PORT, w) {
+    if bad_port(image, firsts, taken, r, image_fields::SECOND_PORT, w) {
         return true;
     }
-    image_fields::record_field(s, 5, r, image_fields::SECOND_DATA)
-        == image_fields::record_field(s, 5, r, image_fields::FIRST_DATA)
+    image_fields::record_field(image, image_fields::MEMORIES, r, image_fields::SECOND_DATA)
+        == image_fields::record_field(image, image_fields::MEMORIES, r, image_fields::FIRST_DATA)
 }
 
 // The depth, word width, style and latency of memory r, whose read data have w bits.
-fn bad_shape(s: &[u8], r: u32, w: u32) -> bool
-    ensures { λ b. ⌜ b ≡ badShape (now (s .entry)) r w ⌝ }
+fn bad_shape(image: &[u8], r: u32, w: u32) -> bool
+    ensures { λ b. ⌜ b ≡ badShape (now (image .entry)) r w ⌝ }
 {
-    if image_fields::is_outside(image_fields::record_field(s, 5, r, 2), 1, 65536) {
+    if image_fields::is_outside(
+        image_fields::record_field(image, image_fields::MEMORIES, r, 2),
+        1,
+        65536,
+    ) {
         return true;
     }
-    if image_fields::record_field(s, 5, r, image_fields::WORD_WIDTH) != w {
+    if image_fields::record_field(image, image_fields::MEMORIES, r, image_fields::WORD_WIDTH) != w {
         return true;
     }
-    if 2 < image_fields::record_field(s, 5, r, image_fields::STYLE) {
+    if 2 < image_fields::record_field(image, image_fields::MEMORIES, r, image_fields::STYLE) {
         return true;
     }
-    image_fields::record_field(s, 5, r, image_fields::LATENCY) != 1
+    image_fields::record_field(image, image_fields::MEMORIES, r, image_fields::LATENCY) != 1
 }
 
 // Memory r but for its name.
-fn bad_rest(s: &[u8], firsts: &[u32], taken: &[u8], r: u32) -> bool
-    requires { ⌜ (Firsts (now s) (now firsts)) × (Marks (now s) (countAt (now s) 3) (countAt (now s) 4) r (now taken)) ⌝ }
-    ensures { λ b. ⌜ b ≡ badRest (now (s .entry)) r ⌝ }
+fn bad_rest(image: &[u8], firsts: &[u32], taken: &[u8], r: u32) -> bool
+    requires { ⌜ (Firsts (now image) (now firsts)) × (Marks (now image) (countAt (now image) 3) (countAt (now image) 4) r (now taken)) ⌝ }
+    ensures { λ b. ⌜ b ≡ badRest (now (image .entry)) r ⌝ }
 {
     let w = image_fields::signal_width(
-        s,
-        image_fields::record_field(s, 5, r, image_fields::FIRST_DATA),
+        image,
+        image_fields::record_field(image, image_fields::MEMORIES, r, image_fields::FIRST_DATA),
     );
-    if bad_shape(s, r, w) {
+    if bad_shape(image, r, w) {
         return true;
     }
-    if bad_port(s, firsts, taken, r, image_fields::FIRST_PORT, w) {
+    if bad_port(image, firsts, taken, r, image_fields::FIRST_PORT, w) {
         return true;
     }
-    let k = image_fields::record_field(s, 5, r, image_fields::HAS_SECOND);
-    bad_second(s, firsts, taken, r, k, w)
+    let k = image_fields::record_field(image, image_fields::MEMORIES, r, image_fields::HAS_SECOND);
+    bad_second(image, firsts, taken, r, k, w)
 }
 
 // Marks the read data of memory r, which breaks no rule.
-fn mark_memory(s: &[u8], firsts: &[u32], taken: &mut [u8], r: u32)
-    requires { ⌜ (Firsts (now s) (now firsts)) × (Marks (now s) (countAt (now s) 3) (countAt (now s) 4) r (now taken)) × (badRest (now s) r ≡ false) ⌝ }
-    ensures { λ _. ⌜ Marks (now (s .entry)) (countAt (now (s .entry)) 3) (countAt (now (s .entry)) 4) (r + 1) (now (taken .exit)) ⌝ }
+fn mark_memory(image: &[u8], firsts: &[u32], taken: &mut [u8], r: u32)
+    requires { ⌜ (Firsts (now image) (now firsts)) × (Marks (now image) (countAt (now image) 3) (countAt (now image) 4) r (now taken)) × (badRest (now image) r ≡ false) ⌝ }
+    ensures { λ _. ⌜ Marks (now (image .entry)) (countAt (now (image .entry)) 3) (countAt (now (image .entry)) 4) (r + 1) (now (taken .exit)) ⌝ }
 {
-    let p = image_fields::record_field(s, 5, r, image_fields::FIRST_DATA);
-    check_drivers::mark_signal(s, firsts, taken, p);
-    if image_fields::record_field(s, 5, r, image_fields::HAS_SECOND) != 1 {
+    let p = image_fields::record_field(image, image_fields::MEMORIES, r, image_fields::FIRST_DATA);
+    check_drivers::mark_signal(image, firsts, taken, p);
+    if image_fields::record_field(image, image_fields::MEMORIES, r, image_fields::HAS_SECOND) != 1 {
         return;
     }
-    let q = image_fields::record_field(s, 5, r, image_fields::SECOND_DATA);
-    check_drivers::mark_signal(s, firsts, taken, q);
+    let q = image_fields::record_field(image, image_fields::MEMORIES, r, image_fields::SECOND_DATA);
+    check_drivers::mark_signal(image, firsts, taken, q);
 }
 
 // Memory r breaks another rule than that of names; the read data of one that breaks none are marked.
-fn check_rest(s: &[u8], firsts: &[u32], taken: &mut [u8], r: u32) -> bool
-    requires { ⌜ (Firsts (now s) (now firsts)) × (Marks (now s) (countAt (now s) 3) (countAt (now s) 4) r (now taken)) ⌝ }
-    ensures { λ b. ⌜ (b ≡ badRest (now (s .entry)) r) × (b ≡ false → Marks (now (s .entry)) (countAt (now (s .entry)) 3) (countAt (now (s .entry)) 4) (r + 1) (now (taken .exit))) ⌝ }
+fn check_rest(image: &[u8], firsts: &[u32], taken: &mut [u8], r: u32) -> bool
+    requires { ⌜ (Firsts (now image) (now firsts)) × (Marks (now image) (countAt (now image) 3) (countAt (now image) 4) r (now taken)) ⌝ }
+    ensures { λ b. ⌜ (b ≡ badRest (now (image .entry)) r) × (b ≡ false → Marks (now (image .entry)) (countAt (now (image .entry)) 3) (countAt (now (image .entry)) 4) (r + 1) (now (taken .exit))) ⌝ }
 {
-    if bad_rest(s, firsts, taken, r) {
+    if bad_rest(image, firsts, taken, r) {
         return true;
     }
-    mark_memory(s, firsts, taken, r);
+    mark_memory(image, firsts, taken, r);
     false
 }
 
 // The first memory that breaks another rule than that of names, and the number of memories where none does.
-fn first_rest(s: &[u8], firsts: &[u32], taken: &mut [u8]) -> u32
-    requires { ⌜ (Firsts (now s) (now firsts)) × (Marks (now s) (countAt (now s) 3) (countAt (now s) 4) 0 (now taken)) ⌝ }
-    ensures { λ r. ⌜ r ≡ first (badRest (now (s .entry))) (countAt (now (s .entry)) 5) ⌝ }
+fn first_rest(image: &[u8], firsts: &[u32], taken: &mut [u8]) -> u32
+    requires { ⌜ (Firsts (now image) (now firsts)) × (Marks (now image) (countAt (now image) 3) (countAt (now image) 4) 0 (now taken)) ⌝ }
+    ensures { λ r. ⌜ r ≡ first (badRest (now (image .entry))) (countAt (now (image .entry)) 5) ⌝ }
 {
-    let n = image_fields::count(s, 5);
+    let n = image_fields::count(image, image_fields::MEMORIES);
     let mut r: u32 = 0;
     while r < n {
-        if check_rest(s, firsts, taken, r) {
+        if check_rest(image, firsts, taken, r) {
             return r;
         }
         r += 1;
@@ -167,9 +190,12 @@ fn first_rest(s: &[u8], firsts: &[u32], taken: &mut [u8]) -> u32
 }
 
 // The first memory record that breaks a rule, and the number of records where none does.
-pub fn first_memory(s: &[u8], firsts: &[u32], taken: &mut [u8]) -> u32
-    requires { ⌜ (countAt (now s) 5 ≤ 16) × (Firsts (now s) (now firsts)) × (Marks (now s) (countAt (now s) 3) (countAt (now s) 4) 0 (now taken)) ⌝ }
-    ensures { λ r. ⌜ r ≡ first (badMemory (now (s .entry))) (countAt (now (s .entry)) 5) ⌝ }
+pub fn first_memory(image: &[u8], firsts: &[u32], taken: &mut [u8]) -> u32
+    requires { ⌜ (countAt (now image) 5 ≤ 16) × (Firsts (now image) (now firsts)) × (Marks (now image) (countAt (now image) 3) (countAt (now image) 4) 0 (now taken)) ⌝ }
+    ensures { λ r. ⌜ r ≡ first (badMemory (now (image .entry))) (countAt (now (image .entry)) 5) ⌝ }
 {
-    check_names::earlier(check_names::first_name(s, 5), first_rest(s, firsts, taken))
+    check_names::earlier(
+        check_names::first_name(image, image_fields::MEMORIES),
+        first_rest(image, firsts, taken),
+    )
 }

@@ -24,18 +24,18 @@ fn bad_bytes(t: &[u8], n: u32) -> bool
 }
 
 // The name of record r of section k breaks a rule of its own.
-pub fn bad_name(s: &[u8], k: u32, r: u32) -> bool
-    ensures { λ b. ⌜ b ≡ badName (now (s .entry)) k r ⌝ }
+pub fn bad_name(image: &[u8], k: u32, r: u32) -> bool
+    ensures { λ b. ⌜ b ≡ badName (now (image .entry)) k r ⌝ }
 {
-    let at = image_fields::record_field(s, k, r, 0);
-    let len = image_fields::record_field(s, k, r, 1);
+    let at = image_fields::record_field(image, k, r, 0);
+    let len = image_fields::record_field(image, k, r, 1);
     if image_fields::is_outside(len, 1, 64) {
         return true;
     }
-    if (image_fields::count(s, 6) as u64) < (at as u64) + (len as u64) {
+    if (image_fields::count(image, image_fields::NAMES) as u64) < (at as u64) + (len as u64) {
         return true;
     }
-    bad_bytes(image_fields::name(s, k, r), len)
+    bad_bytes(image_fields::name(image, k, r), len)
 }
 
 // Two texts are equal.
@@ -76,43 +76,46 @@ fn hash(t: &[u8]) -> u32
 }
 
 // The hash of the name of record r of section k.
-fn name_hash(s: &[u8], k: u32, r: u32) -> u32
-    ensures { λ h. ⌜ h ≡ hashAt (now (s .entry)) k r ⌝ }
+fn name_hash(image: &[u8], k: u32, r: u32) -> u32
+    ensures { λ h. ⌜ h ≡ hashAt (now (image .entry)) k r ⌝ }
 {
-    hash(image_fields::stretch(image_fields::name(s, k, r), 0, 64))
+    hash(image_fields::stretch(image_fields::name(image, k, r), 0, 64))
 }
 
 // The hashes of the names of the first n records of section k, into a table.
-fn lay_hashes(s: &[u8], k: u32, n: u32, hs: &mut [u32])
+fn lay_hashes(image: &[u8], k: u32, n: u32, hs: &mut [u32])
     requires { ⌜ n ≤ length (now hs) ⌝ }
-    ensures { λ _. ⌜ Hashed (now (s .entry)) k n (now (hs .exit)) ⌝ }
+    ensures { λ _. ⌜ Hashed (now (image .entry)) k n (now (hs .exit)) ⌝ }
 {
     let mut i: u32 = 0;
     while i < n {
-        hs[i as usize] = name_hash(s, k, i);
+        hs[i as usize] = name_hash(image, k, i);
         i += 1;
     }
 }
 
 // The names of records j and r of section k are equal; hs are the names' hashes.
-fn same_name(s: &[u8], k: u32, r: u32, j: u32, hs: &[u32]) -> bool
-    requires { ⌜ (j < r) × (r < length (now hs)) × (Hashed (now s) k (r + 1) (now hs)) ⌝ }
-    ensures { λ b. ⌜ b ≡ sameName (now (s .entry)) k r j ⌝ }
+fn same_name(image: &[u8], k: u32, r: u32, j: u32, hs: &[u32]) -> bool
+    requires { ⌜ (j < r) × (r < length (now hs)) × (Hashed (now image) k (r + 1) (now hs)) ⌝ }
+    ensures { λ b. ⌜ b ≡ sameName (now (image .entry)) k r j ⌝ }
 {
     if hs[j as usize] != hs[r as usize] {
         return false;
     }
-    same_text(image_fields::name(s, k, j), image_fields::name(s, k, r))
+    same_text(
+        image_fields::name(image, k, j),
+        image_fields::name(image, k, r),
+    )
 }
 
 // An earlier record of section k has the name of record r; hs are the names' hashes.
-fn name_taken(s: &[u8], k: u32, r: u32, hs: &[u32]) -> bool
-    requires { ⌜ (r < length (now hs)) × (Hashed (now s) k (r + 1) (now hs)) ⌝ }
-    ensures { λ b. ⌜ b ≡ nameTaken (now (s .entry)) k r ⌝ }
+fn name_taken(image: &[u8], k: u32, r: u32, hs: &[u32]) -> bool
+    requires { ⌜ (r < length (now hs)) × (Hashed (now image) k (r + 1) (now hs)) ⌝ }
+    ensures { λ b. ⌜ b ≡ nameTaken (now (image .entry)) k r ⌝ }
 {
     let mut j: u32 = 0;
     while j < r {
-        if same_name(s, k, r, j, hs) {
+        if same_name(image, k, r, j, hs) {
             return true;
         }
         j += 1;
@@ -121,30 +124,30 @@ fn name_taken(s: &[u8], k: u32, r: u32, hs: &[u32]) -> bool
 }
 
 // The same; seen has a byte for each remainder of a hash, not 0 where an earlier name has it. Then that of record r too.
-fn name_seen(s: &[u8], k: u32, r: u32, hs: &[u32], seen: &mut [u8]) -> bool
-    requires { ⌜ (r < length (now hs)) × (Hashed (now s) k (r + 1) (now hs)) × (0 < length (now seen)) × (Seen (now s) k r (now seen)) ⌝ }
-    ensures { λ b. ⌜ (b ≡ nameTaken (now (s .entry)) k r) × (Seen (now (s .entry)) k (r + 1) (now (seen .exit))) ⌝ }
+fn name_seen(image: &[u8], k: u32, r: u32, hs: &[u32], seen: &mut [u8]) -> bool
+    requires { ⌜ (r < length (now hs)) × (Hashed (now image) k (r + 1) (now hs)) × (0 < length (now seen)) × (Seen (now image) k r (now seen)) ⌝ }
+    ensures { λ b. ⌜ (b ≡ nameTaken (now (image .entry)) k r) × (Seen (now (image .entry)) k (r + 1) (now (seen .exit))) ⌝ }
 {
     let at = hs[r as usize] as usize % seen.len();
     if seen[at] == 0 {
         seen[at] = 1;
         return false;
     }
-    name_taken(s, k, r, hs)
+    name_taken(image, k, r, hs)
 }
 
 // The first of the n records of section k whose name breaks a rule, and n where there is none; the tables hold hashes and remainders.
-fn first_among(s: &[u8], k: u32, n: u32, hs: &mut [u32], seen: &mut [u8]) -> u32
+fn first_among(image: &[u8], k: u32, n: u32, hs: &mut [u32], seen: &mut [u8]) -> u32
     requires { ⌜ (n ≤ length (now hs)) × (0 < length (now seen)) ⌝ }
-    ensures { λ r. ⌜ r ≡ first (wrongName (now (s .entry)) k) n ⌝ }
+    ensures { λ r. ⌜ r ≡ first (wrongName (now (image .entry)) k) n ⌝ }
 {
-    lay_hashes(s, k, n, hs);
+    lay_hashes(image, k, n, hs);
     let mut r: u32 = 0;
     while r < n {
-        if bad_name(s, k, r) {
+        if bad_name(image, k, r) {
             return r;
         }
-        if name_seen(s, k, r, hs, seen) {
+        if name_seen(image, k, r, hs, seen) {
             return r;
         }
         r += 1;
@@ -153,38 +156,38 @@ fn first_among(s: &[u8], k: u32, n: u32, hs: &mut [u32], seen: &mut [u8]) -> u32
 }
 
 // The same for at most 32 records.
-fn first_of_few(s: &[u8], k: u32, n: u32) -> u32
+fn first_of_few(image: &[u8], k: u32, n: u32) -> u32
     requires { ⌜ n ≤ 32 ⌝ }
-    ensures { λ r. ⌜ r ≡ first (wrongName (now (s .entry)) k) n ⌝ }
+    ensures { λ r. ⌜ r ≡ first (wrongName (now (image .entry)) k) n ⌝ }
 {
     let mut hs: [u32; 32] = [0; 32];
     let mut seen: [u8; 64] = [0; 64];
-    first_among(s, k, n, &mut hs, &mut seen)
+    first_among(image, k, n, &mut hs, &mut seen)
 }
 
 // The same for at most 512 records.
-fn first_of_many(s: &[u8], k: u32, n: u32) -> u32
+fn first_of_many(image: &[u8], k: u32, n: u32) -> u32
     requires { ⌜ n ≤ 512 ⌝ }
-    ensures { λ r. ⌜ r ≡ first (wrongName (now (s .entry)) k) n ⌝ }
+    ensures { λ r. ⌜ r ≡ first (wrongName (now (image .entry)) k) n ⌝ }
 {
     let mut hs: [u32; 512] = [0; 512];
     let mut seen: [u8; 4096] = [0; 4096];
-    first_among(s, k, n, &mut hs, &mut seen)
+    first_among(image, k, n, &mut hs, &mut seen)
 }
 
 // The first of the records of section k whose name breaks a rule; their count where there is none.
-pub fn first_name(s: &[u8], k: u32) -> u32
-    requires { ⌜ countAt (now s) k ≤ 512 ⌝ }
-    ensures { λ r. ⌜ r ≡ first (wrongName (now (s .entry)) k) (countAt (now (s .entry)) k) ⌝ }
+pub fn first_name(image: &[u8], k: u32) -> u32
+    requires { ⌜ countAt (now image) k ≤ 512 ⌝ }
+    ensures { λ r. ⌜ r ≡ first (wrongName (now (image .entry)) k) (countAt (now (image .entry)) k) ⌝ }
 {
-    let n = image_fields::count(s, k);
+    let n = image_fields::count(image, k);
     if n == 0 {
         return 0;
     }
     if n <= 32 {
-        return first_of_few(s, k, n);
+        return first_of_few(image, k, n);
     }
-    first_of_many(s, k, n)
+    first_of_many(image, k, n)
 }
 
 // The earlier of two places.

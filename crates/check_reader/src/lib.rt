@@ -22,21 +22,21 @@ pub struct Lowering<'a> {
 fn signal_name_in(image: &[u8], p: u32) -> &[u8]
     ensures { λ t. ⌜ now t ≡ nameOf (now (image .entry)) 0 p ⌝ }
 {
-    image_fields::name(image, 0, p)
+    image_fields::name(image, image_fields::SIGNALS, p)
 }
 
 // The name of register r.
 fn register_name_in(image: &[u8], r: u32) -> &[u8]
     ensures { λ t. ⌜ now t ≡ nameOf (now (image .entry)) 4 r ⌝ }
 {
-    image_fields::name(image, 4, r)
+    image_fields::name(image, image_fields::REGISTERS, r)
 }
 
 // The name of memory m.
 fn memory_name_in(image: &[u8], m: u32) -> &[u8]
     ensures { λ t. ⌜ now t ≡ nameOf (now (image .entry)) 5 m ⌝ }
 {
-    image_fields::name(image, 5, m)
+    image_fields::name(image, image_fields::MEMORIES, m)
 }
 
 impl<'a> Lowering<'a> {

@@ -1,4 +1,2 @@
 -- Definitions of this crate.
-pub mod Rows
-pub mod Build
 pub mod Steps

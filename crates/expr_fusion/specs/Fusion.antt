@@ -22,7 +22,7 @@ use Rattle.image_records.specs.declared.ExprKind.the-variants as K
 use Rattle.word_laws.specs.Shift.{T-true, T-false}
 use Rattle.word_laws.specs.Tree.{eqb-no}
 use Rattle.word_ranges.specs.Carry.{zero-is}
-use Rattle.image_operators.specs.OpClass.{opClassOf, addsOf, add-class}
+use Rattle.image_records.specs.OpClass.{opClassOf, addsOf, add-class}
 use Rattle.expr_laws.specs.Listed.{below-listOf, onward, onward-all, onward-cons, onward-none}
 use Rattle.expr_laws.specs.Exprs.{exprsOf, Readable, in-exprs, width-at, width-least, width-read, kind-read, low-read, listed-read}
 use Rattle.expr_fusion.specs.declared.ZeroTest.{ZeroTest}

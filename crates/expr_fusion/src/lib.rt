@@ -5,8 +5,8 @@ ghost use Rattle.spec_rtl.specs.Rtl as R;
 ghost use Rattle.spec_model.specs.Lowering as model;
 ghost use Rattle.expr_laws.specs.Exprs.{exprsOf, Readable};
 ghost use Rattle.expr_fusion.specs.Fusion.{In, InList, Inside, partsOf, ZeroStep, carryOf, carryBy, sumOf, sumBy, fusionOf, fusionBy, eitherSide, shown};
-use image_operators::OpClass;
 use image_records::ExprKind;
+use image_records::OpClass;
 
 // What an expression's kind says of its being zero.
 pub enum ZeroTest {
@@ -15,16 +15,16 @@ pub enum ZeroTest {
     Parts(u32, u32),
 }
 
-fn zero_test(s: &[u8], e: u32) -> ZeroTest
-    requires { ⌜ In (now s) e ⌝ }
-    ensures { λ r. ⌜ ZeroStep (now (s .entry)) e r ⌝ }
+fn zero_test(image: &[u8], e: u32) -> ZeroTest
+    requires { ⌜ In (now image) e ⌝ }
+    ensures { λ r. ⌜ ZeroStep (now (image .entry)) e r ⌝ }
 {
-    let x = image_records::expression_at(s, e);
+    let x = image_records::expression_at(image, e);
     let width = x.width;
     let kind = x.kind;
     match kind {
         ExprKind::Constant(start) => {
-            if expr_constants::low_constant(s, start, width) == 0 {
+            if expr_constants::low_constant(image, start, width) == 0 {
                 return ZeroTest::Zero;
             }
             ZeroTest::NotZero
@@ -39,18 +39,18 @@ fn zero_test(s: &[u8], e: u32) -> ZeroTest
 }
 
 // Follows nested Concats down to their constants; the expression number falls at each call.
-pub fn is_zero_expression(s: &[u8], e: u32) -> bool
-    requires { ⌜ In (now s) e ⌝ }
-    ensures { λ b. ⌜ b ≡ model.isZeroExpression (exprsOf (now (s .entry))) e ⌝ }
+pub fn is_zero_expression(image: &[u8], e: u32) -> bool
+    requires { ⌜ In (now image) e ⌝ }
+    ensures { λ b. ⌜ b ≡ model.isZeroExpression (exprsOf (now (image .entry))) e ⌝ }
 {
-    let test = zero_test(s, e);
+    let test = zero_test(image, e);
     match test {
         ZeroTest::Zero => true,
         ZeroTest::NotZero => false,
         ZeroTest::Parts(start, count) => {
             let mut i: u32 = 0;
             while i < count {
-                if !is_zero_expression(s, image_fields::list_word(s, start + i)) {
+                if !is_zero_expression(image, image_fields::list_word(image, start + i)) {
                     return false;
                 }
                 i += 1;
@@ -67,9 +67,9 @@ pub enum Carry {
 }
 
 // Of a Concat: its last part, one bit wide, under parts that are zero.
-fn carry_part(s: &[u8], start: u32, count: u32) -> Carry
-    requires { ⌜ InList (now s) start count ⌝ }
-    ensures { λ r. ⌜ carryOf r ≡ model.carryParts (exprsOf (now (s .entry))) (partsOf (now (s .entry)) start count) ⌝ }
+fn carry_part(image: &[u8], start: u32, count: u32) -> Carry
+    requires { ⌜ InList (now image) start count ⌝ }
+    ensures { λ r. ⌜ carryOf r ≡ model.carryParts (exprsOf (now (image .entry))) (partsOf (now (image .entry)) start count) ⌝ }
 {
     if count == 0 {
         return Carry::Nothing;
@@ -77,34 +77,34 @@ fn carry_part(s: &[u8], start: u32, count: u32) -> Carry
     let last = count - 1;
     let mut i: u32 = 0;
     while i < last {
-        if !is_zero_expression(s, image_fields::list_word(s, start + i)) {
+        if !is_zero_expression(image, image_fields::list_word(image, start + i)) {
             return Carry::Nothing;
         }
         i += 1;
     }
-    let part = image_fields::list_word(s, start + last);
-    if image_fields::expr_width(s, part) == 1 {
+    let part = image_fields::list_word(image, start + last);
+    if image_fields::expr_width(image, part) == 1 {
         return Carry::Of(part);
     }
     Carry::Nothing
 }
 
 // The carry that an expression of width above 1 can be, by its kind.
-fn carry_kind(s: &[u8], e: u32) -> Carry
-    requires { ⌜ In (now s) e ⌝ }
-    ensures { λ r. ⌜ carryOf r ≡ carryBy (now (s .entry)) e ⌝ }
+fn carry_kind(image: &[u8], e: u32) -> Carry
+    requires { ⌜ In (now image) e ⌝ }
+    ensures { λ r. ⌜ carryOf r ≡ carryBy (now (image .entry)) e ⌝ }
 {
-    let x = image_records::expression_at(s, e);
+    let x = image_records::expression_at(image, e);
     let width = x.width;
     let kind = x.kind;
     match kind {
         ExprKind::Constant(start) => {
-            if expr_constants::low_constant(s, start, width) < 2 {
+            if expr_constants::low_constant(image, start, width) < 2 {
                 return Carry::Of(e);
             }
             Carry::Nothing
         }
-        ExprKind::Concat(start, count) => carry_part(s, start, count),
+        ExprKind::Concat(start, count) => carry_part(image, start, count),
         ExprKind::Signal(_, _) => Carry::Nothing,
         ExprKind::Unary(_, _) => Carry::Nothing,
         ExprKind::Binary(_, _, _) => Carry::Nothing,
@@ -113,14 +113,14 @@ fn carry_kind(s: &[u8], e: u32) -> Carry
     }
 }
 
-pub fn carry_lsb(s: &[u8], e: u32) -> Carry
-    requires { ⌜ In (now s) e ⌝ }
-    ensures { λ r. ⌜ carryOf r ≡ model.carryLsb (exprsOf (now (s .entry))) e ⌝ }
+pub fn carry_lsb(image: &[u8], e: u32) -> Carry
+    requires { ⌜ In (now image) e ⌝ }
+    ensures { λ r. ⌜ carryOf r ≡ model.carryLsb (exprsOf (now (image .entry))) e ⌝ }
 {
-    if image_fields::expr_width(s, e) == 1 {
+    if image_fields::expr_width(image, e) == 1 {
         return Carry::Of(e);
     }
-    carry_kind(s, e)
+    carry_kind(image, e)
 }
 
 // The operands of an Add.
@@ -132,7 +132,7 @@ pub enum Sum {
 fn sum_of(op: image_records::BinaryOp, lhs: u32, rhs: u32) -> Sum
     ensures { λ r. ⌜ sumOf r ≡ sumBy op lhs rhs ⌝ }
 {
-    let class = image_operators::op_class(op);
+    let class = image_records::op_class(op);
     match class {
         OpClass::Adds => Sum::Of(lhs, rhs),
         OpClass::Ands => Sum::Nothing,
@@ -142,11 +142,11 @@ fn sum_of(op: image_records::BinaryOp, lhs: u32, rhs: u32) -> Sum
     }
 }
 
-pub fn add_operands(s: &[u8], e: u32) -> Sum
-    requires { ⌜ In (now s) e ⌝ }
-    ensures { λ r. ⌜ sumOf r ≡ model.addOperands (exprsOf (now (s .entry))) e ⌝ }
+pub fn add_operands(image: &[u8], e: u32) -> Sum
+    requires { ⌜ In (now image) e ⌝ }
+    ensures { λ r. ⌜ sumOf r ≡ model.addOperands (exprsOf (now (image .entry))) e ⌝ }
 {
-    let x = image_records::expression_at(s, e);
+    let x = image_records::expression_at(image, e);
     let kind = x.kind;
     match kind {
         ExprKind::Binary(op, lhs, rhs) => sum_of(op, lhs, rhs),
@@ -166,15 +166,15 @@ pub enum Fusion {
 }
 
 // The inner Add on one side, the carry on the other.
-fn fusion_side(s: &[u8], inner: u32, other: u32) -> Fusion
-    requires { ⌜ Inside (now s) inner other ⌝ }
-    ensures { λ r. ⌜ fusionOf r ≡ fusionBy (now (s .entry)) inner other ⌝ }
+fn fusion_side(image: &[u8], inner: u32, other: u32) -> Fusion
+    requires { ⌜ Inside (now image) inner other ⌝ }
+    ensures { λ r. ⌜ fusionOf r ≡ fusionBy (now (image .entry)) inner other ⌝ }
 {
-    let sum = add_operands(s, inner);
+    let sum = add_operands(image, inner);
     let Sum::Of(lhs, rhs) = sum else {
         return Fusion::Plain;
     };
-    let carry = carry_lsb(s, other);
+    let carry = carry_lsb(image, other);
     let Carry::Of(c) = carry else {
         return Fusion::Plain;
     };
@@ -182,13 +182,13 @@ fn fusion_side(s: &[u8], inner: u32, other: u32) -> Fusion
 }
 
 // Fusion is tried on the left, then on the right.
-pub fn fusion_test(s: &[u8], lhs: u32, rhs: u32) -> Fusion
-    requires { ⌜ Inside (now s) lhs rhs ⌝ }
-    ensures { λ r. ⌜ fusionOf r ≡ eitherSide (now (s .entry)) lhs rhs ⌝ }
+pub fn fusion_test(image: &[u8], lhs: u32, rhs: u32) -> Fusion
+    requires { ⌜ Inside (now image) lhs rhs ⌝ }
+    ensures { λ r. ⌜ fusionOf r ≡ eitherSide (now (image .entry)) lhs rhs ⌝ }
 {
-    let left = fusion_side(s, lhs, rhs);
+    let left = fusion_side(image, lhs, rhs);
     let Fusion::Carried(a, b, c) = left else {
-        return fusion_side(s, rhs, lhs);
+        return fusion_side(image, rhs, lhs);
     };
     Fusion::Carried(a, b, c)
 }
@@ -200,11 +200,11 @@ pub struct Operands {
     pub carry: Carry,
 }
 
-pub fn add_with_carry(s: &[u8], lhs: u32, rhs: u32) -> Operands
-    requires { ⌜ Inside (now s) lhs rhs ⌝ }
-    ensures { λ r. ⌜ shown r ≡ model.operandsOf (exprsOf (now (s .entry))) R.Add lhs rhs ⌝ }
+pub fn add_with_carry(image: &[u8], lhs: u32, rhs: u32) -> Operands
+    requires { ⌜ Inside (now image) lhs rhs ⌝ }
+    ensures { λ r. ⌜ shown r ≡ model.operandsOf (exprsOf (now (image .entry))) R.Add lhs rhs ⌝ }
 {
-    let answer = fusion_test(s, lhs, rhs);
+    let answer = fusion_test(image, lhs, rhs);
     let Fusion::Carried(a, b, c) = answer else {
         return Operands {
             lhs,

@@ -1,4 +1,4 @@
--- Lists made by `listOf`: their length and their elements (passed on), bounds of them, the elements from one on. Assumes nothing.
+-- Lists made by `listOf`: bounds of their elements, the elements from one on. Assumes nothing.
 use mathlib.Core.Path.{_≡_, ap}
 use mathlib.Core.List.{List, [], _∷_}
 use Prim.Native.Nat.{ℕ, zero, suc, _+_, _-_, _≤_, _<_}
@@ -8,7 +8,7 @@ use native.Mathlib.Nat.{not-suc-le-zero, le-of-suc-le-suc}
 use lib.ListN.{length, getD}
 use Rattle.spec_tests.specs.Rules.{each, listOf}
 use Rattle.word_laws.specs.Widths.{AllBelow}
-pub use Rattle.scratch_view.specs.Rows.{length-listOf, at-listOf as getD-listOf}
+use Rattle.scratch_view.specs.Rows.{length-listOf, at-listOf}
 
 pub below-at : (x : ℕ) (l : List ℕ) (i d : ℕ) → AllBelow x l → i < length l → getD l i d < x
 below-at x [] i d b h = absurd (not-suc-le-zero h)
@@ -19,7 +19,7 @@ below-at x (y ∷ l) (suc i) d b h = below-at x l i d (b .1) (le-of-suc-le-suc h
 pub below-listOf : (x n : ℕ) (f : ℕ → ℕ) (i : ℕ) → AllBelow x (listOf n f) → i < n → f i < x
 below-listOf x n f i b h =
     let g = below-at x (listOf n f) i 0 b (rw (length-listOf n f) h) in
-    rw (getD-listOf n f i 0 h) at g
+    rw (at-listOf n f i 0 h) at g
 
 -- ---- the elements from one on ----
 

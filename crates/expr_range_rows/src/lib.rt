@@ -105,25 +105,13 @@ pub fn sub_range(l: Range, r: Range, width: u32) -> Range
     full(width)
 }
 
-fn lesser(a: u64, b: u64) -> u64
-    ensures { λ r. ⌜ r ≡ min a b ⌝ }
-{
-    if a < b { a } else { b }
-}
-
-fn greater(a: u64, b: u64) -> u64
-    ensures { λ r. ⌜ r ≡ max a b ⌝ }
-{
-    if a < b { b } else { a }
-}
-
 // And: at most the smaller of the largest.
 pub fn and_range(l: Range, r: Range) -> Range
     ensures { λ x. ⌜ shown x ≡ andRange (shown l) (shown r) ⌝ }
 {
     Range {
         min: 0,
-        max: lesser(l.max, r.max),
+        max: word_order::smaller_u64(l.max, r.max),
     }
 }
 
@@ -150,16 +138,16 @@ pub fn or_range(l: Range, r: Range) -> Range
 {
     Range {
         min: 0,
-        max: ones(greater(l.max, r.max)),
+        max: ones(word_order::larger_u64(l.max, r.max)),
     }
 }
 
-fn hull(y: Range, n: Range) -> Range
-    ensures { λ x. ⌜ shown x ≡ model.hull (shown y) (shown n) ⌝ }
+fn hull(lhs: Range, rhs: Range) -> Range
+    ensures { λ x. ⌜ shown x ≡ model.hull (shown lhs) (shown rhs) ⌝ }
 {
     Range {
-        min: lesser(y.min, n.min),
-        max: greater(y.max, n.max),
+        min: word_order::smaller_u64(lhs.min, rhs.min),
+        max: word_order::larger_u64(lhs.max, rhs.max),
     }
 }
 
@@ -176,20 +164,20 @@ fn is_point(k: u64, r: Range) -> bool
 }
 
 // Mux: the side that a constant condition takes, else the hull of both.
-pub fn mux_range(c: Known, y: Range, n: Range) -> Range
-    ensures { λ x. ⌜ shown x ≡ model.muxRange (known c) (shown y) (shown n) ⌝ }
+pub fn mux_range(condition: Known, then_range: Range, else_range: Range) -> Range
+    ensures { λ x. ⌜ shown x ≡ model.muxRange (known condition) (shown «then_range») (shown «else_range») ⌝ }
 {
-    match c {
+    match condition {
         Known::Of(r) => {
             if is_point(0, r) {
-                return n;
+                return else_range;
             }
             if is_point(1, r) {
-                return y;
+                return then_range;
             }
-            hull(y, n)
+            hull(then_range, else_range)
         }
-        Known::Wide => hull(y, n),
+        Known::Wide => hull(then_range, else_range),
     }
 }
 
@@ -204,7 +192,7 @@ pub fn slice_range(lsb: u32, width: u32, r: Range) -> Range
     }
     Range {
         min: 0,
-        max: lesser(high, mask(width)),
+        max: word_order::smaller_u64(high, mask(width)),
     }
 }
 

@@ -25,9 +25,9 @@ use Rattle.word_laws.specs.Widths.{sumOf}
 use Rattle.word_ranges.specs.Rows.{Sound}
 use Rattle.word_ranges.specs.Sound.{SoundO, range-is, range-sound}
 use Rattle.expr_range_rows.specs.Rows.{andRange, narrowWord}
-use Rattle.image_operators.specs.OpClass.{opClassOf, classRange, range-class}
-use Rattle.image_operators.specs.declared.OpClass.{OpClass}
-use Rattle.image_operators.specs.declared.OpClass.the-variants.{Ands}
+use Rattle.image_records.specs.OpClass.{opClassOf, classRange, range-class}
+use Rattle.image_records.specs.declared.OpClass.{OpClass}
+use Rattle.image_records.specs.declared.OpClass.the-variants.{Ands}
 use Rattle.expr_laws.specs.Listed.{below-listOf, onward, onward-all, onward-cons, onward-none}
 use Rattle.expr_laws.specs.Exprs.{exprsOf, Readable, in-exprs, width-at, width-least, width-read, kind-read, low-read, wide-read, listed-read}
 use Rattle.expr_ranges.specs.Table.{rangeIn, putRow, rangeOr, Bounded, filled, filled-range, length-filled}

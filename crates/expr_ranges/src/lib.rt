@@ -13,9 +13,9 @@ ghost use Rattle.expr_ranges.specs.Table.{rangeIn, putRow, filled};
 ghost use Rattle.expr_ranges.specs.Steps.{Row, Rows, RowList, TwoRows, MuxRows, SliceRow, partsRange, rangeBy, rowWidth, rowRange};
 use expr_range_rows::Known;
 use expr_range_rows::Range;
-use image_operators::OpClass;
 use image_records::BinaryOp;
 use image_records::ExprKind;
+use image_records::OpClass;
 
 fn low_half(x: u64) -> u32
     ensures { λ r. ⌜ r ≡ x % 4294967296 ⌝ }
@@ -40,7 +40,7 @@ fn store_row(table: &mut [u32], e: u32, range: Range, width: u32)
     requires { ⌜ e * 8 + 8 ≤ length (now table) ⌝ }
     ensures { λ _. ⌜ now (table .exit) ≡ putRow (now (table .entry)) e (shown range) width ⌝ }
 {
-    let at = (e as usize) * 8 + 2;
+    let at = (e as usize) * scratch_view::ROW + scratch_view::RANGE;
     table[at] = low_half(range.min);
     table[at + 1] = high_half(range.min);
     table[at + 2] = low_half(range.max);
@@ -53,7 +53,7 @@ fn load_range(table: &[u32], e: u32) -> Range
     requires { ⌜ e * 8 + 8 ≤ length (now table) ⌝ }
     ensures { λ r. ⌜ shown r ≡ rangeIn (now (table .entry)) e ⌝ }
 {
-    let at = (e as usize) * 8 + 2;
+    let at = (e as usize) * scratch_view::ROW + scratch_view::RANGE;
     Range {
         min: both_halves(table[at], table[at + 1]),
         max: both_halves(table[at + 2], table[at + 3]),
@@ -76,7 +76,7 @@ fn binary_range(op: BinaryOp, l: Range, r: Range, width: u32) -> Range
     requires { ⌜ Held l r width ⌝ }
     ensures { λ x. ⌜ shown x ≡ model.binaryRange (model.classOf (binaryMeans op)) width (shown l) (shown r) ⌝ }
 {
-    let class = image_operators::op_class(op);
+    let class = image_records::op_class(op);
     match class {
         OpClass::Ands => expr_range_rows::and_range(l, r),
         OpClass::Ors => expr_range_rows::or_range(l, r),
@@ -195,7 +195,7 @@ pub fn adder_widths(image: &[u8], table: &mut [u32])
     requires { ⌜ Readable (now image) × (countAt (now image) 1 * 8 ≤ length (now table)) ⌝ }
     ensures { λ _. ⌜ now (table .exit) ≡ filled (exprsOf (now (image .entry))) (countAt (now (image .entry)) 1) (now (table .entry)) ⌝ }
 {
-    let count = image_fields::count(image, 1);
+    let count = image_fields::count(image, image_fields::EXPRESSIONS);
     let mut e: u32 = 0;
     while e < count {
         fill_row(image, table, e);

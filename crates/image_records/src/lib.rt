@@ -1,9 +1,11 @@
-// The records of the image as values: expressions, signals, assignments, registers and memories.
+// The records of the image as values: expressions, signals, assignments, registers and memories; operators by class.
 ghost use mathlib.Core.Path.{_≡_};
 ghost use Prim.Native.Nat.{_≤_};
 ghost use Rattle.spec_rules.specs.Image.{direction, signalAt, assignAt, registerAt, memoryAt};
 ghost use Rattle.image_records.specs.Others.{directionMeans, signalMeans, assignmentMeans, controlMeans, enableMeans, resetMeans, registerMeans, portMeans, secondMeans, memoryMeans, controlIn, enableIn, resetIn, portIn, secondIn};
 ghost use Rattle.image_records.specs.Expr.{unaryOf, binaryOf, kindOf, expressionIn, Decoded};
+ghost use Rattle.image_records.specs.OpClass.{opClassOf, bitwise};
+use image_numbers::ABSENT;
 
 pub enum UnaryOp {
     BitNot,
@@ -137,11 +139,11 @@ fn first_expression(p: &[u8]) -> Expression
 fn last_expression(part: &[u8], r: u32) -> Expression
     ensures { λ x. ⌜ x ≡ expressionIn (now (part .entry)) r ⌝ }
 {
-    let k = image_fields::field(part, 1, r, 0);
-    let width = image_fields::field(part, 1, r, 1);
-    let a = image_fields::field(part, 1, r, 2);
-    let b = image_fields::field(part, 1, r, 3);
-    let c = image_fields::field(part, 1, r, 4);
+    let k = image_fields::field(part, image_fields::EXPRESSIONS, r, 0);
+    let width = image_fields::field(part, image_fields::EXPRESSIONS, r, 1);
+    let a = image_fields::field(part, image_fields::EXPRESSIONS, r, 2);
+    let b = image_fields::field(part, image_fields::EXPRESSIONS, r, 3);
+    let c = image_fields::field(part, image_fields::EXPRESSIONS, r, 4);
     Expression {
         width,
         kind: kind(k, a, b, c),
@@ -161,10 +163,10 @@ pub fn expression_in(part: &[u8], r: u32) -> Expression
 }
 
 // Expression r of the image.
-pub fn expression_at(s: &[u8], r: u32) -> Expression
-    ensures { λ x. ⌜ Decoded (now (s .entry)) r x ⌝ }
+pub fn expression_at(image: &[u8], r: u32) -> Expression
+    ensures { λ x. ⌜ Decoded (now (image .entry)) r x ⌝ }
 {
-    expression_in(image_fields::section(s, 1), r)
+    expression_in(image_fields::section(image, image_fields::EXPRESSIONS), r)
 }
 
 pub enum Direction {
@@ -253,24 +255,24 @@ fn direction_of(n: u32) -> Direction
 }
 
 // Signal r of the image.
-pub fn signal_at(s: &[u8], r: u32) -> Signal
-    ensures { λ x. ⌜ signalMeans x ≡ signalAt (now (s .entry)) r ⌝ }
+pub fn signal_at(image: &[u8], r: u32) -> Signal
+    ensures { λ x. ⌜ signalMeans x ≡ signalAt (now (image .entry)) r ⌝ }
 {
-    let part = image_fields::section(s, 0);
-    let width = image_fields::field(part, 0, r, 2);
-    let direction = direction_of(image_fields::field(part, 0, r, 3));
+    let part = image_fields::section(image, image_fields::SIGNALS);
+    let width = image_fields::field(part, image_fields::SIGNALS, r, 2);
+    let direction = direction_of(image_fields::field(part, image_fields::SIGNALS, r, 3));
     Signal { width, direction }
 }
 
 // Assignment r of the image.
-pub fn assignment_at(s: &[u8], r: u32) -> Assignment
-    ensures { λ x. ⌜ assignmentMeans x ≡ assignAt (now (s .entry)) r ⌝ }
+pub fn assignment_at(image: &[u8], r: u32) -> Assignment
+    ensures { λ x. ⌜ assignmentMeans x ≡ assignAt (now (image .entry)) r ⌝ }
 {
-    let part = image_fields::section(s, 3);
-    let signal = image_fields::field(part, 3, r, 0);
-    let lsb = image_fields::field(part, 3, r, 1);
-    let width = image_fields::field(part, 3, r, 2);
-    let value = image_fields::field(part, 3, r, 3);
+    let part = image_fields::section(image, image_fields::ASSIGNMENTS);
+    let signal = image_fields::field(part, image_fields::ASSIGNMENTS, r, 0);
+    let lsb = image_fields::field(part, image_fields::ASSIGNMENTS, r, 1);
+    let width = image_fields::field(part, image_fields::ASSIGNMENTS, r, 2);
+    let value = image_fields::field(part, image_fields::ASSIGNMENTS, r, 3);
     Assignment {
         signal,
         lsb,
@@ -297,7 +299,7 @@ fn enable_in(part: &[u8], k: u32, r: u32, f: u32) -> Enable
     requires { ⌜ f ≤ 32 ⌝ }
     ensures { λ x. ⌜ enableMeans x ≡ enableIn (now (part .entry)) k r f ⌝ }
 {
-    if image_fields::field(part, k, r, f) == 4294967295 {
+    if image_fields::field(part, k, r, f) == ABSENT {
         return Enable::Absent;
     }
     Enable::Present(control_in(part, k, r, f))
@@ -307,12 +309,12 @@ fn enable_in(part: &[u8], k: u32, r: u32, f: u32) -> Enable
 fn reset_in(part: &[u8], r: u32) -> ResetOption
     ensures { λ x. ⌜ resetMeans x ≡ resetIn (now (part .entry)) r ⌝ }
 {
-    if image_fields::field(part, 4, r, 8) == 4294967295 {
+    if image_fields::field(part, image_fields::REGISTERS, r, 8) == ABSENT {
         return ResetOption::Absent;
     }
-    let control = control_in(part, 4, r, 8);
-    let mode = image_fields::field(part, 4, r, 10);
-    let value = image_fields::field(part, 4, r, 11);
+    let control = control_in(part, image_fields::REGISTERS, r, 8);
+    let mode = image_fields::field(part, image_fields::REGISTERS, r, 10);
+    let value = image_fields::field(part, image_fields::REGISTERS, r, 11);
     ResetOption::Present(Reset {
         control,
         asynchronous: mode == 1,
@@ -321,15 +323,15 @@ fn reset_in(part: &[u8], r: u32) -> ResetOption
 }
 
 // Register r of the image.
-pub fn register_at(s: &[u8], r: u32) -> Register
-    ensures { λ x. ⌜ registerMeans x ≡ registerAt (now (s .entry)) r ⌝ }
+pub fn register_at(image: &[u8], r: u32) -> Register
+    ensures { λ x. ⌜ registerMeans x ≡ registerAt (now (image .entry)) r ⌝ }
 {
-    let part = image_fields::section(s, 4);
-    let target = image_fields::field(part, 4, r, 2);
-    let next = image_fields::field(part, 4, r, 3);
-    let clock = image_fields::field(part, 4, r, 4);
-    let edge = image_fields::field(part, 4, r, 5);
-    let enable = enable_in(part, 4, r, 6);
+    let part = image_fields::section(image, image_fields::REGISTERS);
+    let target = image_fields::field(part, image_fields::REGISTERS, r, 2);
+    let next = image_fields::field(part, image_fields::REGISTERS, r, 3);
+    let clock = image_fields::field(part, image_fields::REGISTERS, r, 4);
+    let edge = image_fields::field(part, image_fields::REGISTERS, r, 5);
+    let enable = enable_in(part, image_fields::REGISTERS, r, 6);
     let reset = reset_in(part, r);
     Register {
         target,
@@ -346,14 +348,14 @@ fn port_in(part: &[u8], r: u32, f: u32) -> MemoryPort
     requires { ⌜ f ≤ 17 ⌝ }
     ensures { λ x. ⌜ portMeans x ≡ portIn (now (part .entry)) r f ⌝ }
 {
-    let read_address = image_fields::field(part, 5, r, f);
-    let read_data = image_fields::field(part, 5, r, f + 1);
-    let read_enable = enable_in(part, 5, r, f + 2);
-    let write_address = image_fields::field(part, 5, r, f + 4);
-    let write_data = image_fields::field(part, 5, r, f + 5);
-    let write_enable = control_in(part, 5, r, f + 6);
-    let clock = image_fields::field(part, 5, r, f + 8);
-    let edge = image_fields::field(part, 5, r, f + 9);
+    let read_address = image_fields::field(part, image_fields::MEMORIES, r, f);
+    let read_data = image_fields::field(part, image_fields::MEMORIES, r, f + 1);
+    let read_enable = enable_in(part, image_fields::MEMORIES, r, f + 2);
+    let write_address = image_fields::field(part, image_fields::MEMORIES, r, f + 4);
+    let write_data = image_fields::field(part, image_fields::MEMORIES, r, f + 5);
+    let write_enable = control_in(part, image_fields::MEMORIES, r, f + 6);
+    let clock = image_fields::field(part, image_fields::MEMORIES, r, f + 8);
+    let edge = image_fields::field(part, image_fields::MEMORIES, r, f + 9);
     MemoryPort {
         read_address,
         read_data,
@@ -370,19 +372,19 @@ fn port_in(part: &[u8], r: u32, f: u32) -> MemoryPort
 fn second_in(part: &[u8], r: u32) -> SecondPort
     ensures { λ x. ⌜ secondMeans x ≡ secondIn (now (part .entry)) r ⌝ }
 {
-    if image_fields::field(part, 5, r, image_fields::HAS_SECOND) == 0 {
+    if image_fields::field(part, image_fields::MEMORIES, r, image_fields::HAS_SECOND) == 0 {
         return SecondPort::Absent;
     }
     SecondPort::Present(port_in(part, r, image_fields::SECOND_PORT))
 }
 
 // Memory r of the image.
-pub fn memory_at(s: &[u8], r: u32) -> Memory
-    ensures { λ x. ⌜ memoryMeans x ≡ memoryAt (now (s .entry)) r ⌝ }
+pub fn memory_at(image: &[u8], r: u32) -> Memory
+    ensures { λ x. ⌜ memoryMeans x ≡ memoryAt (now (image .entry)) r ⌝ }
 {
-    let part = image_fields::section(s, 5);
-    let depth = image_fields::field(part, 5, r, 2);
-    let style = image_fields::field(part, 5, r, image_fields::STYLE);
+    let part = image_fields::section(image, image_fields::MEMORIES);
+    let depth = image_fields::field(part, image_fields::MEMORIES, r, 2);
+    let style = image_fields::field(part, image_fields::MEMORIES, r, image_fields::STYLE);
     let first = port_in(part, r, image_fields::FIRST_PORT);
     let second = second_in(part, r);
     Memory {
@@ -390,5 +392,41 @@ pub fn memory_at(s: &[u8], r: u32) -> Memory
         style,
         first,
         second,
+    }
+}
+
+// ---- operators by class ----
+
+// What the ranges and the fusion ask of an operator.
+pub enum OpClass {
+    Ands,
+    Ors,
+    Adds,
+    Subtracts,
+    Other,
+}
+
+pub fn op_class(op: BinaryOp) -> OpClass
+    ensures { λ r. ⌜ r ≡ opClassOf op ⌝ }
+{
+    match op {
+        BinaryOp::And => OpClass::Ands,
+        BinaryOp::Or => OpClass::Ors,
+        BinaryOp::Xor => OpClass::Ors,
+        BinaryOp::Add => OpClass::Adds,
+        BinaryOp::Sub => OpClass::Subtracts,
+        _ => OpClass::Other,
+    }
+}
+
+// And, Or and Xor work bit by bit.
+pub fn is_bitwise(op: BinaryOp) -> bool
+    ensures { λ r. ⌜ r ≡ bitwise op ⌝ }
+{
+    match op {
+        BinaryOp::And => true,
+        BinaryOp::Or => true,
+        BinaryOp::Xor => true,
+        _ => false,
     }
 }

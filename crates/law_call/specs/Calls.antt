@@ -129,7 +129,7 @@ module _ (s : List ℕ) (N P : ℕ) (buffer scratch : List ℕ) where
     pub demand3 : Demand3 (decode s) (netlist (Call.bufferAfter s N P buffer scratch))
     demand3 = demand3-here s N P buffer scratch passes (ended .state) (ended .is)
 
-    -- the module has one run: what it shows does not hang on the values before the first round
+    -- the module has one run: what it shows does not depend on the values before the first round
     pub determined : (u u′ : Valuation) (c : Contents) (settings : List Setting) → run (ofModule (decode s) u) c settings ≡ run (ofModule (decode s) u′) c settings
     determined = determined-here s N P buffer scratch passes (ended .state) (ended .is)
 

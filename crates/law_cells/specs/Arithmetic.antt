@@ -17,6 +17,7 @@ use Rattle.spec_model.specs.Words as W
 use Rattle.spec_model.specs.Words.{absent, Node, source, Netlist, optionWord, arithmeticKey}
 use Rattle.spec_model.specs.Builder.{orMade, from, addNodes, addRecorded, ArithmeticOp, Add, Subtract, Multiply, arithmeticWord, constantValue, alsoValue, constantValues, carryValue, compute, foldBy, foldConstantArithmetic, arithmeticBy, addArithmetic}
 use Rattle.spec_model.specs.WordCells.{findCell, arithmetic, comparison}
+use Rattle.word_laws.specs.Runs.{from-at, length-from}
 use Rattle.net_view.specs.Formed.{formed-arithmetic}
 use Rattle.word_laws.specs.Widths.{AllBelow}
 use Rattle.law_nets.specs.Meaning.{decode, nodeAt, recordsWith, netValue}
@@ -26,7 +27,7 @@ use Rattle.law_nets.specs.Nodes.{arithmetic-grew, comparison-grew, getD-map-in}
 use Rattle.law_gates.specs.Nodes.{noNode}
 use Rattle.law_gates.specs.Gates.{constant-later}
 use Rattle.law_gates.specs.Many.{constants-run}
-use Rattle.law_gates.specs.Added.{length-from, getD-from, nodes-added, Recorded, recorded}
+use Rattle.law_gates.specs.Added.{nodes-added, Recorded, recorded}
 use Rattle.law_cells.specs.Records.{operationOf, operation-word, arithmetic-of, arithmetic-outputs, arithmetic-length}
 use Rattle.law_cells.specs.Cells.{arithmetic-stands, found-cell, count-with, withCell, grew-cell, count-cell, node-cell, cell-more, cell-new, cells-after, only-cell, sound-cell}
 
@@ -98,7 +99,7 @@ module _ (lhs rhs : List ℕ) (l : Netlist) (q : Sound l) (bl : AllBelow (count 
     unfolding decode nodeOf
     node-is i h =
         ap decode (getD-map-in (source 10 (W.count 3 (l .records))) (from 0 (length lhs)) i 0 noNode (rw (length-from 0 (length lhs)) h))
-        ∙ rw (getD-from 0 (length lhs) i 0 h, zero-add i, number)
+        ∙ rw (from-at 0 (length lhs) i 0 h, zero-add i, number)
 
     module _ (ns : List ℕ) (en : ns ≡ from (count l) (length lhs)) where
       abbrev record′ : List ℕ
@@ -111,7 +112,7 @@ module _ (lhs rhs : List ℕ) (l : Netlist) (q : Sound l) (bl : AllBelow (count 
       length-nets = ap length en ∙ length-from (count l) (length lhs)
 
       net-at : (i : ℕ) → i < length lhs → getD (arithmeticOutputs record′) i absent ≡ count l + i
-      net-at i h = ap (λ (z : List ℕ). getD z i absent) (arithmetic-outputs lhs rhs ns same op carry ∙ en) ∙ getD-from (count l) (length lhs) i absent h
+      net-at i h = ap (λ (z : List ℕ). getD z i absent) (arithmetic-outputs lhs rhs ns same op carry ∙ en) ∙ from-at (count l) (length lhs) i absent h
 
       the-record : arithmeticRecord after (length (recordsWith 3 (l .records))) ≡ record′
       the-record = cell-new nodes record′ l 3 refl

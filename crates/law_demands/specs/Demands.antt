@@ -302,7 +302,7 @@ module _ (m : Module) (good : Good m) (ob : Bool) (n p : ℕ) (small : n ≤ abs
   pub demand3 : Demand3 m (netlist (words n p (st .netlist)))
   demand3 = rw (image m good ob (n, p) st end) (runs m good ob (n, p) st end)
 
-  -- a resolved bit has its net's value in the settled values, so that does not hang on the values before the first round
+  -- a resolved bit has its net's value in the settled values, so that does not depend on the values before the first round
   pub resolved : (u : Valuation) (s : Setting) (c : Contents) (q i k : ℕ) → signalBit st q i ≡ some k
       → settled m u s c q i ≡ net (netlist (words n p (st .netlist))) s c k
   unfolding netValue signalBit

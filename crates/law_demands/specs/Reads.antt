@@ -18,7 +18,7 @@ use Rattle.spec_model.specs.Words.{Netlist}
 use Rattle.law_nets.specs.Meaning.{netValue}
 use Rattle.law_nets.specs.Sound.{Sound}
 use Rattle.law_nets.specs.Run.{later-refl}
-use Rattle.law_walk.specs.Kept.{Table, Agrees, Holds}
+use Rattle.law_walk.specs.Kept.{Table, Agrees, NetsGive}
 use Rattle.law_phases.specs.Made.{IsBit, SameControl, SamePort, SameReset, SameBit}
 
 head-eq : {a b : Bool} → _≡_ {A = List Bool} (a ∷ []) (b ∷ []) → a ≡ b
@@ -30,7 +30,7 @@ module _ (m : Module) (l : Netlist) (q : Sound l) (t : Table) (s : Setting) (c :
   pub bit-at : (n p : ℕ) → IsBit l t n p → netValue l s c n ≡ v p 0
   bit-at n p h = head-eq (h .holds l (later-refl q) s c v a)
 
-  pub word-at : (ns : List ℕ) (w : Valuation → List Bool) → Holds l t ns w → map (netValue l s c) ns ≡ w v
+  pub word-at : (ns : List ℕ) (w : Valuation → List Bool) → NetsGive l t ns w → map (netValue l s c) ns ≡ w v
   word-at ns w h = h .holds l (later-refl q) s c v a
 
   enabled-at : (x y : Option Control) → SameControl l t x y → enabled (λ p. v p 0) x ≡ enabled (netValue l s c) y

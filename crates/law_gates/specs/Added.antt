@@ -10,6 +10,7 @@ use lib.ListN.{length, getD}
 use borrow.Author.Tests.{ltb-true, leb-true}
 use Rattle.spec_model.specs.Words.{Node, Netlist, used}
 use Rattle.spec_model.specs.Builder.{refused, done, andThen, Made, addNode, each, both, from, addNodes, push, addRecorded, nodeForNet}
+use Rattle.word_laws.specs.Runs.{from-at}
 use Rattle.net_view.specs.Laws.{withNode, withRecord}
 use Rattle.law_nets.specs.Meaning.{recordsWith}
 use Rattle.law_nets.specs.Sound.{count, Grew}
@@ -44,17 +45,6 @@ node-added (x ∷ xs) l (suc i) h =
     ap (nodeForNet (withNodes xs (withNode x l))) {x = count l + suc i} {y = suc (count l) + i} (omega arith) ∙ node-added xs (withNode x l) i (le-of-suc-le-suc h)
 
 -- ---- the calls that add nodes ----
-
-pub length-from : (b w : ℕ) → length (from b w) ≡ w
-unfolding from
-length-from b zero = refl
-length-from b (suc w) = ap suc (length-from (suc b) w)
-
-pub getD-from : (b w i d : ℕ) → i < w → getD (from b w) i d ≡ b + i
-unfolding from
-getD-from b zero i d h = absurd (not-suc-le-zero h)
-getD-from b (suc w) zero d h = sym (add-zero b)
-getD-from b (suc w) (suc i) d h = getD-from (suc b) w i d (le-of-suc-le-suc h) ∙ omega arith
 
 -- the nets that are given, the netlist then, and that there was room
 pub record NodesAdded (xs : List Node) (l : Netlist) (ns : List ℕ) (l′ : Netlist) : Type 0 where
@@ -147,7 +137,7 @@ module _ (key : List ℕ) (xs : List Node) (l : Netlist) (ns : List ℕ) (l′ :
       ∙ node-grew (grew-record (key ++ ns) (withNodes xs l)) (count l + i) (rw (count-nodes xs l) (omega arith)) ∙ node-added xs l i h
 
   pub recorded-net : (i d : ℕ) → i < length xs → getD ns i d ≡ count l + i
-  recorded-net i d h = ap (λ (t : List ℕ). getD t i d) (a .nets) ∙ getD-from (count l) (length xs) i d h
+  recorded-net i d h = ap (λ (t : List ℕ). getD t i d) (a .nets) ∙ from-at (count l) (length xs) i d h
 
   pub recorded-count : count l′ ≡ count l + length xs
   recorded-count = ap count (a .then) ∙ count-nodes xs l

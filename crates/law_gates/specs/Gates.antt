@@ -15,7 +15,7 @@ use Rattle.spec_rules.specs.Step.{Setting, Contents, nodeValue}
 use Rattle.spec_model.specs.Words.{absent, Node, node, gate, Netlist}
 use Rattle.spec_model.specs.Builder.{Made, done, nodeForNet, constantOf, constantValue, isValue, isConstant, addCached, addConstant, notBy, addNot, addAnd, addOr, addXor, muxBy, addMux}
 use Rattle.law_nets.specs.Meaning.{decode, meaningOf, netValue}
-use Rattle.law_nets.specs.Sound.{count, Plain, Wired, Sound, At, Stands}
+use Rattle.law_nets.specs.Sound.{count, Plain, Wired, Sound, Stands}
 use Rattle.law_nets.specs.Run.{later-trans, stands-as, Run, run-here, run-map}
 use Rattle.law_nets.specs.Nodes.{later-net}
 use Rattle.law_gates.specs.Nodes.{run-if, Is, Bitless, cached-run}
@@ -224,18 +224,3 @@ mux-run d a b l q hd ha hb = run-if (eqb a b)
         (λ z l′ g v. stands-as v (λ h x s c.
         rw (not-later l d hd t .is h (later-trans g x) s c) (cond-not (netValue h s c (nodeForNet l d .in0)) (netValue h s c a) (netValue h s c b)))))
         (λ t. cached-run (gate 6 d a b) l q (hd, ha, hb) (λ x. refl))
-
--- ---- from what the operands stand for ----
-
-pub not-stands : {l : Netlist} {a : ℕ} {f : At Bool} → Sound l → Stands l a f → Run l (λ z l′. Stands l′ z (λ h s c. not (f h s c))) (addNot a l)
-not-stands {l} {a} q x = run-map (not-run a l q (x .there)) (λ z l′ y v. stands-as v (λ h y′ s c. ap not (x .is h (later-trans y y′) s c)))
-
-pub op2-stands : (op : Bool → Bool → Bool) {l : Netlist} {a b : ℕ} {f g : At Bool} {o : Made ℕ} → Run l (Op2 op a b) o → Stands l a f → Stands l b g
-    → Run l (λ z l′. Stands l′ z (λ h s c. op (f h s c) (g h s c))) o
-op2-stands op r x y = run-map r (λ z l′ e v. stands-as v (λ h e′ s c. rw (x .is h (later-trans e e′) s c, y .is h (later-trans e e′) s c)))
-
-pub mux-stands : {l : Netlist} {d a b : ℕ} {e f g : At Bool} → Sound l → Stands l d e → Stands l a f → Stands l b g
-    → Run l (λ z l′. Stands l′ z (λ h s c. cond (e h s c) (f h s c) (g h s c))) (addMux d a b l)
-mux-stands {l} {d} {a} {b} q w x y =
-    run-map (mux-run d a b l q (w .there) (x .there) (y .there))
-    (λ z l′ k v. stands-as v (λ h k′ s c. rw (w .is h (later-trans k k′) s c, x .is h (later-trans k k′) s c, y .is h (later-trans k k′) s c)))

@@ -13,6 +13,7 @@ use Rattle.spec_rtl.specs.Ops.{tab}
 use Rattle.spec_rules.specs.NetlistImage.{nodeOf, outPortOf}
 use Rattle.spec_model.specs.Words.{absent, Node, node, source, Netlist}
 use Rattle.spec_model.specs.Builder.{nodeForNet, from, both, addNode, addNodes, addInputPort, addOutputPort}
+use Rattle.word_laws.specs.Runs.{from-at, length-from}
 use Rattle.net_view.specs.Formed.{formed-port}
 use Rattle.word_laws.specs.Widths.{AllBelow}
 use Rattle.word_laws.specs.Shift.{tab-ext}
@@ -20,10 +21,11 @@ use Rattle.law_nets.specs.Meaning.{decode, notOutput, isOutputPort, meaningOf, 
 use Rattle.law_nets.specs.Sound.{count, Sound, Grew, Later, StandsAll}
 use Rattle.law_nets.specs.Run.{grew-trans, all-as, Meets, meets-map, Limit}
 use Rattle.law_nets.specs.Nodes.{getD-map-in}
-use Rattle.law_nets.specs.Lists.{any-none, any-first, outputs-with}
+use Rattle.spec_tests.specs.Any.{any-none, any-first}
+use Rattle.law_nets.specs.Lists.{outputs-with}
 use Rattle.law_gates.specs.Nodes.{noNode}
 use Rattle.law_gates.specs.Many.{All}
-use Rattle.law_gates.specs.Added.{withNodes, grew-nodes, count-nodes, nodes-limits, length-from, getD-from, nodes-added, pairs, both-adds, grew-record, Recorded, recorded, recorded-node, recorded-net, recorded-count, recorded-new}
+use Rattle.law_gates.specs.Added.{withNodes, grew-nodes, count-nodes, nodes-limits, nodes-added, pairs, both-adds, grew-record, Recorded, recorded, recorded-node, recorded-net, recorded-count, recorded-new}
 use Rattle.law_gates.specs.Sources.{sound-record, Free, sound-nodes, all-from, nodes-stand, all-map, length-nodes, sources-stand}
 
 -- a port of signal s whose nodes are xs
@@ -33,7 +35,7 @@ module _ (s : ℕ) (xs : List Node) (l : Netlist) (q : Sound l) (n : ℕ) (few :
       let m = nodes-limits xs l in
       let en : length ns ≡ w = ap length (a .nets) ∙ length-from (count l) (length xs) ∙ e in
       let there : (i : ℕ) → i < w → getD (0 ∷ s ∷ w ∷ ns) (3 + i) 0 < count (withNodes xs l) = λ i h.
-      rw (← getD-drop 3 (0 ∷ s ∷ w ∷ ns) i 0, a .nets, e, getD-from (count l) w i 0 h, count-nodes xs l, e) (omega arith) in
+      rw (← getD-drop 3 (0 ∷ s ∷ w ∷ ns) i 0, a .nets, e, from-at (count l) w i 0 h, count-nodes xs l, e) (omega arith) in
       subst (λ (h : Netlist). Later l h) (sym (a .then)) (record {
         grew = grew-trans (grew-nodes xs l) (grew-record (0 ∷ s ∷ w ∷ ns) (withNodes xs l));
         sound = sound-record (0 ∷ s ∷ w ∷ ns) (withNodes xs l) (sound-nodes n xs l q few (a .room) free) (rw (m .1, m .2) (a .list)) (formed-port s w ns en) (omega arith) (λ z. there);
@@ -134,7 +136,7 @@ module _ (s : ℕ) (l : Netlist) (ns : List ℕ) (l′ : Netlist) where
       let h : 0 < length xs = rw (length-nodes (source 0 s) 0 (suc w)) (omega arith) in
       let n : getD (0 ∷ s ∷ suc w ∷ ns) 3 0 ≡ count l + 0 = recorded-net key xs l ns l′ (p .made) 0 0 h in
       let x : nodeForNet l′ (count l + 0) ≡ source 0 s (0 + 0)
-      = recorded-node key xs l ns l′ (p .made) 0 h ∙ getD-map-in (source 0 s) (from 0 (suc w)) 0 0 noNode (rw (length-from 0 (suc w)) (omega arith)) ∙ ap (source 0 s) (getD-from 0 (suc w) 0 0 (omega arith)) in
+      = recorded-node key xs l ns l′ (p .made) 0 h ∙ getD-map-in (source 0 s) (from 0 (suc w)) 0 0 noNode (rw (length-from 0 (suc w)) (omega arith)) ∙ ap (source 0 s) (from-at 0 (suc w) 0 0 (omega arith)) in
       let b : (count l + 0 <? count l′) ≡ true = lt-yes (count l + 0) (count l′) (omega (arith, recorded-count key xs l ns l′ (p .made))) in
       ap not (any-first (λ i. notOutput l′ (getD (0 ∷ s ∷ suc w ∷ ns) (3 + i) 0) s i) w (rw (n, b, x)))
 

@@ -11,6 +11,7 @@ use Rattle.spec_rules.specs.NetlistImage.{nodeOf}
 use Rattle.spec_rules.specs.Step.{memoryBit, dataWidth}
 use Rattle.spec_model.specs.Words.{Node, source, Netlist, used}
 use Rattle.spec_model.specs.Builder.{from, addNodes, push}
+use Rattle.word_laws.specs.Runs.{from-at, length-from}
 use Rattle.net_view.specs.View.{Formed}
 use Rattle.net_view.specs.Records.{used-snoc, formed-snoc}
 use Rattle.net_view.specs.Laws.{withNode, withRecord}
@@ -20,7 +21,7 @@ use Rattle.law_nets.specs.Run.{grew-refl, Meets, meets-map, Limit, Built, Run}
 use Rattle.law_nets.specs.Nodes.{count-grew, at-grew, wired-grew, arithmetic-grew, comparison-grew, with-after, getD-map-in}
 use Rattle.law_gates.specs.Nodes.{noNode, Is, is-node, sound-node}
 use Rattle.law_gates.specs.Many.{All}
-use Rattle.law_gates.specs.Added.{withNodes, grew-nodes, count-nodes, nodes-limits, node-added, length-from, getD-from, NodesAdded, nodes-added, grew-record, pushed}
+use Rattle.law_gates.specs.Added.{withNodes, grew-nodes, count-nodes, nodes-limits, node-added, NodesAdded, nodes-added, grew-record, pushed}
 
 -- ---- a record of no cell ----
 
@@ -86,7 +87,7 @@ pub length-nodes : (x : ℕ → Node) (b w : ℕ) → length (map x (from b w)) 
 length-nodes x b w = length-map (from b w) x ∙ length-from b w
 
 node-of : (x : ℕ → Node) (b w i : ℕ) → i < w → getD (map x (from b w)) i noNode ≡ x (b + i)
-node-of x b w i h = getD-map-in x (from b w) i 0 noNode (rw (length-from b w) h) ∙ ap x (getD-from b w i 0 h)
+node-of x b w i h = getD-map-in x (from b w) i 0 noNode (rw (length-from b w) h) ∙ ap x (from-at b w i 0 h)
 
 pub sources-stand : (x : ℕ → Node) (b w : ℕ) (l l′ : Netlist) (ns : List ℕ) → Grew (withNodes (map x (from b w)) l) l′ → ns ≡ from (count l) (length (map x (from b w)))
     → StandsAll l′ ns (λ h s c. tab w (λ i. Is (x (b + i)) h s c))

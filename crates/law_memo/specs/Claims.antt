@@ -22,7 +22,7 @@ use Rattle.law_memo.specs.Relowered.{costOf, nets-have, Part}
 use Rattle.law_memo.specs.Induction.{need-again}
 use Rattle.law_memo.specs.Memo.{Onwards, Reached, HasNets, forgot, LowersAgain}
 use Rattle.law_memo.specs.Forgot.{forgot-nets, forgot-inv, forgot-steady}
-use Rattle.law_memo.specs.Reached.{Kept, goes, reached-kept}
+use Rattle.law_memo.specs.Reached.{SteadyInv, goes, reached-kept}
 
 -- the call's fuel is enough
 enough : (m : Module) (need : Need) → Asked m need → costOf need < plenty m
@@ -38,7 +38,7 @@ enough m need a = go need a
     go (Range e lsb w) a = omega (arith, a .0, least (sumWidths (m .signals)) (2 * length (m .exprs) + 1))
 
 module _ (m : Module) (good : Good m) (ob : Bool) (n p : ℕ) (limit : n ≤ absent) {st : State} (r : Reached m ob n p st) where
-  kept : Kept m good ob st
+  kept : SteadyInv m good ob st
   kept = reached-kept m good ob n p limit r
 
   -- what is there after a need

@@ -14,7 +14,7 @@ use Rattle.spec_model.specs.Ranges.{exprAt, widthAt}
 use Rattle.spec_model.specs.Lowering.{State, whole, expressionNet, signalBit}
 use Rattle.law_walk.specs.Tables.{none-some, Has}
 use Rattle.law_walk.specs.Good.{Good}
-use Rattle.law_walk.specs.Kept.{Inv, Holds, HoldsRow}
+use Rattle.law_walk.specs.Kept.{Inv, NetsGive, RowGives}
 use Rattle.law_phases.specs.Sources.{none-at, blank, shaped}
 use Rattle.law_repeats.specs.Again.{stays-refl}
 use Rattle.law_memo.specs.Memo.{forgot}
@@ -96,7 +96,7 @@ module _ (m : Module) (c : ℕ) (most : c ≤ length (m .exprs)) (st : State) (i
       count : {A : Type 0} (xs ys : List A) → length xs ≡ length (m .exprs) → length ys ≡ length (drop c (m .exprs)) → length (take c xs ++ ys) ≡ length (m .exprs)
       count xs ys p q = length-append (take c xs) ys ∙ omega (arith, length-take c xs, p, q, length-drop c (m .exprs))
 
-      wholes : (e : ℕ) (ns : List ℕ) → whole (forgot c m st) e ≡ some ns → Dec (e < c) → Holds (st .netlist) (st .signalBits) ns (λ v. word (m .exprs) v e)
+      wholes : (e : ℕ) (ns : List ℕ) → whole (forgot c m st) e ≡ some ns → Dec (e < c) → NetsGive (st .netlist) (st .signalBits) ns (λ v. word (m .exprs) v e)
       wholes e ns q (yes h) = i .wholes e ns (sym (whole-low e h) ∙ q)
       wholes e ns q (no h) = let g : c ≤ e = omega arith in absurd (none-some (sym (whole-high e g) ∙ q))
 
@@ -109,7 +109,7 @@ module _ (m : Module) (c : ℕ) (most : c ≤ length (m .exprs)) (st : State) (i
           ∙ shaped none (λ (x : Expr). x .width) (drop c (m .exprs)) (record { width = 0; kind = R.Constant 0 }) (widthAt (drop c (m .exprs))) (λ j. refl) .cells (e - c) (omega (arith, length-drop c (m .exprs)))
           ∙ ap (λ (x : Expr). x .width) (getD-drop c (m .exprs) (e - c) (record { width = 0; kind = R.Constant 0 })) ∙ ap (widthAt (m .exprs)) z
 
-      ranges : (e : ℕ) → Dec (e < c) → HoldsRow (st .netlist) (st .signalBits) (getD (forgot c m st .expressionRanges) e []) (λ v. word (m .exprs) v e)
+      ranges : (e : ℕ) → Dec (e < c) → RowGives (st .netlist) (st .signalBits) (getD (forgot c m st .expressionRanges) e []) (λ v. word (m .exprs) v e)
       ranges e (yes h) = rw (row-low e h) (i .ranges e)
       ranges e (no h) =
           let g : c ≤ e = omega arith in

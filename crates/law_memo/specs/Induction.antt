@@ -15,7 +15,7 @@ use Rattle.spec_model.specs.Lowering.{State, Need, Bit, Whole, Range, cell, who
 use Rattle.law_walk.specs.Tables.{none-some, Has}
 use Rattle.law_walk.specs.Good.{Good}
 use Rattle.law_nets.specs.Run.{Meets}
-use Rattle.law_walk.specs.Kept.{Any, Inv, Walks, Holds, Makes}
+use Rattle.law_walk.specs.Kept.{Any, Inv, Walks, NetsGive, Makes}
 use Rattle.law_walk.specs.Writes.{holds-length}
 use Rattle.law_walk.specs.Parts.{range-made as range-of-made}
 use Rattle.word_laws.specs.Values.{slice-wide}
@@ -100,7 +100,7 @@ range-keep su e lsb q = ap (λ o. andThen o (λ (ns, l). done (setRange (withNet
 range-long : (m : Module) (good : Good m) (ob : Bool) (su : State) → Inv m su → (e : ℕ) → e < length (m .exprs) → (lsb w : ℕ) → lsb + w ≤ widthAt (m .exprs) e
     → AllAfter ob su (rangeSteps (m .exprs) e lsb w) → (ns : List ℕ) → buildRange (m .exprs) ob su e lsb w ≡ done (ns, su .netlist) → length ns ≡ w
 range-long m good ob su i e here lsb w fits h ns q =
-    let k = (subst (Makes (su .netlist) (λ ns l. Holds l (su .signalBits) ns (λ v. sliceW lsb w (word (m .exprs) v e)))) q (range-of-made supply m (good .exprs) ob su i e lsb w here fits h)) .makes in
+    let k = (subst (Makes (su .netlist) (λ ns l. NetsGive l (su .signalBits) ns (λ v. sliceW lsb w (word (m .exprs) v e)))) q (range-of-made supply m (good .exprs) ob su i e lsb w here fits h)) .makes in
     holds-length (k .later .sound) (k .post) w (λ v. slice-wide lsb w (word (m .exprs) v e) (omega (arith, word-width (m .exprs) (good .exprs) v e here)))
 
 module _ (m : Module) (good : Good m) (ob : Bool) (st : State) (i : Inv m st) (s : IsSteady m good ob st) where

@@ -45,40 +45,40 @@ nothing-known m st w r e b n h =
 
 module _ (m : Module) (good : Good m) (ob : Bool) where
   -- what the lowering keeps, and that it is steady
-  pub record Kept (st : State) : Type 0 where
+  pub record SteadyInv (st : State) : Type 0 where
     pub inv : Inv m st
     pub steady : IsSteady m good ob st
 
-  pub kept-blank : (st : State) → Inv m st → ((e b n : ℕ) → expressionNet st e b ≡ some n → ⊥) → Kept st
+  pub kept-blank : (st : State) → Inv m st → ((e b n : ℕ) → expressionNet st e b ≡ some n → ⊥) → SteadyInv st
   kept-blank st i h = record { inv = i; steady = record { derived = λ e b n q. absurd (h e b n q); only = λ e b n k q. absurd (h e b n q) } }
 
   -- from a state that is kept to one that comes after it
   pub record Goes (st st′ : State) : Type 0 where
     pub onward : Onward st st′
-    pub kept : Kept st′
+    pub kept : SteadyInv st′
 
   -- a netlist that has grown, beside the same tables
-  netlist-goes : (st : State) (l : Netlist) → Kept st → Inv m (withNetlist st l) → Stays (st .netlist) l → Goes st (withNetlist st l)
+  netlist-goes : (st : State) (l : Netlist) → SteadyInv st → Inv m (withNetlist st l) → Stays (st .netlist) l → Goes st (withNetlist st l)
   unfolding signalBit
   netlist-goes st l k i s =
       let h = same-keeps m (good .exprs) ob st (withNetlist st l) (k .inv) i (k .steady) s (λ p j n h. h) refl refl in
       record { onward = h .onward; kept = record { inv = i; steady = h .steady } }
 
   -- a record of a register's bit or of a memory
-  push-goes : (r : List ℕ) (st : State) → Kept st → Formed r → 0 < getD r 0 0 → getD r 0 0 < 3 → Meets Any (Goes st) (pushRecord r st)
+  push-goes : (r : List ℕ) (st : State) → SteadyInv st → Formed r → 0 < getD r 0 0 → getD r 0 0 < 3 → Meets Any (Goes st) (pushRecord r st)
   push-goes r st k f a b = go (push r (st .netlist)) refl (pushed (Inv m) r st (k .inv .sound) f a b (λ z. inv-netlist m st (withRecord r (st .netlist)) (k .inv) z))
     where
       go : (o : Out Netlist) → push r (st .netlist) ≡ o → Meets Any (Inv m) (andThen o (λ l. done (withNetlist st l))) → Meets Any (Goes st) (andThen o (λ l. done (withNetlist st l)))
       go (refused n x y) q i = tt
       go (done l) q i = netlist-goes st l k i (push-stays r (λ z. omega arith) q)
 
-  memory-goes : (k : ℕ) (x : Memory) (st : State) → Kept st → AllAfter ob st (memorySteps x)
+  memory-goes : (k : ℕ) (x : Memory) (st : State) → SteadyInv st → AllAfter ob st (memorySteps x)
       → Meets Any (Goes st) (pushRecord (2 ∷ k ∷ x .depth ∷ x .style ∷ 1 ∷ portsWords m st (x .first) (x .second)) st)
   memory-goes k x st h a =
       let y = first-ready m ob st x a in
       push-goes (2 ∷ k ∷ x .depth ∷ x .style ∷ 1 ∷ portsWords m st (x .first) (x .second)) st h (recorded m ob st (h .inv) k x (y .0) (y .1) .formed) (omega arith) (omega arith)
 
-  register-goes : (k : ℕ) (r : Register) (b : ℕ) (st : State) → Kept st → Meets Any (Goes st) (registerBit (r .reset) k r b st)
+  register-goes : (k : ℕ) (r : Register) (b : ℕ) (st : State) → SteadyInv st → Meets Any (Goes st) (registerBit (r .reset) k r b st)
   register-goes k r b st h = go (r .reset)
     where
       bit : (q : Option Reset) → Meets Any (Goes st) (pushRegister k r b st q)
@@ -94,21 +94,21 @@ module _ (m : Module) (good : Good m) (ob : Bool) where
       go none = bit none
       go (some x) = by (constantValue (st .netlist) (wholeNet st (x .value) b)) x
 
-  output-goes : (s w : ℕ) (ns : List ℕ) (l : Netlist) (st : State) → Kept st → AllAfter ob st (signalSteps s 0 w) → addOutputPort s (signalNets st s 0 w) (st .netlist) ≡ done (ns, l)
+  output-goes : (s w : ℕ) (ns : List ℕ) (l : Netlist) (st : State) → SteadyInv st → AllAfter ob st (signalSteps s 0 w) → addOutputPort s (signalNets st s 0 w) (st .netlist) ≡ done (ns, l)
       → Goes st (withNetlist st l)
   output-goes s w ns l st k a q =
       let o = subst (Meets Limit (OutputPort s (signalNets st s 0 w) (st .netlist))) q
       (output-port-run s (signalNets st s 0 w) (st .netlist) (k .inv .sound) (read-bits m st (k .inv) ob s 0 w a .there)) in
       netlist-goes st l k (inv-netlist m st l (k .inv) (o .later)) (output-port-stays s (signalNets st s 0 w) ns q)
 
-  need-goes : (st : State) (f : ℕ) (n : Need) → Kept st → Asked m n → Meets Any (Goes st) (lowerNeed f m ob n st)
+  need-goes : (st : State) (f : ℕ) (n : Need) → SteadyInv st → Asked m n → Meets Any (Goes st) (lowerNeed f m ob n st)
   need-goes st f n k a = go (lowerNeed f m ob n st) (need-walk supply m good ob f n st (k .inv) a) (need-keep m good ob f n st (k .inv) (k .steady) a)
     where
       go : (o : Out State) → Walks m st (λ x. After x n) o → Meets Any (IsKept m good ob st) o → Meets Any (Goes st) o
       go (refused x y z) w h = tt
       go (done st′) w h = record { onward = h .onward; kept = record { inv = w .walks .inv; steady = h .steady } }
 
-  mark-goes : (st : State) (s b : ℕ) → Kept st → Goes st (mark st s b)
+  mark-goes : (st : State) (s b : ℕ) → SteadyInv st → Goes st (mark st s b)
   mark-goes st s b k =
       let h = mark-kept m good ob st (k .inv) (k .steady) s b in
       record { onward = h .onward; kept = record { inv = inv-mark m st s b (k .inv); steady = h .steady } }
@@ -116,7 +116,7 @@ module _ (m : Module) (good : Good m) (ob : Bool) where
   further : {st st₁ st₂ : State} → Goes st st₁ → Goes st₁ st₂ → Goes st st₂
   further a b = record { onward = onward-trans (a .onward) (b .onward); kept = b .kept }
 
-  pub goes : {st st′ : State} → Kept st → Onwards m ob st st′ → Goes st st′
+  pub goes : {st st′ : State} → SteadyInv st → Onwards m ob st st′ → Goes st st′
   goes k here = record { onward = onward-refl; kept = k }
   goes k (marked {st₁ = st₁} s b x) = let g = goes k x in further g (mark-goes st₁ s b (g .kept))
   goes k (lowered {st₁ = st₁} f need a x q) = let g = goes k x in further g (subst (Meets Any (Goes st₁)) q (need-goes st₁ f need (g .kept) a))
@@ -124,7 +124,7 @@ module _ (m : Module) (good : Good m) (ob : Bool) where
   goes k (register {st₁ = st₁} j r b x q) = let g = goes k x in further g (subst (Meets Any (Goes st₁)) q (register-goes j r b st₁ (g .kept)))
   goes k (output {st₁ = st₁} s w ns l a x q) = let g = goes k x in further g (output-goes s w ns l st₁ (g .kept) a q)
 
-  pub reached-kept : (n p : ℕ) → n ≤ absent → {st : State} → Reached m ob n p st → Kept st
+  pub reached-kept : (n p : ℕ) → n ≤ absent → {st : State} → Reached m ob n p st → SteadyInv st
   reached-kept n p h r =
       let x = subst (Meets Any (Reserved m (n, p))) (r .reserved) (sources-run m good (n, p) (start m n p) (started m n p h)) in
       goes (kept-blank (r .first) (connected m (n, p) (r .first) x .inv) (nothing-known m (r .first) (x .wholes) (x .rows))) (r .onwards) .kept

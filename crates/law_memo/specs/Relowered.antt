@@ -40,7 +40,7 @@ costOf (Bit s b) = 0
 costOf (Whole e) = 2 * e + 1
 costOf (Range e lsb w) = 2 * e + 2
 
--- a Mux, whose steps hang on its condition
+-- a Mux, whose steps depend on its condition
 abbrev isMux : Kind → Bool
 isMux (R.Signal s lsb) = false
 isMux (R.Constant n) = false

@@ -18,7 +18,7 @@ use Rattle.word_laws.specs.Widths.{word-width}
 use Rattle.law_nets.specs.Run.{Meets, meets-map}
 use Rattle.law_walk.specs.Tables.{none-some, Has}
 use Rattle.law_walk.specs.Good.{Good}
-use Rattle.law_walk.specs.Kept.{Any, Inv, Holds, Walks, Makes}
+use Rattle.law_walk.specs.Kept.{Any, Inv, NetsGive, Walks, Makes}
 use Rattle.law_walk.specs.Writes.{holds-length, inv-netlist, inv-whole, inv-range, inv-mark, marked, bit-more}
 use Rattle.law_walk.specs.Reads.{Asked, After, AllAsked, AllAfter}
 use Rattle.law_walk.specs.Wholes.{whole-made}
@@ -117,7 +117,7 @@ module _ (m : Module) (good : Good m) (ob : Bool) where
     whole-kept h =
         go (buildWhole (m .exprs) ob st e) (whole-made supply m (good .exprs) ob st i e here h) (whole-derived m (good .exprs) ob st i e here h)
       where
-        go : (o : Made (List ℕ)) → Makes (st .netlist) (λ ns l. Holds l (st .signalBits) ns (λ v. word (m .exprs) v e)) o
+        go : (o : Made (List ℕ)) → Makes (st .netlist) (λ ns l. NetsGive l (st .signalBits) ns (λ v. word (m .exprs) v e)) o
             → Meets Any (Derives m (good .exprs) ob st i ((exprAt (m .exprs) e) .kind) e 0) o → Meets Any (IsKept st) (andThen o (λ (ns, l). done (setWhole (withNetlist st l) e ns)))
         go (refused n x y) a d = tt
         go (done r) a d =
@@ -157,7 +157,7 @@ module _ (m : Module) (good : Good m) (ob : Bool) where
           at ns l i₁ i′ ok z new none q true c = absurd (none-some (sym q ∙ stepped c h .is))
           at ns l i₁ i′ ok z new none q false c = range-keeps m (good .exprs) ob st l e lsb ns i i₁ i′ here ok s z q c (new c)
 
-          go : (o : Made (List ℕ)) → Makes (st .netlist) (λ ns l. Holds l (st .signalBits) ns (λ v. sliceW lsb w (word (m .exprs) v e))) o → Meets Any Ranged o
+          go : (o : Made (List ℕ)) → Makes (st .netlist) (λ ns l. NetsGive l (st .signalBits) ns (λ v. sliceW lsb w (word (m .exprs) v e))) o → Meets Any Ranged o
               → Meets Any (IsKept st) (andThen o (λ (ns, l). done (setRange (withNetlist st l) e lsb ns)))
           go (refused n x y) a d = tt
           go (done r) a d =

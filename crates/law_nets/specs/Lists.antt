@@ -3,13 +3,14 @@ use mathlib.Core.Path.{_≡_, refl, sym, ap, ap₂, _∙_}
 use mathlib.Core.Bool.{Bool, true, false, not, cond, _&&_}
 use mathlib.Core.List.{List, [], _∷_, _++_, map, append-nil}
 use mathlib.Core.Option.{some}
-use Prim.Native.Nat.{ℕ, zero, suc, _+_, _<_, suc-le-suc}
-use native.Mathlib.Nat.{le-trans, add-zero}
+use Prim.Native.Nat.{ℕ, suc, _+_, _<_, suc-le-suc}
+use native.Mathlib.Nat.{le-trans}
 use native.Mathlib.Omega.{arith}
 use lib.Dec.{eqb}
 use lib.ListN.{length, getD}
-use Rattle.spec_tests.specs.Rules.{_<?_, _or_, pick, upTo, first, any, only}
-use Rattle.spec_tests.specs.Laws.{lt-yes, lt-no}
+use Rattle.spec_tests.specs.Any.{any-ext}
+use Rattle.spec_tests.specs.Rules.{_or_, pick, first, only}
+use Rattle.spec_tests.specs.Laws.{lt-yes}
 use Rattle.spec_rules.specs.NetlistImage as N
 use Rattle.spec_rules.specs.NetlistImage.{outPortOf, registerBitOf, memoryOf}
 use Rattle.spec_rules.specs.Step.{perhaps, dataWidth, findMemory, findBit}
@@ -23,28 +24,6 @@ map-append f [] ys = refl
 map-append f (x ∷ xs) ys = rw (map-append f xs ys)
 
 -- ---- tests of ports ----
-
-upTo-ext : (p q : ℕ → Bool) (i k : ℕ) → ((j : ℕ) → j < i + k → p j ≡ q j) → upTo p i k ≡ upTo q i k
-unfolding upTo
-upTo-ext p q i zero h = refl
-upTo-ext p q i (suc k) h = ap₂ (λ (t : Bool) (r : ℕ). pick t i r) (h i (omega arith)) (upTo-ext p q (suc i) k (λ j b. h j (omega arith)))
-
-pub any-ext : (p q : ℕ → Bool) (n : ℕ) → ((j : ℕ) → j < n → p j ≡ q j) → any p n ≡ any q n
-unfolding any first
-any-ext p q n h = ap (λ (k : ℕ). k <? n) (upTo-ext p q 0 n (λ j b. h j (omega arith)))
-
-upTo-none : (i k : ℕ) → upTo (λ j. false) i k ≡ i + k
-unfolding upTo pick
-upTo-none i zero = sym (add-zero i)
-upTo-none i (suc k) = upTo-none (suc i) k ∙ omega arith
-
-pub any-none : (p : ℕ → Bool) (n : ℕ) → ((j : ℕ) → j < n → p j ≡ false) → any p n ≡ false
-unfolding any first
-any-none p n h = any-ext p (λ j. false) n h ∙ ap (λ (k : ℕ). k <? n) (upTo-none 0 n) ∙ lt-no (0 + n) n (omega arith)
-
-pub any-first : (p : ℕ → Bool) (n : ℕ) → p 0 ≡ true → any p (suc n) ≡ true
-unfolding any first upTo pick
-any-first p n e = rw e (lt-yes 0 (suc n) (omega arith))
 
 -- a port is an output port later where it was before
 pub port-grew : {l h : Netlist} → Grew l h → (r : List ℕ) → PortNets l r → isOutputPort h r ≡ isOutputPort l r

@@ -12,13 +12,13 @@ use Rattle.spec_rtl.specs.Ops.{tab, top, shl, shr}
 use Rattle.spec_model.specs.Words.{Netlist}
 use Rattle.spec_model.specs.Builder.{from}
 use Rattle.spec_model.specs.Lowering.{Shift, LeftS, RightS, ArithmeticS, movedDown, shifted, stages, shift}
+use Rattle.word_laws.specs.Runs.{length-from}
 use Rattle.word_laws.specs.Widths.{AllBelow}
 use Rattle.word_laws.specs.Shift.{tab-ext, stagesL, stagesL-shl, stagesR, stagesR-shr, stagesA, stagesA-shr}
 use Rattle.law_nets.specs.Meaning.{netValue}
 use Rattle.law_nets.specs.Sound.{count, Sound, Stands, StandsAll}
 use Rattle.law_nets.specs.Run.{later-trans, later-count, below-more, stands-later, all-self, all-as, Run, run-here, run-bind, run-map}
 use Rattle.law_gates.specs.Gates.{constant-run}
-use Rattle.law_gates.specs.Added.{length-from}
 use Rattle.law_gates.specs.Many.{muxes-run}
 
 -- ---- a word moved, and the nets of it ----

@@ -14,7 +14,7 @@ use Rattle.spec_model.specs.Builder.{done, andThen, both}
 use Rattle.spec_model.specs.Ranges.{Gate, AndGate, OrGate, XorGate}
 use Rattle.spec_model.specs.Lowering.{addGate, level, levels, reduceTree, addEqual, equalWords}
 use Rattle.word_laws.specs.Widths.{AllBelow}
-use Rattle.word_laws.specs.Tree.{pairs, pairs-fold, fewer-pairs, alike, alike-all}
+use Rattle.word_laws.specs.Tree.{pairs, pairs-fold, fewer-pairs, xor-assoc, xor-false, alike, alike-all}
 use Rattle.law_nets.specs.Meaning.{netValue}
 use Rattle.law_nets.specs.Sound.{count, Sound, At, StandsAll}
 use Rattle.law_nets.specs.Run.{later-count, later-trans, below-more, stands-later, stands-as, all-self, all-as, all-nil, all-cons, all-length, Run, run-here, run-bind, run-map}
@@ -39,16 +39,6 @@ gate-run XorGate a b l q ha hb = xor-run a b l q ha hb
 pub gates-run : (g : Gate) (xs ys : List ℕ) (l : Netlist) → Sound l → AllBelow (count l) xs → AllBelow (count l) ys
     → Run l (λ zs l′. StandsAll l′ zs (λ h s c. map2 (gateOp g) (map (netValue h s c) xs) (map (netValue h s c) ys))) (both (addGate g) xs ys l)
 gates-run g xs ys l q b d = both-run (addGate g) (λ h s c. gateOp g) 0 (λ x y l q n hx hy. gate-run g x y l q hx hy) xs ys l q (omega arith) b d
-
-xor-assoc : (x y z : Bool) → xorB (xorB x y) z ≡ xorB x (xorB y z)
-xor-assoc true true true = refl
-xor-assoc true true false = refl
-xor-assoc true false z = refl
-xor-assoc false y z = refl
-
-xor-false : (x : Bool) → xorB x false ≡ x
-xor-false true = refl
-xor-false false = refl
 
 gate-unit : (g : Gate) (x : Bool) → gateOp g x (gateUnit g) ≡ x
 gate-unit AndGate x = and-true x

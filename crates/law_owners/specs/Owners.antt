@@ -15,7 +15,7 @@ use Rattle.spec_model.specs.Words.{absent, Node, node, source, bitWord}
 use Rattle.spec_model.specs.Builder.{Out, done, Made, constantValue, addNodes, addInputPort, addOutputPort, push}
 use Rattle.spec_model.specs.Lowering.{State, setSignal, signalWidth, signalNets, wholeNet, signalSteps, memorySteps, registerSteps, lowerAll, start, reserve, reserveInput, reserveInputs, reserveBits, reserveRegisters, reserveSecond, reserveMemories, reserveSources, netControl, pushRecord, portsWords, connectMemories, pushRegister, resetBy, registerBit, registerBits, connectRegisters, connectOutput, connectOutputs, lowerState}
 use Rattle.law_owners.specs.Ends.{ends-done, ends-refused, ends-then}
-use Rattle.law_owners.specs.Kept.{named, Holds, Kept, nodes-kept, push-kept, input-kept, output-kept}
+use Rattle.law_owners.specs.Kept.{named, Throughout, Leaves, nodes-kept, push-kept, input-kept, output-kept}
 use Rattle.law_owners.specs.Walked.{Walked, all-walked}
 
 pub record Owned (m : Module) (x : Node) : Type 0 where
@@ -55,14 +55,14 @@ module _ (m : Module) where
   memory-owned k l i = record { input = λ e. absurd (omega arith); output = λ e. absurd (omega arith); register = λ e. absurd (omega arith); memory = λ e. l }
 
   abbrev Good : State → Type 0
-  Good st = Holds (Owned m) (OfSignal m) (st .netlist)
+  Good st = Throughout (Owned m) (OfSignal m) (st .netlist)
 
   abbrev Goes : Out State → Type 0
   Goes o = Walked (Owned m) (OfSignal m) o
 
   -- ---- sources ----
 
-  reserved : (st : State) (s : ℕ) (r : Made (List ℕ)) → Kept (Owned m) (OfSignal m) r → Goes (reserve st s r)
+  reserved : (st : State) (s : ℕ) (r : Made (List ℕ)) → Leaves (Owned m) (OfSignal m) r → Goes (reserve st s r)
   unfolding setSignal
   reserved st s r k = ends-then r k (λ (ns, l) h. ends-done h)
 
@@ -164,5 +164,5 @@ module _ (m : Module) where
       ends-then (connectMemories m ob 0 (m .memories) st₁) (connect-memories ob 0 (m .memories) st₁ a) (λ st₂ b.
       ends-then (connectRegisters m ob 0 (m .registers) st₂) (connect-registers ob 0 (m .registers) st₂ b) (λ st₃ c. connect-outputs ob 0 (m .signals) st₃ (omega arith) c)))
 
-  pub owners : (ob : Bool) (N P : ℕ) (st : State) → lowerState ob m N P ≡ done st → Holds (Owned m) (OfSignal m) (st .netlist)
+  pub owners : (ob : Bool) (N P : ℕ) (st : State) → lowerState ob m N P ≡ done st → Throughout (Owned m) (OfSignal m) (st .netlist)
   owners ob N P st e = (rw e at (lowered ob N P)) .ends

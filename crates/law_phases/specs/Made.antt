@@ -21,14 +21,14 @@ use Rattle.law_nets.specs.Sound.{Later}
 use Rattle.law_nets.specs.Run.{later-trans}
 use Rattle.law_nets.specs.Lists.{memories-same, registers-same, outputs-same}
 use Rattle.law_walk.specs.Tables.{some-eq}
-use Rattle.law_walk.specs.Kept.{Table, Agrees, More, more-refl, agrees-less, Holds, holds-later, Inv, Grew}
+use Rattle.law_walk.specs.Kept.{Table, Agrees, More, more-refl, agrees-less, NetsGive, holds-later, Inv, Grew}
 use Rattle.law_records.specs.Find.{find, find-old, find-last}
 
 -- ---- one record ----
 
 -- a net that has a signal's bit
 abbrev pub IsBit : Netlist → Table → ℕ → ℕ → Type 0
-IsBit l t n p = Holds l t (n ∷ []) (λ v. v p 0 ∷ [])
+IsBit l t n p = NetsGive l t (n ∷ []) (λ v. v p 0 ∷ [])
 
 abbrev pub SameControl : Netlist → Table → Option Control → Option Control → Type 0
 SameControl l t none none = Unit {0}
@@ -37,9 +37,9 @@ SameControl l t (some x) none = ⊥
 SameControl l t (some x) (some y) = IsBit l t (y .signal) (x .signal) × (y .level ≡ x .level)
 
 pub record SamePort (m : Module) (l : Netlist) (t : Table) (p : R.Port) (q : N.MemoryPort) : Type 0 where
-  pub readAddress : Holds l t (q .readAddress) (λ v. word (m .exprs) v (p .readAddress))
-  pub writeAddress : Holds l t (q .writeAddress) (λ v. word (m .exprs) v (p .writeAddress))
-  pub writeData : Holds l t (q .writeData) (λ v. word (m .exprs) v (p .writeData))
+  pub readAddress : NetsGive l t (q .readAddress) (λ v. word (m .exprs) v (p .readAddress))
+  pub writeAddress : NetsGive l t (q .writeAddress) (λ v. word (m .exprs) v (p .writeAddress))
+  pub writeData : NetsGive l t (q .writeData) (λ v. word (m .exprs) v (p .writeData))
   pub readEnable : SameControl l t (p .readEnable) (q .readEnable)
   pub writeEnable : SameControl l t (some (p .writeEnable)) (some (q .writeEnable))
   pub clock : IsBit l t (q .clock) (p .clock)
@@ -69,7 +69,7 @@ SameReset m l t i (some x) (some y) =
     IsBit l t (y .control .signal) (x .control .signal) × (y .control .level ≡ x .control .level) × (y .asynchronous ≡ x .asynchronous) × IsConstant m l t (x .value) i (y .value)
 
 pub record SameBit (m : Module) (l : Netlist) (t : Table) (i : ℕ) (r : R.Register) (b : N.RegisterBit) : Type 0 where
-  pub next : Holds l t (b .register .next ∷ []) (λ v. getD (word (m .exprs) v (r .next)) i false ∷ [])
+  pub next : NetsGive l t (b .register .next ∷ []) (λ v. getD (word (m .exprs) v (r .next)) i false ∷ [])
   pub clock : IsBit l t (b .register .clock) (r .clock)
   pub rising : b .register .rising ≡ r .rising
   pub enable : SameControl l t (r .enable) (b .register .enable)
@@ -156,7 +156,7 @@ pub record Registers (m : Module) (l : Netlist) (t : Table) (b : ℕ → ℕ) : 
 
 -- the outputs among the first n signals have their ports, and no others
 pub record Outputs (m : Module) (l : Netlist) (t : Table) (n : ℕ) : Type 0 where
-  pub made : (p : ℕ) → p < n → dirOf m p ≡ R.Output → Found (portIn (meaningOf l .outputs) p) (λ o. Holds l t (o .nets) (λ v. tab (signalWidth m p) (v p)))
+  pub made : (p : ℕ) → p < n → dirOf m p ≡ R.Output → Found (portIn (meaningOf l .outputs) p) (λ o. NetsGive l t (o .nets) (λ v. tab (signalWidth m p) (v p)))
   pub rest : (p : ℕ) → ((p < n) × (dirOf m p ≡ R.Output) → ⊥) → portIn (meaningOf l .outputs) p ≡ none
 
 -- the limits on nets and list words
@@ -272,7 +272,7 @@ module _ (m : Module) (l l′ : Netlist) (t : Table) (a : Later l l′) where
       rest j i (no d) h =
           new j i (c .rest j i (rw (ne-eqb j k d) at h)) ∙ rw (ne-eqb (y .index) j (λ f. d (sym f ∙ n)))
 
-  pub one-output : (p : ℕ) (y : N.OutPort) → dirOf m p ≡ R.Output → y .signal ≡ p → Holds l′ t (y .nets) (λ v. tab (signalWidth m p) (v p))
+  pub one-output : (p : ℕ) (y : N.OutPort) → dirOf m p ≡ R.Output → y .signal ≡ p → NetsGive l′ t (y .nets) (λ v. tab (signalWidth m p) (v p))
       → meaningOf l′ .outputs ≡ meaningOf l .outputs ++ (y ∷ []) → Outputs m l t p → Outputs m l′ t (suc p)
   one-output p y q n s e c = record {
     made = λ j h z. made j h z (ℕ-discrete j p);
@@ -280,7 +280,7 @@ module _ (m : Module) (l l′ : Netlist) (t : Table) (a : Later l l′) where
         ∙ rw (ne-eqb (y .signal) j (λ f. h (omega arith, rw (sym f ∙ n) q)));
   }
     where
-      made : (j : ℕ) → j < suc p → dirOf m j ≡ R.Output → Dec (j ≡ p) → Found (portIn (meaningOf l′ .outputs) j) (λ o. Holds l′ t (o .nets) (λ v. tab (signalWidth m j) (v j)))
+      made : (j : ℕ) → j < suc p → dirOf m j ≡ R.Output → Dec (j ≡ p) → Found (portIn (meaningOf l′ .outputs) j) (λ o. NetsGive l′ t (o .nets) (λ v. tab (signalWidth m j) (v j)))
       made j h z (yes d) = record {
         value = y;
         is = ap (λ (ys : List N.OutPort). portIn ys j) e ∙ find-last (λ z. eqb (z .signal) j) y (meaningOf l .outputs) (c .rest j (λ x. omega arith))

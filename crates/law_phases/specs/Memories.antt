@@ -15,7 +15,7 @@ use Rattle.net_view.specs.Formed.{Ported, formed-memory, formed-memory₂}
 use Rattle.net_view.specs.Laws.{withRecord}
 use Rattle.law_nets.specs.Run.{Meets, meets-bind}
 use Rattle.law_walk.specs.Good.{Good, GoodPort}
-use Rattle.law_walk.specs.Kept.{Any, more-refl, Inv, Kept}
+use Rattle.law_walk.specs.Kept.{Any, more-refl, Inv, WalkedTo}
 use Rattle.law_walk.specs.Writes.{inv-netlist}
 use Rattle.law_walk.specs.Reads.{AllAsked, AllAfter, read-whole}
 use Rattle.law_walk.specs.Gates.{Gates}
@@ -55,17 +55,17 @@ steps-asked m x g h =
     (second-asked m (x .second) h)
 
 -- what is there of a port after its steps
-pub record Ready (m : Module) (ob : Bool) (st : State) (p : Port) : Type 0 where
+pub record PortAfter (m : Module) (ob : Bool) (st : State) (p : Port) : Type 0 where
   pub words : AllAfter ob st (wordSteps p)
   pub clock : AllAfter ob st (bitStep (p .clock))
   pub write : AllAfter ob st (bitStep (p .writeEnable .signal))
   pub read : AllAfter ob st (controlSteps (p .readEnable))
 
-abbrev pub ReadySecond : Module → Bool → State → Option Port → Type 0
-ReadySecond m ob st none = Unit {0}
-ReadySecond m ob st (some p) = Ready m ob st p
+abbrev pub SecondAfter : Module → Bool → State → Option Port → Type 0
+SecondAfter m ob st none = Unit {0}
+SecondAfter m ob st (some p) = PortAfter m ob st p
 
-second-ready : (m : Module) (ob : Bool) (st : State) (o : Option Port) → AllAfter ob st (secondSteps o) → ReadySecond m ob st o
+second-ready : (m : Module) (ob : Bool) (st : State) (o : Option Port) → AllAfter ob st (secondSteps o) → SecondAfter m ob st o
 second-ready m ob st none h = tt
 second-ready m ob st (some p) h =
     let a = after-append ob st (wordSteps p ++ enableSteps p) (bitStep (p .clock)) h in
@@ -73,7 +73,7 @@ second-ready m ob st (some p) h =
     let c = after-append ob st (bitStep (p .writeEnable .signal)) (controlSteps (p .readEnable)) (b .1) in
     record { words = b .0; clock = a .1; write = c .0; read = c .1 }
 
-pub first-ready : (m : Module) (ob : Bool) (st : State) (x : Memory) → AllAfter ob st (memorySteps x) → Ready m ob st (x .first) × ReadySecond m ob st (x .second)
+pub first-ready : (m : Module) (ob : Bool) (st : State) (x : Memory) → AllAfter ob st (memorySteps x) → PortAfter m ob st (x .first) × SecondAfter m ob st (x .second)
 first-ready m ob st x h =
     let p = x .first in
     let a = after-append ob st (wordSteps p ++ bitStep (p .clock) ++ enableSteps p) (secondSteps (x .second)) h in
@@ -83,7 +83,7 @@ first-ready m ob st x h =
     (record { words = c .0; clock = c .1; write = d .0; read = d .1 }, second-ready m ob st (x .second) (a .1))
 
 module _ (m : Module) (ob : Bool) (st : State) (i : Inv m st) where
-  port-same : (p : Port) → Ready m ob st p → SamePort m (st .netlist) (st .signalBits) p (cellOf m st p)
+  port-same : (p : Port) → PortAfter m ob st p → SamePort m (st .netlist) (st .signalBits) p (cellOf m st p)
   port-same p h = record {
     readAddress = read-whole m st i (p .readAddress) (h .words .0);
     writeAddress = read-whole m st i (p .writeAddress) (h .words .1 .0);
@@ -99,7 +99,7 @@ module _ (m : Module) (ob : Bool) (st : State) (i : Inv m st) where
       ported (wholeNets st (p .readAddress)) (signalNets st (p .readData) 0 (signalWidth m (p .readData))) (wholeNets st (p .writeAddress)) (wholeNets st (p .writeData))
       (optionControl st (p .readEnable)) (netControl st (p .writeEnable)) (signalNet st (p .clock) 0) (p .rising)
 
-  back : (p : Port) → Ready m ob st p → (rest : List ℕ) → N.memoryPortOf (wordsIn m st p ++ rest) ≡ cellOf m st p
+  back : (p : Port) → PortAfter m ob st p → (rest : List ℕ) → N.memoryPortOf (wordsIn m st p ++ rest) ≡ cellOf m st p
   back p h rest =
       port-back (wholeNets st (p .readAddress)) (signalNets st (p .readData) 0 (signalWidth m (p .readData))) (wholeNets st (p .writeAddress)) (wholeNets st (p .writeData))
       (optionControl st (p .readEnable)) (netControl st (p .writeEnable)) (signalNet st (p .clock) 0) (p .rising) rest (control-there m ob st i (p .readEnable) (h .read))
@@ -113,7 +113,7 @@ module _ (m : Module) (ob : Bool) (st : State) (i : Inv m st) where
     pub index : memoryOf (wordsFor k x) .index ≡ k
     pub same : SameMemory m (st .netlist) (st .signalBits) x (memoryOf (wordsFor k x))
 
-  pub recorded : (k : ℕ) (x : Memory) → Ready m ob st (x .first) → ReadySecond m ob st (x .second) → Recorded k x
+  pub recorded : (k : ℕ) (x : Memory) → PortAfter m ob st (x .first) → SecondAfter m ob st (x .second) → Recorded k x
   recorded k x h g = go (x .second) refl g
     where
       at : (r : List ℕ) (o : Option Port) (s : Option N.MemoryPort) → x .second ≡ o → wordsFor k x ≡ r → Formed r
@@ -125,7 +125,7 @@ module _ (m : Module) (ob : Bool) (st : State) (i : Inv m st) where
         same = rw (w, b) (record { depth = refl; wide = nets-length st (x .first .readData) 0 (signalWidth m (x .first .readData)); first = port-same (x .first) h; second = rw e n });
       }
 
-      go : (o : Option Port) → x .second ≡ o → ReadySecond m ob st o → Recorded k x
+      go : (o : Option Port) → x .second ≡ o → SecondAfter m ob st o → Recorded k x
       go none e g = at (2 ∷ k ∷ x .depth ∷ x .style ∷ 1 ∷ 1 ∷ wordsIn m st (x .first)) none none e (rw e (ap (λ (a : List ℕ). 2 ∷ k ∷ x .depth ∷ x .style ∷ 1 ∷ 1 ∷ a) (words-in m st (x .first))))
           (formed-memory k (x .depth) (x .style) 1 (wordsIn m st (x .first)) (port-ported (x .first)))
           (memory-back k (x .depth) (x .style) 1 (wordsIn m st (x .first)) (cellOf m st (x .first)) (back (x .first) h [])) tt
@@ -159,7 +159,7 @@ module _ (G : Gates) (m : Module) (good : Good m) (ob : Bool) (lim : ℕ × ℕ)
       let e : getElem? (m .memories) k ≡ some x = let z : k + 0 ≡ k = omega arith in rw z at (f 0 x refl) in
       let g = good .memories k x e in
       let w = all-walk G m good ob (memorySteps x) st (c .inv) (steps-asked m x (g .first) (g .second)) in
-      meets-bind Any (Kept m st (λ st′. AllAfter ob st′ (memorySteps x))) (λ st′. Connected m lim st′ (k + suc (length xs)) b n) (lowerAll m ob (memorySteps x) st) _ (w .walks) (λ st₁ q.
+      meets-bind Any (WalkedTo m st (λ st′. AllAfter ob st′ (memorySteps x))) (λ st′. Connected m lim st′ (k + suc (length xs)) b n) (lowerAll m ob (memorySteps x) st) _ (w .walks) (λ st₁ q.
       meets-bind Any (λ st′. Connected m lim st′ (suc k) b n) (λ st′. Connected m lim st′ (k + suc (length xs)) b n)
       (pushRecord (2 ∷ k ∷ x .depth ∷ x .style ∷ 1 ∷ portsWords m st₁ (x .first) (x .second)) st₁) _
       (memory-pushed k b n x st₁ e (connected-grew c (q .inv) (q .grew)) (q .post))

@@ -20,7 +20,7 @@ use Rattle.law_nets.specs.Run.{later-trans, Meets, meets-bind, meets-map, Limit
 use Rattle.law_gates.specs.Added.{recorded-others}
 use Rattle.law_gates.specs.Ports.{OutputPort, output-port-run, output-outputs, outputNodes}
 use Rattle.law_walk.specs.Good.{Good}
-use Rattle.law_walk.specs.Kept.{Any, more-refl, Kept}
+use Rattle.law_walk.specs.Kept.{Any, more-refl, WalkedTo}
 use Rattle.law_walk.specs.Writes.{inv-netlist}
 use Rattle.law_walk.specs.Reads.{AllAfter, read-bits}
 use Rattle.law_walk.specs.Walk.{bits-asked, all-walk}
@@ -92,7 +92,7 @@ module _ (m : Module) (good : Good m) (ob : Bool) (lim : ℕ × ℕ) where
       go R.Input q = no-output p k f st (λ z. let y : _≡_ {A = ℕ} 0 1 = cc in omega arith) c
       go R.Output q =
           let w = all-walk supply m good ob (signalSteps p 0 (signalWidth m p)) st (c .inv) (bits-asked m p 0 (signalWidth m p)) in
-          rw (← wide) (meets-bind Any (Kept m st (λ st′. AllAfter ob st′ (signalSteps p 0 (signalWidth m p)))) (λ st′. Connected m lim st′ k f (suc p))
+          rw (← wide) (meets-bind Any (WalkedTo m st (λ st′. AllAfter ob st′ (signalSteps p 0 (signalWidth m p)))) (λ st′. Connected m lim st′ k f (suc p))
           (lowerAll m ob (signalSteps p 0 (signalWidth m p)) st) _ (w .walks) (λ st₁ g. port-run p k f st₁ q (connected-grew c (g .inv) (g .grew)) (g .post)))
 
   outputs-walk : (p : ℕ) (ys : List Sig) → ((j : ℕ) (x : Sig) → getElem? ys j ≡ some x → getElem? (m .signals) (p + j) ≡ some x) → (k : ℕ) (f : ℕ → ℕ) (st : State)

@@ -11,6 +11,7 @@ use Rattle.spec_rules.specs.NetlistImage.{memoryOf, registerBitOf}
 use Rattle.spec_model.specs.Words.{Netlist, absent}
 use Rattle.spec_model.specs.Builder.{Out, refused, done, andThen, push, from}
 use Rattle.spec_model.specs.Lowering.{State, Need, Bit, Whole, Range, Step, cell, whole, withNetlist, signalNet, signalNets, controlSteps, optionControl, pushRecord}
+use Rattle.word_laws.specs.Runs.{length-from}
 use Rattle.net_view.specs.View.{Formed}
 use Rattle.net_view.specs.Laws.{withRecord}
 use Rattle.law_nets.specs.Meaning.{meaningOf, recordsWith}
@@ -18,7 +19,6 @@ use Rattle.law_nets.specs.Sound.{Sound, Later}
 use Rattle.law_nets.specs.Run.{Meets, Limit}
 use Rattle.law_nets.specs.Nodes.{with-new, with-same}
 use Rattle.law_nets.specs.Lists.{outputs-none}
-use Rattle.law_gates.specs.Added.{length-from}
 use Rattle.law_gates.specs.Sources.{push-run}
 use Rattle.law_walk.specs.Tables.{Has}
 use Rattle.law_walk.specs.Kept.{Any, Inv}

@@ -24,7 +24,7 @@ use Rattle.law_nets.specs.Run.{Meets, meets-bind, meets-map}
 use Rattle.law_gates.specs.Gates.{constant-later}
 use Rattle.law_walk.specs.Tables.{Has}
 use Rattle.law_walk.specs.Good.{Good, GoodRegister}
-use Rattle.law_walk.specs.Kept.{Any, Agrees, more-refl, Holds, Inv, Kept}
+use Rattle.law_walk.specs.Kept.{Any, Agrees, more-refl, NetsGive, Inv, WalkedTo}
 use Rattle.law_walk.specs.Writes.{inv-netlist}
 use Rattle.law_walk.specs.Reads.{AllAsked, AllAfter, below-at, map-at, read-whole, whole-length}
 use Rattle.law_walk.specs.Gates.{Gates}
@@ -44,13 +44,13 @@ steps-asked m k r g =
     (reset-asked m (r .reset) (λ x e. g .reset x e .0))
 
 -- what is there of a register after its steps
-record Ready (ob : Bool) (st : State) (r : Register) : Type 0 where
+record RegisterAfter (ob : Bool) (st : State) (r : Register) : Type 0 where
   pub next : Has (whole st (r .next))
   pub clock : AllAfter ob st (bitStep (r .clock))
   pub enable : AllAfter ob st (controlSteps (r .enable))
   pub reset : AllAfter ob st (resetSteps (r .reset))
 
-ready : (ob : Bool) (st : State) (r : Register) → AllAfter ob st (registerSteps r) → Ready ob st r
+ready : (ob : Bool) (st : State) (r : Register) → AllAfter ob st (registerSteps r) → RegisterAfter ob st r
 ready ob st r h =
     let a = after-append ob st (wholes (r .next ∷ []) ++ bitStep (r .clock) ++ controlSteps (r .enable)) (resetSteps (r .reset)) h in
     let b = after-append ob st (wholes (r .next ∷ []) ++ bitStep (r .clock)) (controlSteps (r .enable)) (a .0) in
@@ -84,7 +84,7 @@ module _ (m : Module) (good : Good m) (ob : Bool) (lim : ℕ × ℕ) where
     unfolding wholeNet
     net-value l a s c v g = sym (map-at (netValue l s c) (wholeNets st e) b absent false into) ∙ ap (λ (w : List Bool). getD w b false) (read-whole m st i e h .holds l a s c v g)
 
-    pub net-holds : Holds (st .netlist) (st .signalBits) (wholeNet st e b ∷ []) (λ v. getD (word (m .exprs) v e) b false ∷ [])
+    pub net-holds : NetsGive (st .netlist) (st .signalBits) (wholeNet st e b ∷ []) (λ v. getD (word (m .exprs) v e) b false ∷ [])
     net-holds = record { there = (net-there′, tt); holds = λ l a s c v g. rw (net-value l a s c v g) }
 
     pub net-constant : (x : Bool) → constantValue (st .netlist) (wholeNet st e b) ≡ some x → IsConstant m (st .netlist) (st .signalBits) e b (bitWord x)
@@ -192,7 +192,7 @@ module _ (m : Module) (good : Good m) (ob : Bool) (lim : ℕ × ℕ) where
     registers-walk k (r ∷ rs) g e j n f lo hi st c =
         let at : getElem? (m .registers) k ≡ some r = let z : k + 0 ≡ k = omega arith in rw z at (g 0 r refl) in
         let w = all-walk G m good ob (registerSteps r) st (c .inv) (steps-asked m k r (good .registers k r at)) in
-        meets-bind Any (Kept m st (λ st′. AllAfter ob st′ (registerSteps r))) (AllBits j n) (lowerAll m ob (registerSteps r) st) _ (w .walks) (λ st₁ q.
+        meets-bind Any (WalkedTo m st (λ st′. AllAfter ob st′ (registerSteps r))) (AllBits j n) (lowerAll m ob (registerSteps r) st) _ (w .walks) (λ st₁ q.
         meets-bind Any (Done k r at j n f (0 + signalWidth m (r .target))) (AllBits j n) (registerBits k r 0 (signalWidth m (r .target)) st₁) _
         (bits-run k r at (signalWidth m (r .target)) 0 j n f st₁ (hi k (omega arith)) (omega arith) (connected-grew c (q .inv) (q .grew)) (q .post))
         (λ st₂ d. registers-walk (suc k) rs (λ x y p. let v : k + suc x ≡ suc k + x = omega arith in rw v at (g (suc x) y p)) (omega arith) j n (d .bits)

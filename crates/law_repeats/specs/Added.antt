@@ -81,25 +81,25 @@ other-kind l r h op lhs rhs carry vs w v = begins-other _ r h
 
 -- ---- calls that are done ----
 
-abbrev Kept : {A : Type 0} → Netlist → Made A → Type 0
-Kept l (refused n x y) = Unit {0}
-Kept l (done r) = Stays l (r .1)
+abbrev DoneStays : {A : Type 0} → Netlist → Made A → Type 0
+DoneStays l (refused n x y) = Unit {0}
+DoneStays l (done r) = Stays l (r .1)
 
 -- where the call is done, all stays
 pub record Keeps {A : Type 0} (l : Netlist) (o : Made A) : Type 0 where
-  pub keeps : Kept l o
+  pub keeps : DoneStays l o
 
 pub keeps-done : {A : Type 0} {l l′ : Netlist} {a : A} (o : Made A) → Keeps l o → o ≡ done (a, l′) → Stays l l′
-keeps-done {l} o k e = subst (Kept l) e (k .keeps)
+keeps-done {l} o k e = subst (DoneStays l) e (k .keeps)
 
 pub keeps-bind : {A B : Type 0} {l : Netlist} (o : Made A) (k : A × Netlist → Made B) → Keeps l o → ((a : A) (l₁ : Netlist) → Keeps l₁ (k (a, l₁))) → Keeps l (andThen o k)
 keeps-bind {A} {B} {l} o k h f = record { keeps = go o (h .keeps) }
   where
-    second : (l₁ : Netlist) (p : Made B) → Stays l l₁ → Kept l₁ p → Kept l p
+    second : (l₁ : Netlist) (p : Made B) → Stays l l₁ → DoneStays l₁ p → DoneStays l p
     second l₁ (refused n x y) s q = tt
     second l₁ (done r) s q = stays-trans s q
 
-    go : (o : Made A) → Kept l o → Kept l (andThen o k)
+    go : (o : Made A) → DoneStays l o → DoneStays l (andThen o k)
     go (refused n x y) q = tt
     go (done r) q = second (r .1) (k r) q (f (r .0) (r .1) .keeps)
 
@@ -110,7 +110,7 @@ pub keeps-node : (x : Node) (l : Netlist) → (Looked x → ⊥) → Keeps l (ad
 unfolding addNode
 keeps-node x l h = record { keeps = go (ltb (length (l .nodes)) (l .maxNets)) }
   where
-    go : (t : Bool) → Kept l (cond t (done (length (l .nodes), withNode x l)) (refused 9 0 0))
+    go : (t : Bool) → DoneStays l (cond t (done (length (l .nodes), withNode x l)) (refused 9 0 0))
     go true = stays-node x l (λ p. absurd (h p))
     go false = tt
 
@@ -135,11 +135,11 @@ pub keeps-recorded : (r : List ℕ) (l : Netlist) (o : Made (List ℕ)) → ((ns
 unfolding addRecorded
 keeps-recorded r l o h k = record { keeps = go o (k .keeps) }
   where
-    then : (ns : List ℕ) (l₁ : Netlist) → Stays l l₁ → (p : Out Netlist) → push (r ++ ns) l₁ ≡ p → Kept l (andThen p (λ l₂. done (ns, l₂)))
+    then : (ns : List ℕ) (l₁ : Netlist) → Stays l l₁ → (p : Out Netlist) → push (r ++ ns) l₁ ≡ p → DoneStays l (andThen p (λ l₂. done (ns, l₂)))
     then ns l₁ s (refused n x y) e = tt
     then ns l₁ s (done l₂) e = push-other (r ++ ns) l₂ s (h ns) e
 
-    go : (o : Made (List ℕ)) → Kept l o → Kept l (andThen o (λ (ns, l₁). andThen (push (r ++ ns) l₁) (λ l₂. done (ns, l₂))))
+    go : (o : Made (List ℕ)) → DoneStays l o → DoneStays l (andThen o (λ (ns, l₁). andThen (push (r ++ ns) l₁) (λ l₂. done (ns, l₂))))
     go (refused n x y) q = tt
     go (done a) q = then (a .0) (a .1) q (push (r ++ a .0) (a .1)) refl
 

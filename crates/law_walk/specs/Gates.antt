@@ -19,7 +19,7 @@ use Rattle.word_laws.specs.Widths.{AllBelow, BinWidth}
 use Rattle.law_nets.specs.Meaning.{netValue}
 use Rattle.law_nets.specs.Sound.{count, Sound, Later, At, Stands, StandsAll}
 use Rattle.law_nets.specs.Run.{later-trans}
-use Rattle.law_walk.specs.Kept.{Table, Agrees, Holds, Makes, makes-map}
+use Rattle.law_walk.specs.Kept.{Table, Agrees, NetsGive, Makes, makes-map}
 
 abbrev pub gateOp : Gate → Bool → Bool → Bool
 gateOp AndGate a b = a && b
@@ -46,11 +46,11 @@ pub record Gates : Type 0 where
       → Gives l (λ h s c. addC (map (netValue h s c) xs) (map (netValue h s c) ys) (netValue h s c d)) (arithmetic B.Add xs ys (some d) l)
 
 pub stands-holds : {l l′ : Netlist} {t : Table} {zs : List ℕ} {w : At (List Bool)} {u : Valuation → List Bool} → StandsAll l′ zs w → Later l l′
-    → ((h : Netlist) → Later l′ h → (s : Setting) (c : Contents) (v : Valuation) → Agrees (netValue h s c) v t → w h s c ≡ u v) → Holds l′ t zs u
+    → ((h : Netlist) → Later l′ h → (s : Setting) (c : Contents) (v : Valuation) → Agrees (netValue h s c) v t → w h s c ≡ u v) → NetsGive l′ t zs u
 stands-holds a b e = record { there = a .there; holds = λ h k s c v g. a .are h k s c ∙ e h k s c v g }
 
 -- the nets made stand for a word of the signals' values
 pub gives-holds : {l : Netlist} {t : Table} {w : At (List Bool)} {u : Valuation → List Bool} (o : Made (List ℕ)) → Gives l w o
     → ((h : Netlist) → Later l h → (s : Setting) (c : Contents) (v : Valuation) → Agrees (netValue h s c) v t → w h s c ≡ u v)
-    → Makes l (λ zs l′. Holds l′ t zs u) o
+    → Makes l (λ zs l′. NetsGive l′ t zs u) o
 gives-holds o r e = makes-map o r (λ zs l′ a p. stands-holds p a (λ h k s c v g. e h (later-trans a k) s c v g))

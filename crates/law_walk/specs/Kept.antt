@@ -40,22 +40,22 @@ pub agrees-less : {g : ℕ → Bool} {v : Valuation} {t t′ : Table} → More t
 agrees-less m a = record { at = λ p i n e. a .at p i n (m .more p i n e) }
 
 -- nets ns are there, and their word is w of the valuation
-pub record Holds (l : Netlist) (t : Table) (ns : List ℕ) (w : Valuation → List Bool) : Type 0 where
+pub record NetsGive (l : Netlist) (t : Table) (ns : List ℕ) (w : Valuation → List Bool) : Type 0 where
   pub there : AllBelow (count l) ns
   pub holds : (h : Netlist) → Later l h → (s : Setting) (c : Contents) (v : Valuation) → Agrees (netValue h s c) v t → map (netValue h s c) ns ≡ w v
 
-pub holds-later : {l l′ : Netlist} {t t′ : Table} {ns : List ℕ} {w : Valuation → List Bool} → Later l l′ → More t t′ → Holds l t ns w → Holds l′ t′ ns w
+pub holds-later : {l l′ : Netlist} {t t′ : Table} {ns : List ℕ} {w : Valuation → List Bool} → Later l l′ → More t t′ → NetsGive l t ns w → NetsGive l′ t′ ns w
 holds-later {ns} a b x = record {
   there = below-more _ _ ns (later-count a) (x .there);
   holds = λ h k s c v g. x .holds h (later-trans a k) s c v (agrees-less b g);
 }
 
 -- the known nets of a row have the word's bits
-pub record HoldsRow (l : Netlist) (t : Table) (row : List (Option ℕ)) (w : Valuation → List Bool) : Type 0 where
+pub record RowGives (l : Netlist) (t : Table) (row : List (Option ℕ)) (w : Valuation → List Bool) : Type 0 where
   pub there : (b n : ℕ) → getD row b none ≡ some n → n < count l
   pub holds : (h : Netlist) → Later l h → (s : Setting) (c : Contents) (v : Valuation) → Agrees (netValue h s c) v t → Fits (netValue h s c) row (w v)
 
-pub row-later : {l l′ : Netlist} {t t′ : Table} {row : List (Option ℕ)} {w : Valuation → List Bool} → Later l l′ → More t t′ → HoldsRow l t row w → HoldsRow l′ t′ row w
+pub row-later : {l l′ : Netlist} {t t′ : Table} {row : List (Option ℕ)} {w : Valuation → List Bool} → Later l l′ → More t t′ → RowGives l t row w → RowGives l′ t′ row w
 row-later {row} a b x = record {
   there = λ i n e. omega (arith, x .there i n e, later-count a);
   holds = λ h k s c v g. x .holds h (later-trans a k) s c v (agrees-less b g);
@@ -86,9 +86,9 @@ pub record Inv (m : Module) (st : State) : Type 0 where
   pub settles : Settles m (st .netlist) (st .signalBits)
   pub entries : length (st .expressionBits) ≡ length (m .exprs)
   pub rows : length (st .expressionRanges) ≡ length (m .exprs)
-  pub wholes : (e : ℕ) (ns : List ℕ) → whole st e ≡ some ns → Holds (st .netlist) (st .signalBits) ns (λ v. word (m .exprs) v e)
+  pub wholes : (e : ℕ) (ns : List ℕ) → whole st e ≡ some ns → NetsGive (st .netlist) (st .signalBits) ns (λ v. word (m .exprs) v e)
   pub cells : (e : ℕ) → e < length (m .exprs) → whole st e ≡ none → length (getD (st .expressionRanges) e []) ≡ widthAt (m .exprs) e
-  pub ranges : (e : ℕ) → HoldsRow (st .netlist) (st .signalBits) (getD (st .expressionRanges) e []) (λ v. word (m .exprs) v e)
+  pub ranges : (e : ℕ) → RowGives (st .netlist) (st .signalBits) (getD (st .expressionRanges) e []) (λ v. word (m .exprs) v e)
 
 -- a marked bit stays marked, and its net as it was
 pub record Framed (st st′ : State) : Type 0 where
@@ -131,14 +131,14 @@ grew-trans a b = record {
 abbrev pub Any : ℕ → ℕ → ℕ → Type 0
 Any n x y = Unit {0}
 
-pub record Kept (m : Module) (st : State) (P : State → Type 0) (st′ : State) : Type 0 where
+pub record WalkedTo (m : Module) (st : State) (P : State → Type 0) (st′ : State) : Type 0 where
   pub inv : Inv m st′
   pub grew : Grew st st′
   pub post : P st′
 
 -- a step of the walk from st
 pub record Walks (m : Module) (st : State) (P : State → Type 0) (o : Out State) : Type 0 where
-  pub walks : Meets Any (Kept m st P) o
+  pub walks : Meets Any (WalkedTo m st P) o
 
 pub walks-refused : {m : Module} {st : State} {P : State → Type 0} {n x y : ℕ} → Walks m st P (refused n x y)
 walks-refused = record { walks = tt }

@@ -23,7 +23,7 @@ use Rattle.word_laws.specs.Values.{slice-wide}
 use Rattle.word_laws.specs.Widths.{AllBelow, BelowE, Formed, WidthOk, word-is, word-width}
 use Rattle.law_nets.specs.Run.{cells-refl, later-refl}
 use Rattle.law_walk.specs.Tables.{none-some, some-eq, Has}
-use Rattle.law_walk.specs.Kept.{Holds, Inv, Makes, makes-done, makes-map}
+use Rattle.law_walk.specs.Kept.{NetsGive, Inv, Makes, makes-done, makes-map}
 use Rattle.law_walk.specs.Writes.{holds-length}
 use Rattle.law_walk.specs.Reads.{After, AllAsked, AllAfter, holds-as, holds-nil, holds-append, read-range, whole-after, read-bits}
 use Rattle.law_walk.specs.Gates.{Gates, gateOp, gives-holds}
@@ -152,7 +152,7 @@ gate-wide g w a b R.ShiftA k e h = absurd (none-some e)
 
 module _ (G : Gates) (m : Module) (f : Formed (m .exprs)) (ob : Bool) (st : State) (i : Inv m st) where
   pieces-made : (lsb end at : ℕ) (ps : List ℕ) → AllBelow (length (m .exprs)) ps → AllAfter ob st (pieceSteps (pieces (m .exprs) lsb end at ps))
-      → Holds (st .netlist) (st .signalBits) (pieceNets st (pieces (m .exprs) lsb end at ps))
+      → NetsGive (st .netlist) (st .signalBits) (pieceNets st (pieces (m .exprs) lsb end at ps))
       (λ v. sliceW (lsb - at) (end - max lsb at) (flat (word (m .exprs) v) ps))
   unfolding pieces
   pieces-made lsb end at [] b h = holds-as holds-nil (λ v. sym (rw (drop-nil {A = Bool} (lsb - at)) (take-nil {A = Bool} (end - max lsb at))))
@@ -172,10 +172,10 @@ module _ (G : Gates) (m : Module) (f : Formed (m .exprs)) (ob : Bool) (st : Stat
 
       go : (t : Bool) → ltb (max lsb at) (min end (at + widthAt (m .exprs) p)) ≡ t
           → (AllAfter ob st (pieceSteps (pieces (m .exprs) lsb end (at + widthAt (m .exprs) p) ps))
-          → Holds (st .netlist) (st .signalBits) (pieceNets st (pieces (m .exprs) lsb end (at + widthAt (m .exprs) p) ps))
+          → NetsGive (st .netlist) (st .signalBits) (pieceNets st (pieces (m .exprs) lsb end (at + widthAt (m .exprs) p) ps))
           (λ v. sliceW (lsb - (at + widthAt (m .exprs) p)) (end - max lsb (at + widthAt (m .exprs) p)) (flat (word (m .exprs) v) ps)))
           → AllAfter ob st (pieceSteps (cond t (record { part = p; lsb = max lsb at - at; width = min end (at + widthAt (m .exprs) p) - max lsb at } ∷ pieces (m .exprs) lsb end (at + widthAt (m .exprs) p) ps) (pieces (m .exprs) lsb end (at + widthAt (m .exprs) p) ps)))
-          → Holds (st .netlist) (st .signalBits)
+          → NetsGive (st .netlist) (st .signalBits)
           (pieceNets st (cond t (record { part = p; lsb = max lsb at - at; width = min end (at + widthAt (m .exprs) p) - max lsb at } ∷ pieces (m .exprs) lsb end (at + widthAt (m .exprs) p) ps) (pieces (m .exprs) lsb end (at + widthAt (m .exprs) p) ps)))
           (λ v. sliceW (lsb - at) (end - max lsb at) (word (m .exprs) v p ++ flat (word (m .exprs) v) ps))
       go true t r h =
@@ -187,7 +187,7 @@ module _ (G : Gates) (m : Module) (f : Formed (m .exprs)) (ob : Bool) (st : Stat
 
   module _ (e lsb w : ℕ) (here : e < length (m .exprs)) (fits : lsb + w ≤ widthAt (m .exprs) e) where
     abbrev MadeSlice : List ℕ → Netlist → Type 0
-    MadeSlice ns l = Holds l (st .signalBits) ns (λ v. sliceW lsb w (word (m .exprs) v e))
+    MadeSlice ns l = NetsGive l (st .signalBits) ns (λ v. sliceW lsb w (word (m .exprs) v e))
 
     module _ (k : Kind) (x : (exprAt (m .exprs) e) .kind ≡ k) where
       is : (v : Valuation) → sliceW lsb w (word1 v (word (m .exprs) v) (widthAt (m .exprs) e) k) ≡ sliceW lsb w (word (m .exprs) v e)
@@ -200,12 +200,12 @@ module _ (G : Gates) (m : Module) (f : Formed (m .exprs)) (ob : Bool) (st : Stat
       wide = rw x at (f .wide e here)
 
     -- the range of the expression itself, which is there whole
-    own : Has (whole st e) → Holds (st .netlist) (st .signalBits) (rangeNets st e lsb w) (λ v. sliceW lsb w (word (m .exprs) v e))
+    own : Has (whole st e) → NetsGive (st .netlist) (st .signalBits) (rangeNets st e lsb w) (λ v. sliceW lsb w (word (m .exprs) v e))
     own h = read-range m st i f e lsb w here fits (whole-after m st i f e lsb w h)
 
     -- a range of an operand of the same width
     module _ (a : ℕ) (b : a < e) (same : widthAt (m .exprs) a ≡ widthAt (m .exprs) e) (h : After st (Range a lsb w)) where
-      side : Holds (st .netlist) (st .signalBits) (rangeNets st a lsb w) (λ v. sliceW lsb w (word (m .exprs) v a))
+      side : NetsGive (st .netlist) (st .signalBits) (rangeNets st a lsb w) (λ v. sliceW lsb w (word (m .exprs) v a))
       side = read-range m st i f a lsb w (omega arith) (omega arith) h
 
       side-length : length (rangeNets st a lsb w) ≡ w
@@ -275,6 +275,6 @@ module _ (G : Gates) (m : Module) (f : Formed (m .exprs)) (ob : Bool) (st : Stat
 
     -- what `lower_expression_range` makes stands for the slice
     pub range-made : AllAfter ob st (rangeSteps (m .exprs) e lsb w)
-        → Makes (st .netlist) (λ ns l. Holds l (st .signalBits) ns (λ v. sliceW lsb w (word (m .exprs) v e))) (buildRange (m .exprs) ob st e lsb w)
+        → Makes (st .netlist) (λ ns l. NetsGive l (st .signalBits) ns (λ v. sliceW lsb w (word (m .exprs) v e))) (buildRange (m .exprs) ob st e lsb w)
     unfolding rangeSteps buildRange
     range-made h = kind-made ((exprAt (m .exprs) e) .kind) refl h

@@ -20,7 +20,7 @@ use Rattle.law_nets.specs.Meaning.{netValue}
 use Rattle.law_nets.specs.Sound.{count, Sound, Later}
 use Rattle.law_nets.specs.Nodes.{constant-there, constant-grew}
 use Rattle.law_walk.specs.Tables.{none-some, Has, Known, row-slice, row-below, all-known}
-use Rattle.law_walk.specs.Kept.{Table, Holds, Held, Inv, Grew}
+use Rattle.law_walk.specs.Kept.{Table, NetsGive, Held, Inv, Grew}
 use Rattle.law_walk.specs.Writes.{holds-length}
 
 -- a range stays inside its expression
@@ -126,19 +126,19 @@ map-at g (x ∷ xs) zero d b l = refl
 map-at g (x ∷ xs) (suc i) d b l = map-at g xs i d b (le-of-suc-le-suc l)
 
 module _ {l : Netlist} {t : Table} where
-  pub holds-as : {ns : List ℕ} {w w′ : Valuation → List Bool} → Holds l t ns w → ((v : Valuation) → w v ≡ w′ v) → Holds l t ns w′
+  pub holds-as : {ns : List ℕ} {w w′ : Valuation → List Bool} → NetsGive l t ns w → ((v : Valuation) → w v ≡ w′ v) → NetsGive l t ns w′
   holds-as h e = record { there = h .there; holds = λ x a s c v g. h .holds x a s c v g ∙ e v }
 
-  pub holds-nil : Holds l t [] (λ v. [])
+  pub holds-nil : NetsGive l t [] (λ v. [])
   holds-nil = record { there = tt; holds = λ x a s c v g. refl }
 
-  pub holds-append : {ns ks : List ℕ} {w u : Valuation → List Bool} → Holds l t ns w → Holds l t ks u → Holds l t (ns ++ ks) (λ v. w v ++ u v)
+  pub holds-append : {ns ks : List ℕ} {w u : Valuation → List Bool} → NetsGive l t ns w → NetsGive l t ks u → NetsGive l t (ns ++ ks) (λ v. w v ++ u v)
   holds-append {ns} {ks} h k = record {
     there = below-append (count l) ns ks (h .there) (k .there);
     holds = λ x a s c v g. map-append (netValue x s c) ns ks ∙ rw (h .holds x a s c v g, k .holds x a s c v g);
   }
 
-  pub holds-slice : {ns : List ℕ} {w : Valuation → List Bool} (lsb n : ℕ) → Holds l t ns w → Holds l t (take n (drop lsb ns)) (λ v. sliceW lsb n (w v))
+  pub holds-slice : {ns : List ℕ} {w : Valuation → List Bool} (lsb n : ℕ) → NetsGive l t ns w → NetsGive l t (take n (drop lsb ns)) (λ v. sliceW lsb n (w v))
   holds-slice {ns} lsb n h = record {
     there = below-slice (count l) lsb n ns (h .there);
     holds = λ x a s c v g. map-slice (netValue x s c) lsb n ns ∙ rw (h .holds x a s c v g);
@@ -147,7 +147,7 @@ module _ {l : Netlist} {t : Table} where
 module _ (m : Module) (st : State) (i : Inv m st) where
   -- ---- expressions ----
 
-  pub read-whole : (e : ℕ) → Has (whole st e) → Holds (st .netlist) (st .signalBits) (wholeNets st e) (λ v. word (m .exprs) v e)
+  pub read-whole : (e : ℕ) → Has (whole st e) → NetsGive (st .netlist) (st .signalBits) (wholeNets st e) (λ v. word (m .exprs) v e)
   unfolding wholeNets
   read-whole e h = rw (h .is) (i .wholes e (h .value) (h .is))
 
@@ -156,14 +156,14 @@ module _ (m : Module) (st : State) (i : Inv m st) where
     whole-length e b h = holds-length (i .sound) (read-whole e h) (widthAt (m .exprs) e) (λ v. word-width (m .exprs) f v e b)
 
     pub read-range : (e lsb w : ℕ) → e < length (m .exprs) → lsb + w ≤ widthAt (m .exprs) e → After st (Range e lsb w)
-        → Holds (st .netlist) (st .signalBits) (rangeNets st e lsb w) (λ v. sliceW lsb w (word (m .exprs) v e))
+        → NetsGive (st .netlist) (st .signalBits) (rangeNets st e lsb w) (λ v. sliceW lsb w (word (m .exprs) v e))
     unfolding rangeNets
     read-range e lsb w b k h = go (whole st e) refl
       where
         known : whole st e ≡ none → Known (getD (st .expressionRanges) e []) lsb w
         known q = record { known = λ j x y. rw q at (h j x y) }
 
-        go : (o : Option (List ℕ)) → whole st e ≡ o → Holds (st .netlist) (st .signalBits) (rangeBy o st e lsb w) (λ v. sliceW lsb w (word (m .exprs) v e))
+        go : (o : Option (List ℕ)) → whole st e ≡ o → NetsGive (st .netlist) (st .signalBits) (rangeBy o st e lsb w) (λ v. sliceW lsb w (word (m .exprs) v e))
         go (some ns) q = holds-slice lsb w (i .wholes e ns q)
         go none q =
             let n = i .cells e b q in
@@ -189,14 +189,14 @@ module _ (m : Module) (st : State) (i : Inv m st) where
 
   -- ---- signals ----
 
-  pub read-bit : (s b : ℕ) → Has (cell none (st .signalBits) s b) → Holds (st .netlist) (st .signalBits) (signalNet st s b ∷ []) (λ v. v s b ∷ [])
+  pub read-bit : (s b : ℕ) → Has (cell none (st .signalBits) s b) → NetsGive (st .netlist) (st .signalBits) (signalNet st s b ∷ []) (λ v. v s b ∷ [])
   unfolding signalNet signalBit
   read-bit s b h = rw (h .is) (record {
     there = (i .nets s b (h .value) (h .is), tt);
     holds = λ x a y c v g. rw (g .at s b (h .value) (h .is));
   })
 
-  pub read-bits : (ob : Bool) (s b w : ℕ) → AllAfter ob st (signalSteps s b w) → Holds (st .netlist) (st .signalBits) (signalNets st s b w) (λ v. tab w (λ j. v s (b + j)))
+  pub read-bits : (ob : Bool) (s b w : ℕ) → AllAfter ob st (signalSteps s b w) → NetsGive (st .netlist) (st .signalBits) (signalNets st s b w) (λ v. tab w (λ j. v s (b + j)))
   unfolding signalSteps signalNets from
   read-bits ob s b zero h = holds-nil
   read-bits ob s b (suc w) h =

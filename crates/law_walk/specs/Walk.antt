@@ -23,7 +23,7 @@ use Rattle.law_nets.specs.Meaning.{netValue}
 use Rattle.law_nets.specs.Sound.{count}
 use Rattle.law_walk.specs.Tables.{none-some, some-eq}
 use Rattle.law_walk.specs.Good.{Good, GoodAssign, Undriven}
-use Rattle.law_walk.specs.Kept.{Table, Grew, Holds, Inv, grew-refl, grew-trans, Walks, walks-refused, walks-done, walks-map, walks-bind, Makes}
+use Rattle.law_walk.specs.Kept.{Table, Grew, NetsGive, Inv, grew-refl, grew-trans, Walks, walks-refused, walks-done, walks-map, walks-bind, Makes}
 use Rattle.law_walk.specs.Writes.{holds-length, inv-netlist, grew-netlist, inv-whole, grew-whole, has-whole, inv-range, grew-range, has-range, inv-mark, marked, inv-bit, grew-bit, has-bit}
 use Rattle.law_walk.specs.Reads.{StepAfter, step-stays, holds-as, read-range, Asked, After, after-grew, AllAsked, AllAfter, map-at, below-at, read-whole, whole-length, known-after}
 use Rattle.law_walk.specs.Gates.{Gates}
@@ -183,8 +183,8 @@ module _ (m : Module) (s b : ℕ) where
 head-eq : {a b : Bool} → _≡_ {A = List Bool} (a ∷ []) (b ∷ []) → a ≡ b
 head-eq p = cc
 
-one-of : {l : Netlist} {t : Table} {ns : List ℕ} {w : Valuation → List Bool} → Holds l t ns w → (i d : ℕ) → i < length ns
-    → Holds l t (getD ns i d ∷ []) (λ v. getD (w v) i false ∷ [])
+one-of : {l : Netlist} {t : Table} {ns : List ℕ} {w : Valuation → List Bool} → NetsGive l t ns w → (i d : ℕ) → i < length ns
+    → NetsGive l t (getD ns i d ∷ []) (λ v. getD (w v) i false ∷ [])
 one-of {l} {ns} h i d n = record {
   there = (below-at (count l) ns i d n (h .there), tt);
   holds = λ k a s c v g. ap (λ (x : Bool). x ∷ []) (sym (map-at (netValue k s c) ns i d false n) ∙ ap (λ (x : List Bool). getD x i false) (h .holds k a s c v g));
@@ -234,7 +234,7 @@ module _ (G : Gates) (m : Module) (good : Good m) (ob : Bool) where
 
       -- the net taken has the driver's bit
       net-taken : (o : Bool) (st₁ : State) → Inv m st₁ → After st₁ (drivenBy o (d .0) (d .1))
-          → Holds (st₁ .netlist) (st₁ .signalBits) (drivenNet o st₁ (d .0) (d .1) ∷ []) (λ v. getD (word (m .exprs) v (d .0)) (d .1) false ∷ [])
+          → NetsGive (st₁ .netlist) (st₁ .signalBits) (drivenNet o st₁ (d .0) (d .1) ∷ []) (λ v. getD (word (m .exprs) v (d .0)) (d .1) false ∷ [])
       unfolding wholeNet
       net-taken false st₁ j h =
           let r = read-whole m st₁ j (d .0) h in
@@ -285,7 +285,7 @@ module _ (G : Gates) (m : Module) (good : Good m) (ob : Bool) where
     -- ---- an expression ----
 
     keep-whole : (e : ℕ) → e < length (m .exprs) → whole st e ≡ none → (st₁ : State) → Inv m st₁ → Grew st st₁ → (o : Made (List ℕ))
-        → Makes (st₁ .netlist) (λ ns l. Holds l (st₁ .signalBits) ns (λ v. word (m .exprs) v e)) o → Walks m st (λ st′. After st′ (Whole e)) (keepWhole st₁ e o)
+        → Makes (st₁ .netlist) (λ ns l. NetsGive l (st₁ .signalBits) ns (λ v. word (m .exprs) v e)) o → Walks m st (λ st′. After st′ (Whole e)) (keepWhole st₁ e o)
     unfolding keepWhole
     keep-whole e h z st₁ j g (refused n x y) w = walks-refused
     keep-whole e h z st₁ j g (done r) w =
@@ -317,7 +317,7 @@ module _ (G : Gates) (m : Module) (good : Good m) (ob : Bool) where
     -- ---- a range ----
 
     keep-range : (st₁ : State) → Inv m st₁ → (e lsb w : ℕ) → e < length (m .exprs) → lsb + w ≤ widthAt (m .exprs) e → (o : Made (List ℕ))
-        → Makes (st₁ .netlist) (λ ns l. Holds l (st₁ .signalBits) ns (λ v. sliceW lsb w (word (m .exprs) v e))) o
+        → Makes (st₁ .netlist) (λ ns l. NetsGive l (st₁ .signalBits) ns (λ v. sliceW lsb w (word (m .exprs) v e))) o
         → Walks m st₁ (λ st′. After st′ (Range e lsb w)) (keepRange st₁ e lsb o)
     unfolding keepRange
     keep-range st₁ j e lsb w h fits (refused n x y) q = walks-refused

@@ -22,7 +22,7 @@ use Rattle.law_nets.specs.Meaning.{netValue}
 use Rattle.law_nets.specs.Sound.{count, Later}
 use Rattle.law_nets.specs.Run.{cells-refl, later-refl}
 use Rattle.law_walk.specs.Tables.{none-some, Has}
-use Rattle.law_walk.specs.Kept.{Table, Agrees, more-refl, Holds, holds-later, Inv, Makes, makes-done, makes-map, makes-bind}
+use Rattle.law_walk.specs.Kept.{Table, Agrees, more-refl, NetsGive, holds-later, Inv, Makes, makes-done, makes-map, makes-bind}
 use Rattle.law_walk.specs.Writes.{holds-length}
 use Rattle.law_walk.specs.Reads.{AllAfter, map-append, map-at, below-at, below-append, holds-as, holds-nil, holds-append, holds-slice, read-whole, whole-length, read-range, read-bits}
 use Rattle.law_walk.specs.Gates.{Gates, gives-holds}
@@ -77,8 +77,8 @@ abbrev pub truncatedW : Option ℕ → List Bool → List Bool
 truncatedW none a = a
 truncatedW (some k) a = take k a
 
-pub holds-truncated : {l : Netlist} {t : Table} {ns : List ℕ} {w : Valuation → List Bool} (n : Option ℕ) → Holds l t ns w
-    → Holds l t (truncated n ns) (λ v. truncatedW n (w v))
+pub holds-truncated : {l : Netlist} {t : Table} {ns : List ℕ} {w : Valuation → List Bool} (n : Option ℕ) → NetsGive l t ns w
+    → NetsGive l t (truncated n ns) (λ v. truncatedW n (w v))
 holds-truncated none h = h
 holds-truncated (some k) h = holds-slice 0 k h
 
@@ -153,10 +153,10 @@ module _ (G : Gates) (m : Module) (f : Formed (m .exprs)) (ob : Bool) (st : Stat
 
   module _ (c : ℕ) (here : c < length (m .exprs)) (h : Has (whole st c)) (ts es : List ℕ) (wt we : Valuation → List Bool) where
     abbrev MuxMade : List ℕ → Netlist → Type 0
-    MuxMade ns l = Holds l (st .signalBits) ns (λ v. cond (getD (word (m .exprs) v c) 0 false) (wt v) (we v))
+    MuxMade ns l = NetsGive l (st .signalBits) ns (λ v. cond (getD (word (m .exprs) v c) 0 false) (wt v) (we v))
 
     -- the condition is the constant b
-    one-side : (b : Bool) → selected ob st c ≡ some b → Holds (st .netlist) (st .signalBits) (cond b ts es) (λ v. cond b (wt v) (we v))
+    one-side : (b : Bool) → selected ob st c ≡ some b → NetsGive (st .netlist) (st .signalBits) (cond b ts es) (λ v. cond b (wt v) (we v))
         → Makes (st .netlist) MuxMade (done (cond b ts es, st .netlist))
     one-side b e p =
         let k = G .known (st .netlist) (wholeNet st c 0) b (bit0-there c here h) (chosen ob c b e) in
@@ -165,7 +165,7 @@ module _ (G : Gates) (m : Module) (f : Formed (m .exprs)) (ob : Bool) (st : Stat
           holds = λ l a s d v g. p .holds l a s d v g ∙ ap (λ (t : Bool). cond t (wt v) (we v)) (sym (k .is l a s d) ∙ bit0 c here h l a s d v g);
         })
 
-    pub mux-made : (A B : Type 0) → (A → Holds (st .netlist) (st .signalBits) ts wt) → (B → Holds (st .netlist) (st .signalBits) es we) → (A → B → length ts ≡ length es)
+    pub mux-made : (A B : Type 0) → (A → NetsGive (st .netlist) (st .signalBits) ts wt) → (B → NetsGive (st .netlist) (st .signalBits) es we) → (A → B → length ts ≡ length es)
         → (isValue false (selected ob st c) ≡ true) ⊎ A → (isValue true (selected ob st c) ≡ true) ⊎ B
         → Makes (st .netlist) MuxMade (buildMux (selected ob st c) (wholeNet st c 0) ts es (st .netlist))
     mux-made A B p q n x y = go (selected ob st c) refl x y
@@ -195,7 +195,7 @@ module _ (G : Gates) (m : Module) (f : Formed (m .exprs)) (ob : Bool) (st : Stat
 
   abbrev CellMade : Binary → Option ℕ → ℕ → ℕ → Option ℕ → List ℕ → Netlist → Type 0
   CellMade op n x y c ns l =
-      Holds l (st .signalBits) ns (λ v. cellWord op (truncatedW n (word (m .exprs) v x)) (truncatedW n (word (m .exprs) v y)) (carryBit (word (m .exprs) v) c))
+      NetsGive l (st .signalBits) ns (λ v. cellWord op (truncatedW n (word (m .exprs) v x)) (truncatedW n (word (m .exprs) v y)) (carryBit (word (m .exprs) v) c))
 
   cell-made : (op : Binary) (n : Option ℕ) (x y : ℕ) (c : Option ℕ) → Has (whole st x) → Has (whole st y) → CarryHas c
       → CellWidth op (length (truncated n (wholeNets st x))) (length (truncated n (wholeNets st y))) c
@@ -214,11 +214,11 @@ module _ (G : Gates) (m : Module) (f : Formed (m .exprs)) (ob : Bool) (st : Stat
 
   module _ (e : ℕ) (here : e < length (m .exprs)) where
     abbrev MadeWord : List ℕ → Netlist → Type 0
-    MadeWord ns l = Holds l (st .signalBits) ns (λ v. word (m .exprs) v e)
+    MadeWord ns l = NetsGive l (st .signalBits) ns (λ v. word (m .exprs) v e)
 
     -- ---- filled up ----
 
-    fill : (k : ℕ) (ns : List ℕ) (l : Netlist) (w : Valuation → List Bool) → Later (st .netlist) l → Holds l (st .signalBits) ns w → length ns ≡ k
+    fill : (k : ℕ) (ns : List ℕ) (l : Netlist) (w : Valuation → List Bool) → Later (st .netlist) l → NetsGive l (st .signalBits) ns w → length ns ≡ k
         → ((v : Valuation) → word (m .exprs) v e ≡ w v ++ replicate (widthAt (m .exprs) e - k) false)
         → Makes l MadeWord (andThen (addConstant false l) (λ (z, l₁). done (ns ++ replicate (widthAt (m .exprs) e - length ns) z, l₁)))
     fill k ns l w a p n q = makes-bind (addConstant false l) _ (G .constant false l (a .sound)) (λ z l₁ b r.
@@ -281,7 +281,7 @@ module _ (G : Gates) (m : Module) (f : Formed (m .exprs)) (ob : Bool) (st : Stat
         resized-made op a b x n q p r (some c) t _
         (cell-made op n p r (some c) (h .0) (h .1 .0) (omega (arith, d .carry-below), h .1 .1 .0) (truncated-length n (wholeNets st p) (wholeNets st r) (lp ∙ wp ∙ sym wr ∙ sym lr)))
 
-    parts-made : (ps : List ℕ) → AllHas st ps → Holds (st .netlist) (st .signalBits) (partNets st ps) (λ v. joinW (map (word (m .exprs) v) ps))
+    parts-made : (ps : List ℕ) → AllHas st ps → NetsGive (st .netlist) (st .signalBits) (partNets st ps) (λ v. joinW (map (word (m .exprs) v) ps))
     parts-made [] h = holds-nil
     parts-made (p ∷ ps) h = holds-append (parts-made ps (h .1)) (read-whole m st i p (h .0))
 
@@ -312,6 +312,6 @@ module _ (G : Gates) (m : Module) (f : Formed (m .exprs)) (ob : Bool) (st : Stat
         (holds-as (read-range m st i f a lsb (widthAt (m .exprs) e) (omega (arith, low (R.Slice a lsb) x)) (wide (R.Slice a lsb) x) (h .0)) (is (R.Slice a lsb) x))
 
     -- what `lower_expression` makes stands for the expression
-    pub whole-made : AllAfter ob st (wholeSteps (m .exprs) e) → Makes (st .netlist) (λ ns l. Holds l (st .signalBits) ns (λ v. word (m .exprs) v e)) (buildWhole (m .exprs) ob st e)
+    pub whole-made : AllAfter ob st (wholeSteps (m .exprs) e) → Makes (st .netlist) (λ ns l. NetsGive l (st .signalBits) ns (λ v. word (m .exprs) v e)) (buildWhole (m .exprs) ob st e)
     unfolding wholeSteps buildWhole
     whole-made h = kind-made ((exprAt (m .exprs) e) .kind) refl h

@@ -21,7 +21,7 @@ use Rattle.law_nets.specs.Meaning.{netValue}
 use Rattle.law_nets.specs.Sound.{Cells, count, Sound, Later}
 use Rattle.law_nets.specs.Run.{cells-refl, later-refl, later-trans, later-count}
 use Rattle.law_walk.specs.Tables.{none-some, some-eq, Has, same-cell, put-shaped, put-same, put-other, filled, filled-put, has-sets, known-sets, fits-sets, below-sets}
-use Rattle.law_walk.specs.Kept.{Table, Agrees, More, more-refl, more-trans, Holds, holds-later, HoldsRow, row-later, Wide, Held, Inv, Grew}
+use Rattle.law_walk.specs.Kept.{Table, Agrees, More, more-refl, more-trans, NetsGive, holds-later, RowGives, row-later, Wide, Held, Inv, Grew}
 
 -- ---- how many nets stand for a word ----
 
@@ -32,7 +32,7 @@ tableValues g t p i = perhaps false g (cell none t p i)
 table-agrees : (g : ℕ → Bool) (t : Table) → Agrees g (tableValues g t) t
 table-agrees g t = record { at = λ p i n e. ap (perhaps false g) e }
 
-pub holds-length : {l : Netlist} {t : Table} {ns : List ℕ} {w : Valuation → List Bool} → Sound l → Holds l t ns w → (k : ℕ) → ((v : Valuation) → length (w v) ≡ k)
+pub holds-length : {l : Netlist} {t : Table} {ns : List ℕ} {w : Valuation → List Bool} → Sound l → NetsGive l t ns w → (k : ℕ) → ((v : Valuation) → length (w v) ≡ k)
     → length ns ≡ k
 holds-length {l} {t} {ns} q x k f =
     let s : Setting = λ p i. false in
@@ -88,7 +88,7 @@ module _ (m : Module) where
     unfolding setWhole
     row-other x g = getD-set-other (st .expressionRanges) e x [] [] g
 
-    pub inv-whole : Holds (st .netlist) (st .signalBits) ns (λ v. word (m .exprs) v e) → Inv m (setWhole st e ns)
+    pub inv-whole : NetsGive (st .netlist) (st .signalBits) ns (λ v. word (m .exprs) v e) → Inv m (setWhole st e ns)
     unfolding setWhole
     inv-whole h = record {
       sound = i .sound;
@@ -103,7 +103,7 @@ module _ (m : Module) where
       ranges = λ x. ranges x (ℕ-discrete x e);
     }
       where
-        wholes : (x : ℕ) (ks : List ℕ) → whole (setWhole st e ns) x ≡ some ks → Dec (x ≡ e) → Holds (st .netlist) (st .signalBits) ks (λ v. word (m .exprs) v x)
+        wholes : (x : ℕ) (ks : List ℕ) → whole (setWhole st e ns) x ≡ some ks → Dec (x ≡ e) → NetsGive (st .netlist) (st .signalBits) ks (λ v. word (m .exprs) v x)
         wholes x ks q (yes p) =
             let r : ns ≡ ks = some-eq (sym whole-same ∙ ap (whole (setWhole st e ns)) (sym p) ∙ q) in
             rw (p, ← r) h
@@ -114,7 +114,7 @@ module _ (m : Module) where
         cells x b q (yes p) = absurd (none-some (sym q ∙ ap (whole (setWhole st e ns)) p ∙ whole-same))
         cells x b q (no g) = ap length (row-other x g) ∙ i .cells x b (sym (whole-other x g) ∙ q)
 
-        ranges : (x : ℕ) → Dec (x ≡ e) → HoldsRow (st .netlist) (st .signalBits) (getD (setWhole st e ns .expressionRanges) x []) (λ v. word (m .exprs) v x)
+        ranges : (x : ℕ) → Dec (x ≡ e) → RowGives (st .netlist) (st .signalBits) (getD (setWhole st e ns .expressionRanges) x []) (λ v. word (m .exprs) v x)
         ranges x (yes p) = rw (p, row-same) (record { there = λ b n q. absurd (none-some q); holds = λ l a s c v g. record { fits = λ b n q. absurd (none-some q) } })
         ranges x (no g) = rw (row-other x g) (i .ranges x)
 
@@ -167,7 +167,7 @@ module _ (m : Module) where
     range-stays : (ks : List ℕ) → whole st e ≡ some ks → getD (setRange st e lsb ns .expressionRanges) e [] ≡ getD (st .expressionRanges) e []
     range-stays ks q = range-row ∙ rw q
 
-    pub inv-range : Holds (st .netlist) (st .signalBits) ns (λ v. sliceW lsb (length ns) (word (m .exprs) v e)) → Inv m (setRange st e lsb ns)
+    pub inv-range : NetsGive (st .netlist) (st .signalBits) ns (λ v. sliceW lsb (length ns) (word (m .exprs) v e)) → Inv m (setRange st e lsb ns)
     unfolding setRange
     inv-range h = record {
       sound = i .sound;
@@ -190,7 +190,7 @@ module _ (m : Module) where
         cells x b q (no g) = ap length (range-other x g) ∙ i .cells x b (sym (range-whole x) ∙ q)
 
         ranges : (x : ℕ) → Dec (x ≡ e) → (o : Option (List ℕ)) → whole st e ≡ o
-            → HoldsRow (st .netlist) (st .signalBits) (getD (setRange st e lsb ns .expressionRanges) x []) (λ v. word (m .exprs) v x)
+            → RowGives (st .netlist) (st .signalBits) (getD (setRange st e lsb ns .expressionRanges) x []) (λ v. word (m .exprs) v x)
         ranges x (yes p) (some ks) q = rw (p, range-stays ks q) (i .ranges e)
         ranges x (yes p) none q = rw (p, range-sets q) (record {
           there = below-sets (count (st .netlist)) ns (getD (st .expressionRanges) e []) lsb (h .there) (i .ranges e .there);

@@ -27,7 +27,7 @@ use Rattle.law_walk.specs.Kept.{Any}
 use Rattle.law_phases.specs.Outputs.{Lowered, lowered}
 use Rattle.law_call.specs.Calls.{is-good, buffer-is, passes, ended}
 use Rattle.law_owners.specs.Ends.{All}
-use Rattle.law_owners.specs.Kept.{Holds}
+use Rattle.law_owners.specs.Kept.{Throughout}
 use Rattle.law_owners.specs.Owners.{Owned, OfSignal, owners}
 use Rattle.listing_whole.specs.Length.{AllSmall, Named, PortsNamed, listing-short}
 
@@ -70,7 +70,7 @@ module _ (s : List ℕ) (ok : Accepted s) where
   unfolding words
   counts N P l f = (f .few, f .short)
 
-  image-short : (N P : ℕ) (l : Netlist) → Fit N P l → Holds (Owned (decode s)) (OfSignal (decode s)) l → AllSmall (words N P l)
+  image-short : (N P : ℕ) (l : Netlist) → Fit N P l → Throughout (Owned (decode s)) (OfSignal (decode s)) l → AllSmall (words N P l)
       → length (listing s Fine (words N P l)) ≤ 32 + (N * 140 + 81 * P)
   image-short N P l f h small =
       let v = words-view N P l f in

@@ -7,6 +7,7 @@ ghost use Rattle.spec_tests.specs.Rules.{_≡?_, _or_, listOf};
 ghost use Rattle.spec_rules.specs.Listing as listing;
 ghost use Rattle.listing_text.specs.Text.{Wrote, spaced};
 ghost use Rattle.listing_nets.specs.Pieces.{bitSuffix, secondName, firstLine};
+use image_numbers::*;
 
 // A space and the word of a kind below 6.
 fn low_kind(out: &mut [u8], at: usize, k: u32) -> usize
@@ -14,11 +15,11 @@ fn low_kind(out: &mut [u8], at: usize, k: u32) -> usize
     ensures { λ r. ⌜ Wrote (now (out .entry)) at (32 ∷ listing.kindWord k) (now (out .exit)) r ⌝ }
 {
     match k {
-        0 => listing_text::put_word(out, at, b"input"),
-        1 => listing_text::put_word(out, at, b"constant"),
-        2 => listing_text::put_word(out, at, b"and"),
-        3 => listing_text::put_word(out, at, b"or"),
-        4 => listing_text::put_word(out, at, b"xor"),
+        INPUT => listing_text::put_word(out, at, b"input"),
+        CONSTANT => listing_text::put_word(out, at, b"constant"),
+        AND => listing_text::put_word(out, at, b"and"),
+        OR => listing_text::put_word(out, at, b"or"),
+        XOR => listing_text::put_word(out, at, b"xor"),
         _ => listing_text::put_word(out, at, b"not"),
     }
 }
@@ -29,12 +30,12 @@ fn high_kind(out: &mut [u8], at: usize, k: u32) -> usize
     ensures { λ r. ⌜ Wrote (now (out .entry)) at (32 ∷ listing.kindWord k) (now (out .exit)) r ⌝ }
 {
     match k {
-        6 => listing_text::put_word(out, at, b"mux"),
-        7 => listing_text::put_word(out, at, b"registeroutput"),
-        8 => listing_text::put_word(out, at, b"output"),
-        9 => listing_text::put_word(out, at, b"memoryoutput"),
-        10 => listing_text::put_word(out, at, b"arithmeticoutput"),
-        11 => listing_text::put_word(out, at, b"comparisonoutput"),
+        MUX => listing_text::put_word(out, at, b"mux"),
+        REGISTER_OUTPUT => listing_text::put_word(out, at, b"registeroutput"),
+        OUTPUT => listing_text::put_word(out, at, b"output"),
+        MEMORY_OUTPUT => listing_text::put_word(out, at, b"memoryoutput"),
+        ARITHMETIC_OUTPUT => listing_text::put_word(out, at, b"arithmeticoutput"),
+        COMPARISON_OUTPUT => listing_text::put_word(out, at, b"comparisonoutput"),
         _ => listing_text::put_byte(out, at, 32),
     }
 }
@@ -82,31 +83,46 @@ fn second_name(out: &mut [u8], at: usize, name: &[u8], w: u32, bit: u32) -> usiz
     bit_suffix(out, q, w, bit)
 }
 
-fn signal_name(s: &[u8], out: &mut [u8], at: usize, p: u32, bit: u32) -> usize
+fn signal_name(image: &[u8], out: &mut [u8], at: usize, p: u32, bit: u32) -> usize
     requires { ⌜ at ≤ length (now out) ⌝ }
-    ensures { λ r. ⌜ Wrote (now (out .entry)) at (32 ∷ listing.signalName (now (s .entry)) p bit) (now (out .exit)) r ⌝ }
+    ensures { λ r. ⌜ Wrote (now (out .entry)) at (32 ∷ listing.signalName (now (image .entry)) p bit) (now (out .exit)) r ⌝ }
 {
-    let w = image_fields::signal_width(s, p);
-    bit_name(out, at, image_fields::name(s, 0, p), w, bit)
+    let w = image_fields::signal_width(image, p);
+    bit_name(
+        out,
+        at,
+        image_fields::name(image, image_fields::SIGNALS, p),
+        w,
+        bit,
+    )
 }
 
-fn register_name(s: &[u8], out: &mut [u8], at: usize, g: u32, bit: u32) -> usize
+fn register_name(image: &[u8], out: &mut [u8], at: usize, g: u32, bit: u32) -> usize
     requires { ⌜ at ≤ length (now out) ⌝ }
-    ensures { λ r. ⌜ Wrote (now (out .entry)) at (32 ∷ listing.registerName (now (s .entry)) g bit) (now (out .exit)) r ⌝ }
-{
-    let w = image_fields::signal_width(s, image_fields::record_field(s, 4, g, 2));
-    bit_name(out, at, image_fields::name(s, 4, g), w, bit)
-}
-
-fn memory_name(s: &[u8], out: &mut [u8], at: usize, m: u32, bit: u32) -> usize
-    requires { ⌜ at ≤ length (now out) ⌝ }
-    ensures { λ r. ⌜ Wrote (now (out .entry)) at (32 ∷ listing.memoryName (now (s .entry)) m bit) (now (out .exit)) r ⌝ }
+    ensures { λ r. ⌜ Wrote (now (out .entry)) at (32 ∷ listing.registerName (now (image .entry)) g bit) (now (out .exit)) r ⌝ }
 {
     let w = image_fields::signal_width(
-        s,
-        image_fields::record_field(s, 5, m, image_fields::FIRST_DATA),
+        image,
+        image_fields::record_field(image, image_fields::REGISTERS, g, 2),
     );
-    let name = image_fields::name(s, 5, m);
+    bit_name(
+        out,
+        at,
+        image_fields::name(image, image_fields::REGISTERS, g),
+        w,
+        bit,
+    )
+}
+
+fn memory_name(image: &[u8], out: &mut [u8], at: usize, m: u32, bit: u32) -> usize
+    requires { ⌜ at ≤ length (now out) ⌝ }
+    ensures { λ r. ⌜ Wrote (now (out .entry)) at (32 ∷ listing.memoryName (now (image .entry)) m bit) (now (out .exit)) r ⌝ }
+{
+    let w = image_fields::signal_width(
+        image,
+        image_fields::record_field(image, image_fields::MEMORIES, m, image_fields::FIRST_DATA),
+    );
+    let name = image_fields::name(image, image_fields::MEMORIES, m);
     if bit < w {
         return bit_name(out, at, name, w, bit);
     }
@@ -128,21 +144,21 @@ fn is_cell(k: u32) -> bool
 }
 
 // A node's name, value, or cell and bit, by its kind, behind spaces.
-fn owned(s: &[u8], out: &mut [u8], at: usize, k: u32, owner: u32, bit: u32) -> usize
+fn owned(image: &[u8], out: &mut [u8], at: usize, k: u32, owner: u32, bit: u32) -> usize
     requires { ⌜ at ≤ length (now out) ⌝ }
-    ensures { λ r. ⌜ Wrote (now (out .entry)) at (spaced (listing.owned (now (s .entry)) k owner bit)) (now (out .exit)) r ⌝ }
+    ensures { λ r. ⌜ Wrote (now (out .entry)) at (spaced (listing.owned (now (image .entry)) k owner bit)) (now (out .exit)) r ⌝ }
 {
     if is_port(k) {
-        return signal_name(s, out, at, owner, bit);
+        return signal_name(image, out, at, owner, bit);
     }
     if k == 1 {
         return listing_text::put_number(out, at, owner);
     }
     if k == 7 {
-        return register_name(s, out, at, owner, bit);
+        return register_name(image, out, at, owner, bit);
     }
     if k == 9 {
-        return memory_name(s, out, at, owner, bit);
+        return memory_name(image, out, at, owner, bit);
     }
     if is_cell(k) {
         let p = listing_text::put_number(out, at, owner);
@@ -150,8 +166,6 @@ fn owned(s: &[u8], out: &mut [u8], at: usize, k: u32, owner: u32, bit: u32) -> u
     }
     at
 }
-
-const ABSENT: u32 = 4294967295;
 
 // A node's inputs behind spaces, up to the first that is absent.
 fn inputs(out: &mut [u8], at: usize, x: u32, y: u32, z: u32) -> usize
@@ -173,16 +187,16 @@ fn inputs(out: &mut [u8], at: usize, x: u32, y: u32, z: u32) -> usize
 }
 
 // The line of net n.
-fn net_line(s: &[u8], net: &[u32], out: &mut [u8], at: usize, n: u32) -> usize
+fn net_line(image: &[u8], net: &[u32], out: &mut [u8], at: usize, n: u32) -> usize
     requires { ⌜ at ≤ length (now out) ⌝ }
-    ensures { λ r. ⌜ Wrote (now (out .entry)) at (listing.netLine (now (s .entry)) (now (net .entry)) n) (now (out .exit)) r ⌝ }
+    ensures { λ r. ⌜ Wrote (now (out .entry)) at (listing.netLine (now (image .entry)) (now (net .entry)) n) (now (out .exit)) r ⌝ }
 {
     let k = net_words::node_word(net, n, 0);
     let p = listing_text::decimal(out, at, n);
     let q = kind_word(out, p, k);
     let owner = net_words::node_word(net, n, 1);
     let bit = net_words::node_word(net, n, 2);
-    let r = owned(s, out, q, k, owner, bit);
+    let r = owned(image, out, q, k, owner, bit);
     let x = net_words::node_word(net, n, 3);
     let y = net_words::node_word(net, n, 4);
     let z = net_words::node_word(net, n, 5);
@@ -191,15 +205,15 @@ fn net_line(s: &[u8], net: &[u32], out: &mut [u8], at: usize, n: u32) -> usize
 }
 
 // The lines of all nets.
-pub fn net_lines(s: &[u8], net: &[u32], out: &mut [u8], at: usize) -> usize
+pub fn net_lines(image: &[u8], net: &[u32], out: &mut [u8], at: usize) -> usize
     requires { ⌜ at ≤ length (now out) ⌝ }
-    ensures { λ r. ⌜ Wrote (now (out .entry)) at (listing.together (listOf (getD (now (net .entry)) 1 0) (listing.netLine (now (s .entry)) (now (net .entry))))) (now (out .exit)) r ⌝ }
+    ensures { λ r. ⌜ Wrote (now (out .entry)) at (listing.together (listOf (getD (now (net .entry)) 1 0) (listing.netLine (now (image .entry)) (now (net .entry))))) (now (out .exit)) r ⌝ }
 {
-    let count = net_words::word_at(net, 1);
+    let count = net_words::word_at(net, NET_COUNT);
     let mut to = at;
     let mut n = 0;
     while n < count {
-        to = net_line(s, net, out, to, n);
+        to = net_line(image, net, out, to, n);
         n += 1;
     }
     to
@@ -211,8 +225,8 @@ pub fn first_line(net: &[u32], out: &mut [u8], at: usize) -> usize
     ensures { λ r. ⌜ Wrote (now (out .entry)) at (firstLine (now (net .entry))) (now (out .exit)) r ⌝ }
 {
     let p = listing_text::put(out, at, b"nets");
-    let q = listing_text::put_number(out, p, net_words::word_at(net, 1));
+    let q = listing_text::put_number(out, p, net_words::word_at(net, NET_COUNT));
     let r = listing_text::put_word(out, q, b"list");
-    let t = listing_text::put_number(out, r, net_words::word_at(net, 3));
+    let t = listing_text::put_number(out, r, net_words::word_at(net, LIST_USED));
     listing_text::put_byte(out, t, 10)
 }

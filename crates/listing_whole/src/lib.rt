@@ -6,12 +6,12 @@ ghost use Rattle.spec_rules.specs.Listing as text;
 ghost use Rattle.listing_text.specs.Text.{Wrote};
 
 // The text for an image that is accepted and the netlist words that it left; its length.
-pub fn listing(s: &[u8], net: &[u32], out: &mut [u8]) -> usize
-    ensures { λ r. ⌜ Wrote (now (out .entry)) 0 (text.listing (now (s .entry)) Fine (now (net .entry))) (now (out .exit)) r ⌝ }
+pub fn listing(image: &[u8], net: &[u32], out: &mut [u8]) -> usize
+    ensures { λ r. ⌜ Wrote (now (out .entry)) 0 (text.listing (now (image .entry)) Fine (now (net .entry))) (now (out .exit)) r ⌝ }
 {
     let p = listing_nets::first_line(net, out, 0);
-    let q = listing_nets::net_lines(s, net, out, p);
-    listing_records::record_lines(s, net, out, q)
+    let q = listing_nets::net_lines(image, net, out, p);
+    listing_records::record_lines(image, net, out, q)
 }
 
 // The text for refusal n with its two places; its length.

@@ -17,7 +17,7 @@ use Rattle.expr_ranges.specs.Table.{filled, filled-width, filled-kept, length-f
 use Rattle.net_view.specs.View.{room, netlistOf}
 use Rattle.net_view.specs.Laws.{zeros, empty, Holds}
 use Rattle.net_index.specs.Index.{Held}
-use Rattle.net_start.specs.Start.{held-start}
+use Rattle.net_index.specs.Start.{held-start}
 use Rattle.scratch_view.specs.View.{limitOf, exprColumn, exprAt, stateOf}
 use Rattle.scratch_view.specs.Frame.{Stays, Same, stays}
 use Rattle.scratch_layout.specs.Stages as layout
@@ -47,7 +47,7 @@ module _ (w m : List ℕ) (r : ℕ) (here : r ≤ length w) where
 abbrev widened : List ℕ → List ℕ → ℕ → List ℕ
 widened s w r = putMid r (length w - r) w (filled (exprsOf s) (countAt s 1) (take (length w - r) (drop r w)))
 
-module _ (s : List ℕ) (n : ℕ) (w : List ℕ) (h : layout.Ready s n false w) (r : ℕ) (at : r ≡ getD w 2 0) where
+module _ (s : List ℕ) (n : ℕ) (w : List ℕ) (h : layout.Started s n false w) (r : ℕ) (at : r ≡ getD w 2 0) where
   abbrev xs : List Expr
   xs = exprsOf s
 

@@ -22,7 +22,7 @@ fn prepare(image: &[u8], n: u32, net: &mut [u32], scr: &mut [u32])
     ensures { λ _. ⌜ Prepared (now (image .entry)) n (room n (now (net .entry))) (now (net .exit)) (now (scr .exit)) ⌝ }
 {
     scratch_layout::lay(image, n, false, scr);
-    let at = scr[2] as usize;
+    let at = scr[scratch_view::ROWS] as usize;
     expr_ranges::adder_widths(image, &mut scr[at..]);
     net_nodes::start(net, n);
 }
@@ -75,7 +75,10 @@ fn scratch_need(image: &[u8], n: u32) -> usize
     ensures { λ r. ⌜ r ≡ rule.scratchNeed (now (image .entry)) n ⌝ }
 {
     let bits = 4 * check_header::signal_bits(image) + check_header::expr_bits(image);
-    let need = bits + 8 * (image_fields::count(image, 1) as u64) + 4 * (n as u64) + 64;
+    let need = bits
+        + 8 * (image_fields::count(image, image_fields::EXPRESSIONS) as u64)
+        + 4 * (n as u64)
+        + 64;
     need as usize
 }
 

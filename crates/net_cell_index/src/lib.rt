@@ -5,6 +5,7 @@ ghost use lib.ListN.{length, getD, drop};
 ghost use Rattle.spec_model.specs.WordCells.{begins};
 ghost use Rattle.net_index.specs.Index.{keyLength, Key, firstOutput, hashKey, Held};
 ghost use Rattle.net_cell_index.specs.Found.{Finds, Links};
+use image_numbers::*;
 
 // The place of a cell's outputs.
 pub enum Found {
@@ -49,7 +50,11 @@ fn key_length(net: &[u32], at: usize) -> usize
     ensures { λ r. ⌜ r ≡ keyLength (drop at (now (net .entry))) ⌝ }
 {
     let w = net[at + 2] as usize;
-    if net[at] == 3 { 4 + 2 * w } else { 3 + 2 * w }
+    if net[at] == ARITHMETIC_RECORD {
+        4 + 2 * w
+    } else {
+        3 + 2 * w
+    }
 }
 
 // The next older cell of the bucket of the cell at a place.
@@ -67,7 +72,7 @@ pub fn find_cell(net: &[u32], idx: &[u32], n: u32, h: u32, key: &[u32]) -> Found
     requires { ⌜ (Held n (now net) (now idx)) × (Key (now key)) × (h ≡ hashKey n (now key)) × (h < n) ⌝ }
     ensures { λ r. ⌜ Finds n (now (key .entry)) (now (net .entry)) r ⌝ }
 {
-    let list = 16 + 6 * (n as usize);
+    let list = HEADER_LENGTH + NODE_LENGTH * (n as usize);
     let mut p = idx[2 * (n as usize) + h as usize];
     while 0 < p {
         let at = list + (p as usize - 1);

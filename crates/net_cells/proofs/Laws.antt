@@ -10,6 +10,7 @@ use lib.Seq.{sets, sets-eq, take-at, getD-append-add, length-take-le, length-set
 use Rattle.spec_model.specs.Words.{Node, Netlist, used, comparisonKey}
 use Rattle.spec_model.specs.Builder.{done, Made, orMade, from, addRecorded}
 use Rattle.spec_model.specs.WordCells.{begins, findCell}
+use Rattle.word_laws.specs.Runs.{from-at, length-from}
 use Rattle.net_view.specs.View.{netlistOf, Built}
 use Rattle.net_view.specs.Laws.{withRecord}
 use Rattle.net_index.specs.Index.{isGate, isCell, keyLength, keyOf, firstOutput, hashKey, Chained, Indexed, CellsIndexed, Held}
@@ -20,10 +21,10 @@ use Rattle.net_nodes.specs.declared.Added.{Added}
 use Rattle.net_nodes.specs.declared.Added.the-variants.{Net, ListFull}
 use Rattle.net_records.specs.Pushes.{Pushes}
 use Rattle.net_records.specs.declared.Pushed.the-variants as P
-use Rattle.net_ports.specs.Fills.{Runs}
-use Rattle.net_ports.proofs.Laws.{length-from, from-at, Refusal, Ran, refused-run, pushed-run}
+use Rattle.net_ports.specs.Runs.{Runs}
+use Rattle.net_ports.proofs.Laws.{Refusal, Ran, refused-run, pushed-run}
 use Rattle.net_cell_index.specs.Found.{Links}
-use Rattle.net_cells.specs.Cells.{Ready, Makes, CellKey}
+use Rattle.net_cells.specs.Cells.{CellRoom, GivesRun, CellKey}
 
 -- ---- the gates' index does not see the cells' ----
 
@@ -43,7 +44,7 @@ buffer-record buffer k first b h =
     ap (take (k + b)) (sets-eq (from first b) buffer k (rw len h))
     ∙ take-at (take k buffer ++ from first b) (drop (k + length (from first b)) buffer) (k + b) (length-append (take k buffer) (from first b) ∙ omega arith)
 
-module _ (n h kind b : ℕ) (key w idx buffer : List ℕ) (r : Ready n h kind b key w idx buffer) (first : ℕ) where
+module _ (n h kind b : ℕ) (key w idx buffer : List ℕ) (r : CellRoom n h kind b key w idx buffer) (first : ℕ) where
   starts : begins key (key ++ from first b) ≡ true
   starts = begins-self key (from first b)
 
@@ -95,19 +96,19 @@ module _ (n h kind b : ℕ) (key w idx buffer : List ℕ) (r : Ready n h kind b 
         }
 
     pub cell-made : (w₂ idx₂ : List ℕ) → Pushes (key ++ from first b) n P.Done w₁ w₂ → Links n first h (used (netlistOf n w₁ .records)) idx idx₂ → length idx₂ ≡ length idx
-        → Makes (addRecorded key made) n b (Net first) w₂ idx₂
+        → GivesRun (addRecorded key made) n b (Net first) w₂ idx₂
     cell-made w₂ idx₂ p lk len = record {
       says = ap (addRecorded key) (run .says) ∙ pushed-run key first b P.Done (netlistOf n w₁) (netlistOf n w₂) (p .says);
       held = held-cell w₂ idx₂ (p .view refl) (p .built) lk len;
     }
 
-    pub cell-full : (w₂ : List ℕ) → Pushes (key ++ from first b) n P.ListFull w₁ w₂ → Makes (addRecorded key made) n b ListFull w₂ idx
+    pub cell-full : (w₂ : List ℕ) → Pushes (key ++ from first b) n P.ListFull w₁ w₂ → GivesRun (addRecorded key made) n b ListFull w₂ idx
     cell-full w₂ p = record {
       says = ap (addRecorded key) (run .says) ∙ pushed-run key first b P.ListFull (netlistOf n w₁) (netlistOf n w₂) (p .says);
       held = subst (λ (u : List ℕ). Held n u idx) (sym (p .kept refl)) (run .held idx (r .held));
     }
 
-pub cell-refused : (n b : ℕ) (key w idx w₁ : List ℕ) (made : Made (List ℕ)) (x : Added) → Refusal x → Held n w idx → Runs made n b x w w₁ → Makes (addRecorded key made) n b x w₁ idx
+pub cell-refused : (n b : ℕ) (key w idx w₁ : List ℕ) (made : Made (List ℕ)) (x : Added) → Refusal x → Held n w idx → Runs made n b x w w₁ → GivesRun (addRecorded key made) n b x w₁ idx
 cell-refused n b key w idx w₁ made x q d g = record {
   says = ap (addRecorded key) (g .says) ∙ refused-run key x q b (netlistOf n w₁);
   held = g .held idx d;
@@ -154,7 +155,7 @@ comparison-key op lhs rhs e h =
 -- ---- shared, or made ----
 
 pub ready : (n h kind b : ℕ) (w idx buffer : List ℕ) (k : ℕ) → Held n w idx → CellKey kind b (take k buffer) → h ≡ hashKey n (take k buffer) → h < n
-    → findCell (take k buffer) (netlistOf n w .records) ≡ none → k + b ≤ length buffer → Ready n h kind b (take k buffer) w idx buffer
+    → findCell (take k buffer) (netlistOf n w .records) ≡ none → k + b ≤ length buffer → CellRoom n h kind b (take k buffer) w idx buffer
 ready n h kind b w idx buffer k d c e l f room =
     let kl : length (take k buffer) ≡ k = length-take-le k buffer (omega arith) in
     record {
@@ -171,8 +172,8 @@ ready n h kind b w idx buffer k d c e l f room =
       formed = c .formed;
     }
 
-pub made-new : (m : Made (List ℕ)) (n b : ℕ) (key w idx : List ℕ) (l : Netlist) (r : Added) → findCell key (l .records) ≡ none → Makes m n b r w idx
-    → Makes (orMade (findCell key (l .records)) l m) n b r w idx
+pub made-new : (m : Made (List ℕ)) (n b : ℕ) (key w idx : List ℕ) (l : Netlist) (r : Added) → findCell key (l .records) ≡ none → GivesRun m n b r w idx
+    → GivesRun (orMade (findCell key (l .records)) l m) n b r w idx
 made-new m n b key w idx l r e g = record { says = ap (λ (o : Option (List ℕ)). orMade o l m) e ∙ g .says; held = g .held }
 
 one-word : (w : List ℕ) (p : ℕ) → p + 1 ≤ length w → take 1 (drop p w) ≡ from (getD w p 0) 1
@@ -180,7 +181,7 @@ unfolding from
 one-word w p h = ap (take 1) (drop-cons w p 0 (omega arith))
 
 pub made-shared : (m : Made (List ℕ)) (n : ℕ) (key w idx : List ℕ) (p : ℕ) → Held n w idx → outputs key ≡ 1 → Outputs n key w p
-    → Makes (orMade (findCell key (netlistOf n w .records)) (netlistOf n w) m) n 1 (Net (getD w p 0)) w idx
+    → GivesRun (orMade (findCell key (netlistOf n w .records)) (netlistOf n w) m) n 1 (Net (getD w p 0)) w idx
 made-shared m n key w idx p d e o = record {
   says = ap (λ (x : Option (List ℕ)). orMade x (netlistOf n w) m) (o .says)
       ∙ ap (λ (t : List ℕ). done (t, netlistOf n w)) (ap (λ (j : ℕ). take j (drop p w)) e ∙ one-word w p (omega (arith, o .within)));

@@ -1,2 +1,3 @@
 -- Definitions and laws of this crate.
+pub mod Digits
 pub mod Values

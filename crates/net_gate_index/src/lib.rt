@@ -9,7 +9,7 @@ ghost use Rattle.net_index.specs.Index.{mixed, bucketOf, hashNode, Held};
 ghost use Rattle.net_index.specs.Laws.{linked};
 ghost use Rattle.net_nodes.specs.Gives.{Gives};
 ghost use Rattle.net_gate_index.specs.Found.{foundOf};
-use net_nodes::ABSENT;
+use image_numbers::*;
 use net_nodes::Added;
 
 pub enum Found {
@@ -45,20 +45,20 @@ fn is_node(net: &[u32], k: u32, kind: u32, owner: u32, a: u32, b: u32, c: u32) -
     requires { ⌜ 22 + 6 * k ≤ length (now net) ⌝ }
     ensures { λ r. ⌜ r ≡ same (node kind owner absent a b c) (nodeAt (now (net .entry)) k) ⌝ }
 {
-    let p = 16 + 6 * (k as usize);
+    let p = HEADER_LENGTH + NODE_LENGTH * (k as usize);
     if kind != net[p] {
         return false;
     }
-    if a != net[p + 3] {
+    if a != net[p + INPUT_0] {
         return false;
     }
-    if b != net[p + 4] {
+    if b != net[p + INPUT_1] {
         return false;
     }
-    if c != net[p + 5] {
+    if c != net[p + INPUT_2] {
         return false;
     }
-    owner == net[p + 1]
+    owner == net[p + OWNER]
 }
 
 // The newest node equal to the given one, whose hash is h.
@@ -114,7 +114,7 @@ pub fn add_cached(
     match find_gate(net, idx, n, h, kind, owner, a, b, c) {
         Found::At(k) => Added::Net(k),
         Found::Nothing => {
-            let count = net[1];
+            let count = net[NET_COUNT];
             if count < n {
                 link(idx, n, count, h);
                 net_nodes::push_node(net, kind, owner, ABSENT, a, b, c);

@@ -7,12 +7,13 @@ use Prim.Native.Nat.{ℕ, min, max}
 use lib.Dec.{eqb}
 use borrow.Author.Tests.{eq-eqb, ne-eqb}
 use Rattle.spec_model.specs.Words.{absent, Node, gate, Netlist}
-use Rattle.spec_model.specs.Builder.{done, Made, nodeForNet, constantValue, isValue, isConstant, addCached, addConstant, addNot, addAnd, addOr, addXor, addMux}
+use Rattle.spec_model.specs.Builder.{done, Made, nodeForNet, constantValue, isValue, isConstant, addCached, addConstant, addNot, addXor, addMux}
 use Rattle.net_view.specs.View.{netlistOf}
 use Rattle.net_index.specs.Index.{Held}
 use Rattle.net_nodes.specs.Gives.{Gives}
 use Rattle.net_nodes.specs.declared.Added.{Added}
 use Rattle.net_nodes.specs.declared.Added.the-variants.{Net}
+use Rattle.net_gates.specs.Pairs.{andOr}
 use Rattle.net_gates.specs.Turns.{muxNode}
 
 -- the model says the same of both
@@ -44,84 +45,63 @@ module _ (l : Netlist) (a : ℕ) where
   unfolding addNot
   not-gate e k = rw (e, ne-eqb _ _ k)
 
+module _ (kind : ℕ) (v : Bool) (l : Netlist) (a b : ℕ) where
+  pub pair-same : a ≡ b → andOr kind v a b l ≡ done (a, l)
+  unfolding andOr
+  pair-same e = rw (eq-eqb a b e)
+
+  module _ (d : a ≡ b → ⊥) where
+    pub pair-decided : isConstant v l a ≡ true → andOr kind v a b l ≡ addConstant v l
+    unfolding andOr
+    pair-decided x = rw (ne-eqb a b d, x)
+
+    module _ (x : isConstant v l a ≡ false) where
+      pub pair-decided₂ : isConstant v l b ≡ true → andOr kind v a b l ≡ addConstant v l
+      unfolding andOr
+      pair-decided₂ y = rw (ne-eqb a b d, x, y)
+
+      module _ (y : isConstant v l b ≡ false) where
+        pub pair-left : isConstant (not v) l a ≡ true → andOr kind v a b l ≡ done (b, l)
+        unfolding andOr
+        pair-left x₁ = rw (ne-eqb a b d, x, y, x₁)
+
+        module _ (x₁ : isConstant (not v) l a ≡ false) where
+          pub pair-left₂ : isConstant (not v) l b ≡ true → andOr kind v a b l ≡ done (a, l)
+          unfolding andOr
+          pair-left₂ y₁ = rw (ne-eqb a b d, x, y, x₁, y₁)
+
+          pub pair-gate : isConstant (not v) l b ≡ false → andOr kind v a b l ≡ addCached (gate kind (min a b) (max a b) absent) l
+          unfolding andOr
+          pair-gate y₁ = rw (ne-eqb a b d, x, y, x₁, y₁)
+
 module _ (l : Netlist) (a b : ℕ) where
-  pub and-same : a ≡ b → addAnd a b l ≡ done (a, l)
-  unfolding addAnd
-  and-same e = rw (eq-eqb a b e)
-
-  pub or-same : a ≡ b → addOr a b l ≡ done (a, l)
-  unfolding addOr
-  or-same e = rw (eq-eqb a b e)
-
   pub xor-same : a ≡ b → addXor a b l ≡ addConstant false l
   unfolding addXor
   xor-same e = rw (eq-eqb a b e)
 
   module _ (d : a ≡ b → ⊥) where
-    pub and-zero : isConstant false l a ≡ true → addAnd a b l ≡ addConstant false l
-    unfolding addAnd
-    and-zero x = rw (ne-eqb a b d, x)
-
-    pub or-one : isConstant true l a ≡ true → addOr a b l ≡ addConstant true l
-    unfolding addOr
-    or-one x = rw (ne-eqb a b d, x)
-
     pub xor-zero : isConstant false l a ≡ true → addXor a b l ≡ done (b, l)
     unfolding addXor
     xor-zero x = rw (ne-eqb a b d, x)
 
     module _ (x : isConstant false l a ≡ false) where
-      pub and-zero₂ : isConstant false l b ≡ true → addAnd a b l ≡ addConstant false l
-      unfolding addAnd
-      and-zero₂ y = rw (ne-eqb a b d, x, y)
-
       pub xor-zero₂ : isConstant false l b ≡ true → addXor a b l ≡ done (a, l)
       unfolding addXor
       xor-zero₂ y = rw (ne-eqb a b d, x, y)
 
       module _ (y : isConstant false l b ≡ false) where
-        pub and-one : isConstant true l a ≡ true → addAnd a b l ≡ done (b, l)
-        unfolding addAnd
-        and-one x₁ = rw (ne-eqb a b d, x, y, x₁)
-
         pub xor-one : isConstant true l a ≡ true → addXor a b l ≡ addNot b l
         unfolding addXor
         xor-one x₁ = rw (ne-eqb a b d, x, y, x₁)
 
         module _ (x₁ : isConstant true l a ≡ false) where
-          pub and-one₂ : isConstant true l b ≡ true → addAnd a b l ≡ done (a, l)
-          unfolding addAnd
-          and-one₂ y₁ = rw (ne-eqb a b d, x, y, x₁, y₁)
-
           pub xor-one₂ : isConstant true l b ≡ true → addXor a b l ≡ addNot a l
           unfolding addXor
           xor-one₂ y₁ = rw (ne-eqb a b d, x, y, x₁, y₁)
 
-          pub and-gate : isConstant true l b ≡ false → addAnd a b l ≡ addCached (gate 2 (min a b) (max a b) absent) l
-          unfolding addAnd
-          and-gate y₁ = rw (ne-eqb a b d, x, y, x₁, y₁)
-
           pub xor-gate : isConstant true l b ≡ false → addXor a b l ≡ addCached (gate 4 (min a b) (max a b) absent) l
           unfolding addXor
           xor-gate y₁ = rw (ne-eqb a b d, x, y, x₁, y₁)
-
-    module _ (x₁ : isConstant true l a ≡ false) where
-      pub or-one₂ : isConstant true l b ≡ true → addOr a b l ≡ addConstant true l
-      unfolding addOr
-      or-one₂ y₁ = rw (ne-eqb a b d, x₁, y₁)
-
-      module _ (y₁ : isConstant true l b ≡ false) where
-        pub or-zero : isConstant false l a ≡ true → addOr a b l ≡ done (b, l)
-        unfolding addOr
-        or-zero x = rw (ne-eqb a b d, x₁, y₁, x)
-
-        pub or-zero₂ : isConstant false l a ≡ false → isConstant false l b ≡ true → addOr a b l ≡ done (a, l)
-        unfolding addOr
-        or-zero₂ x y = rw (ne-eqb a b d, x₁, y₁, x, y)
-
-        pub or-gate : isConstant false l a ≡ false → isConstant false l b ≡ false → addOr a b l ≡ addCached (gate 3 (min a b) (max a b) absent) l
-        unfolding addOr
-        or-gate x y = rw (ne-eqb a b d, x₁, y₁, x, y)
 
 module _ (l : Netlist) (c t e : ℕ) where
   pub mux-same : t ≡ e → addMux c t e l ≡ done (t, l)

@@ -1,3 +1,4 @@
 -- Definitions and laws of this crate.
+pub mod Pairs
 pub mod Nots
 pub mod Turns

@@ -1,6 +1,6 @@
 -- The search for a cell by its key, along a bucket's chain, and where the cells stand in the words. Assumes nothing.
 use mathlib.Core.Path.{_≡_, refl, sym, ap, ap₂, subst, _∙_}
-use mathlib.Core.Bool.{Bool, true, false, cond, _||_}
+use mathlib.Core.Bool.{Bool, true, false, cond}
 use mathlib.Core.List.{List, [], _∷_, _++_, append-assoc, append-nil, reverse, reverse-append, reverse-reverse, reverse-cons}
 use mathlib.Core.Option.{none, some}
 use Prim.Native.Nat.{ℕ, suc, _+_, _*_, _-_, _≤_, _<_}
@@ -115,7 +115,7 @@ list-append [] ys = refl
 list-append (x ∷ xs) ys = ap (λ (t : List ℕ). x ++ t) (list-append xs ys) ∙ sym (append-assoc x (listWords xs) (listWords ys))
 
 -- the words from a place on are a record and more
-pub record Stands (w : List ℕ) (at : ℕ) (r : List ℕ) : Type 0 where
+pub record RecordStands (w : List ℕ) (at : ℕ) (r : List ℕ) : Type 0 where
   pub more : List ℕ
   pub within : at + length r ≤ length w
   pub words : drop at w ≡ r ++ more
@@ -127,7 +127,7 @@ list-parts rs front rest r e =
     ∙ list-append (reverse rest) (r ∷ reverse front)
 
 pub cell-stands : (n : ℕ) (w : List ℕ) → Built n w → (front rest : List (List ℕ)) (r : List ℕ) → reverse (netlistOf n w .records) ≡ front ++ (r ∷ rest)
-    → Stands w (16 + 6 * n + used rest) r
+    → RecordStands w (16 + 6 * n + used rest) r
 cell-stands n w b front rest r e =
     let l = netlistOf n w in
     let p = room n w in
@@ -152,7 +152,7 @@ take-begins : (k r : List ℕ) → take (length k) r ≡ k → begins k r ≡ tr
 take-begins k r e =
     ap (begins k) (sym (take-append-drop (length k) r) ∙ ap (λ (z : List ℕ). z ++ drop (length k) r) e) ∙ begins-self k (drop (length k) r)
 
--- a cell's key and first output do not hang on what follows it
+-- a cell's key and first output do not depend on what follows it
 module _ (r t : List ℕ) (e : isCell r ≡ true) (h : keyLength r < length r) where
   three : 3 ≤ keyLength r
   unfolding keyLength
@@ -171,10 +171,6 @@ module _ (r t : List ℕ) (e : isCell r ≡ true) (h : keyLength r < length r) w
   pub append-firstOutput : firstOutput (r ++ t) ≡ firstOutput r
   unfolding firstOutput
   append-firstOutput = ap (λ (j : ℕ). getD (r ++ t) j 0) append-keyLength ∙ List·getD-append r t 0 (keyLength r) h
-
-  append-isCell : isCell (r ++ t) ≡ isCell r
-  unfolding isCell
-  append-isCell = ap (λ (x : ℕ). eqb x 3 || eqb x 4) (List·getD-append r t absent 0 (omega (arith, three)))
 
   pub append-begins : (key : List ℕ) → Key key → begins key (r ++ t) ≡ begins key r
   append-begins key w = go (begins key (r ++ t)) refl (begins key r) refl
@@ -261,11 +257,11 @@ pub record Here (n : ℕ) (w : List ℕ) (at : ℕ) : Type 0 where
 
 module _ (n h : ℕ) (key w idx : List ℕ) (p : ℕ) (d : Held n w idx) (k : Key key) (e : h ≡ hashKey n key)
     (c : CellAt n h key (reverse (netlistOf n w .records)) p) (pos : 0 < p) where
-  stands : Stands w (16 + 6 * n + (p - 1)) (c .spot pos .cell)
+  stands : RecordStands w (16 + 6 * n + (p - 1)) (c .spot pos .cell)
   stands =
       let s = c .spot pos in
       let q : 16 + 6 * n + used (s .rest) ≡ 16 + 6 * n + (p - 1) = omega (arith, s .place) in
-      subst (λ (j : ℕ). Stands w j (s .cell)) q (cell-stands n w (d .built) (s .front) (s .rest) (s .cell) (s .parts))
+      subst (λ (j : ℕ). RecordStands w j (s .cell)) q (cell-stands n w (d .built) (s .front) (s .rest) (s .cell) (s .parts))
 
   link : Linked n (length (netlistOf n w .nodes)) (c .spot pos .cell) (c .spot pos .rest) (drop (2 * n) idx)
   link = spot-linked n (length (netlistOf n w .nodes)) h key (netlistOf n w .records) (drop (2 * n) idx) p k e (d .cells) (c .spot pos)

@@ -1,4 +1,5 @@
 -- Definitions and laws of this crate.
+pub mod Start
 pub mod Index
 pub mod Laws
 pub mod Held

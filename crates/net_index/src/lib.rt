@@ -1,1 +1,1 @@
-// The hash index over gates and cells: definitions and laws in specs/, no code.
+// The hash index over gates and cells, and the builder's invariant (`Held`): definitions and laws in specs/, no code.

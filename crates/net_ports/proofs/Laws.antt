@@ -15,6 +15,7 @@ use denote.Enum.Declared.{tagOf}
 use Rattle.net_nodes.proofs.Added.{the-type}
 use Rattle.spec_model.specs.Words.{absent, Node, node, Netlist}
 use Rattle.spec_model.specs.Builder.{refused, done, andThen, Made, addNode, also, each, both, from, addNodes, addRecorded, addOutputPort, push}
+use Rattle.word_laws.specs.Runs.{from-snoc, length-from}
 use Rattle.net_view.specs.View.{netlistOf, Built}
 use Rattle.net_view.specs.Laws.{count-is, withNode}
 use Rattle.net_index.specs.Index.{isCell, Held}
@@ -24,25 +25,7 @@ use Rattle.net_records.specs.declared.Pushed.the-variants as P
 use Rattle.net_nodes.specs.Gives.{outOf, Adds}
 use Rattle.net_nodes.specs.declared.Added.{Added}
 use Rattle.net_nodes.specs.declared.Added.the-variants.{Net, TooManyNets, ListFull}
-use Rattle.net_ports.specs.Fills.{runOf, Runs, outputNode}
-
-pub length-from : (b w : ℕ) → length (from b w) ≡ w
-unfolding from
-length-from b zero = refl
-length-from b (suc w) = ap suc (length-from (suc b) w)
-
-pub from-at : (b w i d : ℕ) → i < w → getD (from b w) i d ≡ b + i
-unfolding from
-from-at b zero i d h = absurd (omega arith)
-from-at b (suc w) zero d h = omega arith
-from-at b (suc w) (suc i) d h = from-at (suc b) w i d (omega arith) ∙ omega arith
-
-from-snoc : (b w : ℕ) → from b (suc w) ≡ from b w ++ ((b + w) ∷ [])
-unfolding from
-from-snoc b zero = let e : b ≡ b + 0 = omega arith in ap (λ (k : ℕ). k ∷ []) e
-from-snoc b (suc w) =
-    let e : suc b + w ≡ b + suc w = omega arith in
-    ap (λ (t : List ℕ). b ∷ t) (from-snoc (suc b) w ∙ ap (λ (k : ℕ). from (suc b) w ++ (k ∷ [])) e)
+use Rattle.net_ports.specs.Runs.{runOf, Runs, outputNode}
 
 -- ---- a run of nodes, one by one ----
 

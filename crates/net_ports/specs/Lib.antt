@@ -1,2 +1,2 @@
 -- Definitions and laws of this crate.
-pub mod Fills
+pub mod Runs

@@ -2,16 +2,16 @@
 ghost use mathlib.Core.Path.{_≡_};
 ghost use mathlib.Core.Bool.{false};
 ghost use mathlib.Core.List.{_∷_};
-ghost use Prim.Native.Nat.{_+_, _≤_, _<_};
-ghost use lib.ListN.{length, getD};
+ghost use Prim.Native.Nat.{_+_, _≤_};
+ghost use lib.ListN.{length};
 ghost use lib.Seq.{sets};
 ghost use Rattle.spec_model.specs.Words.{source};
 ghost use Rattle.spec_model.specs.Builder.{from, addNodes, addInputPort, addOutputPort};
 ghost use Rattle.net_view.specs.View.{netlistOf, Built};
 ghost use Rattle.net_index.specs.Index.{isGate};
 ghost use Rattle.net_records.specs.Pushes.{Pushes};
-ghost use Rattle.net_ports.specs.Fills.{Runs, outputNode};
-use net_nodes::ABSENT;
+ghost use Rattle.net_ports.specs.Runs.{Runs, outputNode};
+use image_numbers::*;
 use net_nodes::Added;
 use net_records::Pushed;
 
@@ -20,7 +20,7 @@ pub fn add_nodes(net: &mut [u32], n: u32, kind: u32, owner: u32, b: u32, w: u32)
     requires { ⌜ (Built n (now net)) × (isGate (source kind owner 0) ≡ false) × (b + w ≤ 65535) ⌝ }
     ensures { λ r. ⌜ Runs (addNodes (source kind owner) b w (netlistOf n (now (net .entry)))) n w r (now (net .entry)) (now (net .exit)) ⌝ }
 {
-    let first = net[1];
+    let first = net[NET_COUNT];
     let mut i = 0;
     while i < w {
         let x = net_nodes::add_node(net, n, kind, owner, b + i, ABSENT);
@@ -44,7 +44,7 @@ pub fn put_run(out: &mut [u32], at: usize, first: u32, w: u32)
     }
 }
 
-// A port's record.
+// A port's record; its first word, PORT_RECORD, is 0.
 fn push_port(net: &mut [u32], n: u32, s: u32, first: u32, w: u32) -> Pushed
     requires { ⌜ (Built n (now net)) × (w ≤ 1024) × (first + w ≤ 131070) ⌝ }
     ensures { λ a. ⌜ Pushes (0 ∷ s ∷ w ∷ from first w) n a (now (net .entry)) (now (net .exit)) ⌝ }
@@ -62,7 +62,7 @@ pub fn add_input_port(net: &mut [u32], n: u32, s: u32, w: u32) -> Added
     requires { ⌜ (Built n (now net)) × (w ≤ 1024) ⌝ }
     ensures { λ r. ⌜ Runs (addInputPort s w (netlistOf n (now (net .entry)))) n w r (now (net .entry)) (now (net .exit)) ⌝ }
 {
-    let x = add_nodes(net, n, 0, s, 0, w);
+    let x = add_nodes(net, n, INPUT, s, 0, w);
     let Added::Net(first) = x else {
         return x;
     };
@@ -77,10 +77,10 @@ fn add_outputs(net: &mut [u32], n: u32, s: u32, xs: &[u32]) -> Added
     requires { ⌜ (Built n (now net)) × (length (now xs) ≤ 1024) ⌝ }
     ensures { λ r. ⌜ Runs (addNodes (outputNode s (now (xs .entry))) 0 (length (now (xs .entry))) (netlistOf n (now (net .entry)))) n (length (now (xs .entry))) r (now (net .entry)) (now (net .exit)) ⌝ }
 {
-    let first = net[1];
+    let first = net[NET_COUNT];
     let mut i: u32 = 0;
     while (i as usize) < xs.len() {
-        let x = net_nodes::add_node(net, n, 8, s, i, xs[i as usize]);
+        let x = net_nodes::add_node(net, n, OUTPUT, s, i, xs[i as usize]);
         let Added::Net(_) = x else {
             return x;
         };

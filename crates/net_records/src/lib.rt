@@ -1,10 +1,11 @@
-// List records of a netlist image: word 3 counts the list words used, words 5 to 9 the records of each kind; the list stands behind n nodes.
+// List records of a netlist image: the list stands behind n nodes; the header counts its words and the records of each kind.
 ghost use mathlib.Core.Path.{_≡_};
 ghost use Prim.Native.Nat.{_+_, _≤_};
 ghost use lib.ListN.{length};
 ghost use lib.Seq.{sets};
 ghost use Rattle.net_view.specs.View.{Formed, Built};
 ghost use Rattle.net_records.specs.Pushes.{Pushes};
+use image_numbers::*;
 
 // What pushing gives: refusal 10 if the record would pass the list's limit.
 pub enum Pushed {
@@ -29,14 +30,14 @@ pub fn push_record(net: &mut [u32], n: u32, r: &[u32]) -> Pushed
     requires { ⌜ (Built n (now net)) × (Formed (now r)) ⌝ }
     ensures { λ a. ⌜ Pushes (now (r .entry)) n a (now (net .entry)) (now (net .exit)) ⌝ }
 {
-    let at = 16 + 6 * (n as usize);
-    let used = net[3] as usize;
+    let at = HEADER_LENGTH + NODE_LENGTH * (n as usize);
+    let used = net[LIST_USED] as usize;
     if used + r.len() <= net.len() - at {
         let kind = r[0] as usize;
-        let count = net[5 + kind];
+        let count = net[RECORD_COUNTS + kind];
         put_words(net, at + used, r);
-        net[3] = (used + r.len()) as u32;
-        net[5 + kind] = count + 1;
+        net[LIST_USED] = (used + r.len()) as u32;
+        net[RECORD_COUNTS + kind] = count + 1;
         Pushed::Done
     } else {
         Pushed::ListFull

@@ -17,6 +17,10 @@ unfoldable pub nodesOf : List ℕ → ℕ → List Node
 nodesOf w zero = []
 nodesOf w (suc k) = nodeAt w k ∷ nodesOf w k
 
+-- the words have room for the nodes that they count
+abbrev pub NodesWithin : List ℕ → Type 0
+NodesWithin w = 16 + 6 * getD w 1 0 ≤ length w
+
 -- the list limit of words lent for n nets
 abbrev pub room : ℕ → List ℕ → ℕ
 room n w = length w - (16 + 6 * n)

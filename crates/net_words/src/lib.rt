@@ -4,6 +4,7 @@ ghost use Prim.Native.Nat.{_≤_};
 ghost use lib.ListN.{take, drop, getD};
 ghost use Rattle.spec_rules.specs.NetlistImage as image;
 ghost use Rattle.net_words.specs.Lengths.{secondLength, memoryLength};
+use image_numbers::*;
 
 // Word i, 0 past the end.
 pub fn word_at(net: &[u32], i: usize) -> u32
@@ -44,7 +45,7 @@ pub fn node_word(net: &[u32], n: u32, f: u32) -> u32
 {
     word_at(
         net,
-        word_at(net, 2) as usize + 6 * (n as usize) + (f as usize),
+        word_at(net, NODES_AT) as usize + NODE_LENGTH * (n as usize) + (f as usize),
     )
 }
 
@@ -84,11 +85,11 @@ pub fn record_length(l: &[u32]) -> usize
 {
     let w = word_at(l, 2) as usize;
     match word_at(l, 0) {
-        0 => 3 + w,
-        1 => 13,
-        2 => memory_length(l),
-        3 => 4 + 3 * w,
-        4 => 4 + 2 * w,
+        PORT_RECORD => 3 + w,
+        REGISTER_RECORD => 13,
+        MEMORY_RECORD => memory_length(l),
+        ARITHMETIC_RECORD => 4 + 3 * w,
+        COMPARISON_RECORD => 4 + 2 * w,
         _ => l.len(),
     }
 }

@@ -1,7 +1,7 @@
 -- A list of nets that is made one by one, in place. Assumes nothing.
 use mathlib.Core.Path.{_≡_, refl, sym, ap, _∙_}
 use mathlib.Core.Logic.{⊎-elim}
-use mathlib.Core.List.{List, [], _∷_, _++_, append-assoc, append-nil}
+use mathlib.Core.List.{List, [], _∷_, append-nil}
 use Prim.Native.Nat.{ℕ, zero, suc, _+_, _-_, _≤_, _<_}
 use native.Mathlib.Omega.{arith}
 use borrow.Author.Tests.{eqb-false}
@@ -10,13 +10,13 @@ use types.Run.{OneOf}
 use lib.ListN.{length, getD, set, take, length-set}
 use lib.Seq.{take-suc-set, take-length, getD-set-other}
 use Rattle.spec_model.specs.Words.{Netlist}
-use Rattle.spec_model.specs.Builder.{refused, done, andThen, Made, also, each, both}
+use Rattle.spec_model.specs.Builder.{done, andThen, Made, also, each, both}
 use Rattle.net_view.specs.View.{netlistOf}
 use Rattle.net_index.specs.Index.{Held}
 use Rattle.net_nodes.specs.Gives.{outOf, Gives}
 use Rattle.net_nodes.specs.declared.Added.{Added}
 use Rattle.net_nodes.specs.declared.Added.the-variants.{Net, TooManyNets, ListFull}
-use Rattle.net_ports.proofs.Laws.{ahead, Refusal}
+use Rattle.net_ports.proofs.Laws.{ahead, ahead-none, ahead-also, Refusal}
 use Rattle.net_fold.specs.Values.{refusalOf, filledOf, Fills}
 use Rattle.net_fold.specs.declared.Filled.{Filled}
 use Rattle.net_fold.proofs.Filled.{the-type}
@@ -46,14 +46,6 @@ both-nets f (x ∷ xs) [] l e = absurd (omega arith)
 both-nets f (x ∷ xs) (y ∷ ys) l e =
     let h : length xs ≡ length ys = omega arith in
     λ j. andThen (f x y l) (λ p. also (p .0) ((both-nets f xs ys (p .1) h ∙ sym (nets-shift (λ i. f (getD (x ∷ xs) i 0) (getD (y ∷ ys) i 0)) 0 (length xs) (p .1))) j))
-
-ahead-none : (m : Made (List ℕ)) → ahead [] m ≡ m
-ahead-none (refused k x y) = refl
-ahead-none (done (ms, l)) = refl
-
-ahead-also : (ns : List ℕ) (k : ℕ) (m : Made (List ℕ)) → ahead ns (also k m) ≡ ahead (ns ++ (k ∷ [])) m
-ahead-also ns k (refused j x y) = refl
-ahead-also ns k (done (ms, l)) = ap (λ (t : List ℕ). done (t, l)) (sym (append-assoc ns (k ∷ []) ms))
 
 out : (ns : List ℕ) (r : Added) → Refusal r → (ms : List ℕ) (l : Netlist) (k : ℕ × Netlist → Made (List ℕ)) → ahead ns (andThen (outOf r l) k) ≡ filledOf (refusalOf r) ms l
 out ns (Net j) q ms l k = absurd q

@@ -47,14 +47,14 @@ classWidth (CompareBack op) w = 1
 classWidth (Shift h) w = w
 
 -- operands of w and v nets fit: equal widths, but for the amount of a shift
-abbrev pub Fit : Class → ℕ → ℕ → Type 0
-Fit (Bitwise g) w v = w ≡ v
-Fit (Arithmetic op) w v = w ≡ v
-Fit Equal w v = w ≡ v
-Fit NotEqual w v = w ≡ v
-Fit (Compare op) w v = w ≡ v
-Fit (CompareBack op) w v = w ≡ v
-Fit (Shift h) w v = Unit {0}
+abbrev pub OperandsFit : Class → ℕ → ℕ → Type 0
+OperandsFit (Bitwise g) w v = w ≡ v
+OperandsFit (Arithmetic op) w v = w ≡ v
+OperandsFit Equal w v = w ≡ v
+OperandsFit NotEqual w v = w ≡ v
+OperandsFit (Compare op) w v = w ≡ v
+OperandsFit (CompareBack op) w v = w ≡ v
+OperandsFit (Shift h) w v = Unit {0}
 
 unfoldable pub lowerClass : Class → List ℕ → List ℕ → Netlist → Made (List ℕ)
 lowerClass (Bitwise g) xs ys l = both (addGate (gateOf g)) xs ys l

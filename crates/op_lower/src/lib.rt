@@ -12,15 +12,16 @@ ghost use Rattle.net_gates.specs.Nots.{PlainNots};
 ghost use Rattle.net_fold.specs.Values.{opOf, Fills};
 ghost use Rattle.net_cells.specs.Cells.{compareOf};
 ghost use Rattle.op_makers.specs.Class.{classOf};
-ghost use Rattle.op_lower.specs.Operators.{unaryWidth, classWidth, Fit, lowerClass, logicNot, notEqual};
+ghost use Rattle.op_lower.specs.Operators.{unaryWidth, classWidth, OperandsFit, lowerClass, logicNot, notEqual};
+use image_numbers::ABSENT;
 use image_records::BinaryOp;
 use image_records::UnaryOp;
 use net_cells::ComparisonOp;
 use net_fold::ArithmeticOp;
 use net_fold::Filled;
-use net_nodes::ABSENT;
 use net_nodes::Added;
 use op_bits::Gate;
+use op_bits::Pair;
 use op_makers::Class;
 
 fn logic_not(net: &mut [u32], idx: &mut [u32], n: u32, xs: &mut [u32]) -> Filled
@@ -108,7 +109,7 @@ fn lower_arithmetic(
     requires { ⌜ (Held n (now net) (now idx)) × (0 < length (now xs)) × (length (now xs) ≡ length (now ys)) × (length (now xs) ≤ 1024) ⌝ }
     ensures { λ r. ⌜ Fills (W.arithmetic (opOf op) (now (xs .entry)) (now (ys .entry)) none (netlistOf n (now (net .entry)))) n r (now (xs .exit)) (now (net .exit)) (now (idx .exit)) ⌝ }
 {
-    net_word_cells::arithmetic(net, idx, n, op, ABSENT, xs, ys)
+    net_cells::arithmetic(net, idx, n, op, ABSENT, xs, ys)
 }
 
 fn lower_class(
@@ -119,11 +120,11 @@ fn lower_class(
     xs: &mut [u32],
     ys: &[u32],
 ) -> Filled
-    requires { ⌜ (Held n (now net) (now idx)) × (0 < length (now xs)) × (length (now xs) ≤ 1024) × (Fit class (length (now xs)) (length (now ys))) × (PlainNots (netlistOf n (now net))) ⌝ }
+    requires { ⌜ (Held n (now net) (now idx)) × (0 < length (now xs)) × (length (now xs) ≤ 1024) × (OperandsFit class (length (now xs)) (length (now ys))) × (PlainNots (netlistOf n (now net))) ⌝ }
     ensures { λ r. ⌜ Fills (lowerClass class (now (xs .entry)) (now (ys .entry)) (netlistOf n (now (net .entry)))) n r (take (classWidth class (length (now (xs .entry)))) (now (xs .exit))) (now (net .exit)) (now (idx .exit)) ⌝ }
 {
     match class {
-        Class::Bitwise(g) => op_bits::bitwise(net, idx, n, g, xs, ys),
+        Class::Bitwise(g) => op_bits::pairwise(net, idx, n, Pair::Gate(g), xs, ys),
         Class::Arithmetic(op) => lower_arithmetic(net, idx, n, op, xs, ys),
         Class::Equal => op_trees::equal_words(net, idx, n, xs, ys),
         Class::NotEqual => not_equal_words(net, idx, n, xs, ys),
@@ -141,7 +142,7 @@ pub fn lower_binary(
     xs: &mut [u32],
     ys: &[u32],
 ) -> Filled
-    requires { ⌜ (Held n (now net) (now idx)) × (0 < length (now xs)) × (length (now xs) ≤ 1024) × (Fit (classOf op) (length (now xs)) (length (now ys))) × (PlainNots (netlistOf n (now net))) ⌝ }
+    requires { ⌜ (Held n (now net) (now idx)) × (0 < length (now xs)) × (length (now xs) ≤ 1024) × (OperandsFit (classOf op) (length (now xs)) (length (now ys))) × (PlainNots (netlistOf n (now net))) ⌝ }
     ensures { λ r. ⌜ Fills (lowerBinary (binaryMeans op) (now (xs .entry)) (now (ys .entry)) (netlistOf n (now (net .entry)))) n r (take (classWidth (classOf op) (length (now (xs .entry)))) (now (xs .exit))) (now (net .exit)) (now (idx .exit)) ⌝ }
 {
     lower_class(net, idx, n, op_makers::class_of(op), xs, ys)

@@ -12,13 +12,14 @@ use lib.Seq.{sets, sets-eq, take-at, drop-cons}
 use Rattle.spec_model.specs.Words.{Netlist}
 use Rattle.spec_model.specs.Builder.{andThen, Made, both, from, addConstant, addMux}
 use Rattle.spec_model.specs.Lowering.{Shift, LeftS, RightS, ArithmeticS, shifted, stages, shift}
+use Rattle.word_laws.specs.Runs.{length-from}
 use Rattle.net_view.specs.View.{netlistOf}
 use Rattle.net_index.specs.Index.{Held}
 use Rattle.net_nodes.specs.Gives.{Gives}
 use Rattle.net_nodes.specs.declared.Added.{Added}
 use Rattle.net_nodes.specs.declared.Added.the-variants as A
 use Rattle.net_gates.specs.Nots.{PlainNots, keeps-mux, keeps-both, kept}
-use Rattle.net_ports.proofs.Laws.{Refusal, length-from}
+use Rattle.net_ports.proofs.Laws.{Refusal}
 use Rattle.net_fold.specs.Values.{refusalOf, Fills}
 use Rattle.net_fold.specs.declared.Filled.{Filled}
 use Rattle.net_fold.specs.declared.Filled.the-variants.{Done}

@@ -18,50 +18,54 @@ pub enum ShiftKind {
     Arithmetic,
 }
 
-// Bit i of a word moved down by d places.
-fn moved_down(fill: u32, d: usize, old: &[u32], i: usize) -> u32
-    requires { ⌜ (i < length (now old)) × (d ≤ length (now old)) × (length (now old) ≤ 1024) ⌝ }
-    ensures { λ r. ⌜ r ≡ getD (now (old .entry)) (i + d) fill ⌝ }
+// Bit i of a word moved down by `distance` places.
+fn moved_down(fill: u32, distance: usize, original: &[u32], i: usize) -> u32
+    requires { ⌜ (i < length (now original)) × (distance ≤ length (now original)) × (length (now original) ≤ 1024) ⌝ }
+    ensures { λ r. ⌜ r ≡ getD (now (original .entry)) (i + distance) fill ⌝ }
 {
-    if i + d < old.len() { old[i + d] } else { fill }
-}
-
-// Bit i of a word moved by d places; z is the false constant, an arithmetic shift fills with the top bit.
-fn moved_bit(kind: ShiftKind, z: u32, d: usize, old: &[u32], i: usize) -> u32
-    requires { ⌜ (i < length (now old)) × (d ≤ length (now old)) × (length (now old) ≤ 1024) ⌝ }
-    ensures { λ r. ⌜ r ≡ getD (shifted (shiftOf kind) z d (now (old .entry))) i 0 ⌝ }
-{
-    match kind {
-        ShiftKind::Left => {
-            if i < d {
-                return z;
-            }
-            old[i - d]
-        }
-        ShiftKind::Right => moved_down(z, d, old, i),
-        ShiftKind::Arithmetic => moved_down(old[old.len() - 1], d, old, i),
+    if i + distance < original.len() {
+        original[i + distance]
+    } else {
+        fill
     }
 }
 
-// The muxes of a stage: where s holds, the old word moved by d places.
+// Bit i of a word moved by `distance` places; z is the false constant, an arithmetic shift fills with the top bit.
+fn moved_bit(kind: ShiftKind, z: u32, distance: usize, original: &[u32], i: usize) -> u32
+    requires { ⌜ (i < length (now original)) × (distance ≤ length (now original)) × (length (now original) ≤ 1024) ⌝ }
+    ensures { λ r. ⌜ r ≡ getD (shifted (shiftOf kind) z distance (now (original .entry))) i 0 ⌝ }
+{
+    match kind {
+        ShiftKind::Left => {
+            if i < distance {
+                return z;
+            }
+            original[i - distance]
+        }
+        ShiftKind::Right => moved_down(z, distance, original, i),
+        ShiftKind::Arithmetic => moved_down(original[original.len() - 1], distance, original, i),
+    }
+}
+
+// The muxes of a stage: where `select` holds, the original word moved by `distance` places.
 fn mux_moved(
     net: &mut [u32],
     idx: &mut [u32],
     n: u32,
     kind: ShiftKind,
     z: u32,
-    d: usize,
-    s: u32,
+    distance: usize,
+    select: u32,
     xs: &mut [u32],
-    old: &[u32],
+    original: &[u32],
 ) -> Filled
-    requires { ⌜ (Held n (now net) (now idx)) × (length (now xs) ≡ length (now old)) × (d ≤ length (now old)) × (length (now old) ≤ 1024) × (PlainNots (netlistOf n (now net))) ⌝ }
-    ensures { λ r. ⌜ Fills (both (addMux s) (shifted (shiftOf kind) z d (now (old .entry))) (now (old .entry)) (netlistOf n (now (net .entry)))) n r (now (xs .exit)) (now (net .exit)) (now (idx .exit)) ⌝ }
+    requires { ⌜ (Held n (now net) (now idx)) × (length (now xs) ≡ length (now original)) × (distance ≤ length (now original)) × (length (now original) ≤ 1024) × (PlainNots (netlistOf n (now net))) ⌝ }
+    ensures { λ r. ⌜ Fills (both (addMux select) (shifted (shiftOf kind) z distance (now (original .entry))) (now (original .entry)) (netlistOf n (now (net .entry)))) n r (now (xs .exit)) (now (net .exit)) (now (idx .exit)) ⌝ }
 {
     let mut i = 0;
     while i < xs.len() {
-        let t = moved_bit(kind, z, d, old, i);
-        let x = net_gates::add_mux(net, idx, n, s, t, old[i]);
+        let shifted = moved_bit(kind, z, distance, original, i);
+        let x = net_gates::add_mux(net, idx, n, select, shifted, original[i]);
         let Added::Net(k) = x else {
             return net_fold::refusal(x);
         };
@@ -77,25 +81,29 @@ fn shift_stage(
     n: u32,
     kind: ShiftKind,
     z: u32,
-    d: usize,
-    s: u32,
+    distance: usize,
+    select: u32,
     xs: &mut [u32],
 ) -> Filled
-    requires { ⌜ (Held n (now net) (now idx)) × (d ≤ length (now xs)) × (length (now xs) ≤ 1024) × (PlainNots (netlistOf n (now net))) ⌝ }
-    ensures { λ r. ⌜ Fills (both (addMux s) (shifted (shiftOf kind) z d (now (xs .entry))) (now (xs .entry)) (netlistOf n (now (net .entry)))) n r (now (xs .exit)) (now (net .exit)) (now (idx .exit)) ⌝ }
+    requires { ⌜ (Held n (now net) (now idx)) × (distance ≤ length (now xs)) × (length (now xs) ≤ 1024) × (PlainNots (netlistOf n (now net))) ⌝ }
+    ensures { λ r. ⌜ Fills (both (addMux select) (shifted (shiftOf kind) z distance (now (xs .entry))) (now (xs .entry)) (netlistOf n (now (net .entry)))) n r (now (xs .exit)) (now (net .exit)) (now (idx .exit)) ⌝ }
 {
-    let mut old = [0u32; 1024];
+    let mut original = [0u32; 1024];
     let w = xs.len();
-    net_records::put_words(&mut old, 0, xs);
-    mux_moved(net, idx, n, kind, z, d, s, xs, &old[..w])
+    net_records::put_words(&mut original, 0, xs);
+    mux_moved(net, idx, n, kind, z, distance, select, xs, &original[..w])
 }
 
 // Twice the distance, at most the width.
-fn shift_distance(d: usize, w: usize) -> usize
-    requires { ⌜ (d ≤ w) × (w ≤ 1024) ⌝ }
-    ensures { λ r. ⌜ r ≡ min (2 * d) w ⌝ }
+fn shift_distance(distance: usize, width: usize) -> usize
+    requires { ⌜ (distance ≤ width) × (width ≤ 1024) ⌝ }
+    ensures { λ r. ⌜ r ≡ min (2 * distance) width ⌝ }
 {
-    if 2 * d < w { 2 * d } else { w }
+    if 2 * distance < width {
+        2 * distance
+    } else {
+        width
+    }
 }
 
 fn shift_stages(
@@ -111,14 +119,14 @@ fn shift_stages(
     ensures { λ r. ⌜ Fills (stages (shiftOf kind) z 0 (now (amount .entry)) (now (xs .entry)) (netlistOf n (now (net .entry)))) n r (now (xs .exit)) (now (net .exit)) (now (idx .exit)) ⌝ }
 {
     let w = xs.len();
-    let mut d: usize = 1;
+    let mut distance: usize = 1;
     let mut k = 0;
     while k < amount.len() {
-        let r = shift_stage(net, idx, n, kind, z, d, amount[k], xs);
+        let r = shift_stage(net, idx, n, kind, z, distance, amount[k], xs);
         let Filled::Done = r else {
             return r;
         };
-        d = shift_distance(d, w);
+        distance = shift_distance(distance, w);
         k += 1;
     }
     Filled::Done

@@ -12,6 +12,7 @@ ghost use Rattle.op_bits.specs.Kinds.{gateOf};
 use net_fold::Filled;
 use net_nodes::Added;
 use op_bits::Gate;
+use op_bits::Pair;
 
 // A level over the first len nets. Pair i gives net i; the odd net follows, if there is one (if not, it is past the new end).
 fn level(net: &mut [u32], idx: &mut [u32], n: u32, g: Gate, xs: &mut [u32], len: usize) -> Filled
@@ -64,7 +65,7 @@ pub fn equal_words(net: &mut [u32], idx: &mut [u32], n: u32, xs: &mut [u32], ys:
     requires { ⌜ (Held n (now net) (now idx)) × (0 < length (now xs)) × (length (now xs) ≡ length (now ys)) ⌝ }
     ensures { λ r. ⌜ Fills (equalWords (now (xs .entry)) (now (ys .entry)) (netlistOf n (now (net .entry)))) n r (take 1 (now (xs .exit))) (now (net .exit)) (now (idx .exit)) ⌝ }
 {
-    let r = op_bits::equal_bits(net, idx, n, xs, ys);
+    let r = op_bits::pairwise(net, idx, n, Pair::Equal, xs, ys);
     let Filled::Done = r else {
         return r;
     };

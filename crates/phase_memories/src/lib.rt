@@ -42,7 +42,7 @@ fn lower_enables(image: &[u8], net: &mut [u32], scr: &mut [u32], p: MemoryPort) 
         return x;
     };
     let read = p.read_enable;
-    walk_recursion::lower_control(image, net, scr, read)
+    phase_signals::lower_control(image, net, scr, read)
 }
 
 fn lower_first(image: &[u8], net: &mut [u32], scr: &mut [u32], p: MemoryPort) -> Lowered
@@ -116,7 +116,7 @@ pub fn connect_memories(image: &[u8], net: &mut [u32], scr: &mut [u32]) -> Lower
     requires { ⌜ (Ready (now image) (now net) (now scr)) × (Sure (now image) (now net) (now scr)) ⌝ }
     ensures { λ r. ⌜ Phase (model.connectMemories (decode (now (image .entry))) false 0 (decode (now (image .entry)) .memories) (walkState (now (image .entry)) (now (net .entry)) (now (scr .entry)))) (now (image .entry)) (now (net .entry)) (now (scr .entry)) r (now (net .exit)) (now (scr .exit)) ⌝ }
 {
-    let n = image_fields::count(image, 5);
+    let n = image_fields::count(image, image_fields::MEMORIES);
     let mut k = 0;
     while k < n {
         let x = connect_memory(image, net, scr, k);

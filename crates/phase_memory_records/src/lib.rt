@@ -13,6 +13,7 @@ ghost use Rattle.walk_view.specs.View.{walkState, Ready, Sure};
 ghost use Rattle.phase_parts.specs.Ran.{Ran};
 ghost use Rattle.phase_memory_records.specs.Puts.{Puts};
 ghost use Rattle.phase_memory_records.specs.Memories.{memoryWords, PortThere, MemoryThere, PortWhole, MemoryWhole, netWords, tailWords};
+use image_numbers::*;
 use image_records::Enable;
 use image_records::Memory;
 use image_records::MemoryPort;
@@ -90,12 +91,12 @@ fn put_memory(image: &[u8], scr: &[u32], k: u32, x: Memory, out: &mut [u32]) -> 
     let second = x.second;
     match second {
         SecondPort::Absent => {
-            let head = [2, k, x.depth, x.style, 1, 1];
+            let head = [MEMORY_RECORD, k, x.depth, x.style, 1, 1];
             net_records::put_words(out, 0, &head);
             put_port(image, scr, first, out, 6)
         }
         SecondPort::Present(p) => {
-            let head = [2, k, x.depth, x.style, 1, 2];
+            let head = [MEMORY_RECORD, k, x.depth, x.style, 1, 2];
             net_records::put_words(out, 0, &head);
             let mid = put_port(image, scr, first, out, 6);
             put_port(image, scr, p, out, mid)

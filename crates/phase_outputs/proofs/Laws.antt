@@ -24,7 +24,7 @@ use Rattle.image_records.specs.declared.Direction.the-variants as D
 use Rattle.image_records.specs.Others.{signalMeans, directionMeans}
 use Rattle.net_nodes.specs.declared.Added.{Added}
 use Rattle.net_nodes.specs.declared.Added.the-variants.{Net, TooManyNets, ListFull}
-use Rattle.net_ports.specs.Fills.{runOf, Runs}
+use Rattle.net_ports.specs.Runs.{runOf, Runs}
 use Rattle.walk_view.specs.View.{indexOf, walkState, Ready, Sure, outOf}
 use Rattle.walk_view.specs.declared.Lowered.the-variants as L
 use Rattle.walk_view.specs.Answers.{not-done}

@@ -30,7 +30,7 @@ fn add_port(image: &[u8], net: &mut [u32], scr: &[u32], p: u32, n: u32) -> Lower
 {
     let mut nets = [0u32; 1024];
     scratch_tables::copy_signal(image, scr, p, 0, n, &mut nets, 0);
-    let limit = scr[0];
+    let limit = scr[scratch_view::LIMIT];
     let len = n as usize;
     answer(net_ports::add_output_port(net, limit, p, &nets[..len]))
 }
@@ -40,7 +40,7 @@ fn connect_port(image: &[u8], net: &mut [u32], scr: &mut [u32], p: u32, n: u32) 
     requires { ⌜ (Ready (now image) (now net) (now scr)) × (Sure (now image) (now net) (now scr)) × (p < countAt (now image) 0) × (n ≡ signalWidth (now image) p) ⌝ }
     ensures { λ r. ⌜ Ran (model.connectOutput (decode (now (image .entry))) false R.Output p n (walkState (now (image .entry)) (now (net .entry)) (now (scr .entry)))) (now (image .entry)) (now (net .entry)) (now (scr .entry)) r (now (net .exit)) (now (scr .exit)) ⌝ }
 {
-    let x = walk_recursion::resolve_signal(image, net, scr, p, n);
+    let x = phase_signals::resolve_signal(image, net, scr, p, n);
     let Lowered::Done = x else {
         return x;
     };
@@ -65,7 +65,7 @@ pub fn connect_outputs(image: &[u8], net: &mut [u32], scr: &mut [u32]) -> Lowere
     requires { ⌜ (Ready (now image) (now net) (now scr)) × (Sure (now image) (now net) (now scr)) ⌝ }
     ensures { λ r. ⌜ Phase (model.connectOutputs (decode (now (image .entry))) false 0 (decode (now (image .entry)) .signals) (walkState (now (image .entry)) (now (net .entry)) (now (scr .entry)))) (now (image .entry)) (now (net .entry)) (now (scr .entry)) r (now (net .exit)) (now (scr .exit)) ⌝ }
 {
-    let n = image_fields::count(image, 0);
+    let n = image_fields::count(image, image_fields::SIGNALS);
     let mut p = 0;
     while p < n {
         let x = connect_output(image, net, scr, p);

@@ -5,7 +5,7 @@ use mathlib.Core.List.{List, [], _∷_}
 use mathlib.Core.Option.{Option, none, some}
 use Prim.Native.Nat.{ℕ, _+_, _<_}
 use Rattle.spec_tests.specs.Rules.{_≡?_, pick}
-use Rattle.spec_tests.specs.Laws.{no-eq}
+use Rattle.spec_tests.specs.Laws.{no-eq, isSome}
 use Rattle.spec_rtl.specs.Rtl.{Control}
 use Rattle.spec_rules.specs.Image.{absent, countAt, field, controlOf, optional}
 use Rattle.check_references.specs.Good.{GoodBit, GoodControl, GoodOptional}
@@ -17,7 +17,7 @@ use Rattle.image_records.specs.declared.Control as C
 use Rattle.image_records.specs.declared.Enable.{Enable}
 use Rattle.image_records.specs.declared.Enable.the-variants as E
 use Rattle.image_records.specs.Others.{controlMeans, enableMeans}
-use Rattle.walk_view.specs.Met.{met, isSome}
+use Rattle.walk_view.specs.Met.{met}
 use Rattle.walk_view.specs.View.{walkState}
 use Rattle.phase_parts.specs.declared.ControlWords.{ControlWords}
 

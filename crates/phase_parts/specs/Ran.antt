@@ -2,7 +2,7 @@
 use mathlib.Core.Path.{_≡_, refl, _∙_}
 use mathlib.Core.List.{List}
 use Prim.Native.Nat.{ℕ}
-use Rattle.spec_model.specs.Builder.{Out, refused, done, andThen}
+use Rattle.spec_model.specs.Builder.{Out, done, andThen}
 use Rattle.spec_model.specs.Lowering.{State}
 use Rattle.walk_view.specs.View.{walkState, Ready, Sure, Kept, outOf, Phase}
 use Rattle.walk_view.specs.declared.Lowered.{Lowered}
@@ -28,10 +28,6 @@ pub ran-as : {model model′ : Out State} {s net w net′ w′ : List ℕ} {r : 
 ran-as e a = record { says = e ∙ a .says; ready = a .ready; kept = a .kept; sure = a .sure }
 
 -- ---- one call, then another ----
-
-pub then-then : (o : Out State) (f g : State → Out State) → andThen (andThen o f) g ≡ andThen o (λ st. andThen (f st) g)
-then-then (refused n x y) f g = refl
-then-then (done st) f g = refl
 
 pub ran-refused : (model : Out State) (s net w : List ℕ) (x : Lowered) → Ready s net w → model ≡ outOf x (walkState s net w) → Refused x → Ran model s net w x net w
 ran-refused model s net w x r e q = record { says = e; ready = r; kept = kept-same s net w; sure = λ d. not-done x q d }

@@ -9,7 +9,7 @@ use Rattle.spec_model.specs.Builder.{Out, done}
 use Rattle.spec_model.specs.Lowering.{State, Step, lowerSteps, lowerAll}
 use Rattle.check_image.specs.Accepted.{Accepted}
 use Rattle.law_module.specs.Good.{good}
-use Rattle.law_walk.specs.Kept.{Kept, Walks}
+use Rattle.law_walk.specs.Kept.{WalkedTo, Walks}
 use Rattle.law_walk.specs.Reads.{AllAsked, AllAfter}
 use Rattle.law_walk.specs.Walk.{all-walk}
 use Rattle.law_phases.specs.Supply.{supply}
@@ -53,5 +53,5 @@ pub gives-after : {s net w net₁ w₁ : List ℕ} {ss : List Step} {x : Lowered
 gives-after {s} {net} {w} {net₁} {w₁} {ss} a i h g e =
     kept (g .says ∙ ap (λ (y : Lowered). outOf y (walkState s net₁ w₁)) e) (all-walk supply (decode s) (good s a) false ss (walkState s net w) i h) .post
   where
-    kept : {m : Module} {st st′ : State} {P : State → Type 0} {o : Out State} → o ≡ done st′ → Walks m st P o → Kept m st P st′
+    kept : {m : Module} {st st′ : State} {P : State → Type 0} {o : Out State} → o ≡ done st′ → Walks m st P o → WalkedTo m st P st′
     kept {m} {st} {P} e w = subst (Walks m st P) e w .walks

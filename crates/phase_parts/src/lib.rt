@@ -11,9 +11,9 @@ ghost use Rattle.image_records.specs.Others.{enableMeans};
 ghost use Rattle.walk_view.specs.View.{walkState, Ready, Sure};
 ghost use Rattle.phase_parts.specs.Ran.{Ran};
 ghost use Rattle.phase_parts.specs.Parts.{ThereControl, IsControl};
+use image_numbers::ABSENT;
 use image_records::Enable;
 use net_records::Pushed;
-use scratch_tables::ABSENT;
 use scratch_tables::Known;
 use walk_view::Lowered;
 
@@ -68,7 +68,7 @@ pub fn push(image: &[u8], net: &mut [u32], scr: &[u32], r: &[u32]) -> Lowered
     requires { ⌜ (Ready (now image) (now net) (now scr)) × (Sure (now image) (now net) (now scr)) × (Formed (now r)) × (0 < getD (now r) 0 0) × (getD (now r) 0 0 < 3) ⌝ }
     ensures { λ a. ⌜ Ran (pushRecord (now (r .entry)) (walkState (now (image .entry)) (now (net .entry)) (now (scr .entry)))) (now (image .entry)) (now (net .entry)) (now (scr .entry)) a (now (net .exit)) (now (scr .entry)) ⌝ }
 {
-    match net_records::push_record(net, scr[0], r) {
+    match net_records::push_record(net, scr[scratch_view::LIMIT], r) {
         Pushed::Done => Lowered::Done,
         Pushed::ListFull => Lowered::ListFull,
     }

@@ -10,11 +10,11 @@ ghost use Rattle.scratch_view.specs.View.{Laid};
 ghost use Rattle.walk_view.specs.View.{walkState, Ready, Sure};
 ghost use Rattle.phase_parts.specs.Ran.{Ran};
 ghost use Rattle.phase_register_records.specs.Registers.{bitsTurn, resetOf, ThereReset, There, WholeReset, Wholes, bitWords, fourWords, IsReset};
+use image_numbers::*;
 use image_records::Register;
 use image_records::Reset;
 use image_records::ResetOption;
 use net_nodes::Constant;
-use scratch_tables::ABSENT;
 use walk_view::Lowered;
 
 // A reset in a record: net, level, mode, value.
@@ -58,7 +58,7 @@ fn push_register(
     let enable = x.enable;
     let c = phase_parts::control_words(image, scr, enable);
     let record = [
-        1,
+        REGISTER_RECORD,
         k,
         b,
         target,

@@ -23,7 +23,7 @@ use Rattle.walk_view.specs.declared.Lowered.the-variants.{Done}
 use Rattle.walk_view.specs.Answers.{Refused}
 use Rattle.walk_invariant.specs.Steps.{GivesAll, gives-one}
 use Rattle.walk_view.specs.Turns.{inTurn}
-use Rattle.phase_parts.specs.Ran.{then-then}
+use Rattle.walk_view.specs.Phases.{then-then}
 use Rattle.phase_parts.specs.Steps.{gives-then, gives-out}
 use Rattle.phase_parts.specs.Parts.{control-there, met-whole}
 use Rattle.phase_register_records.specs.Registers.{bitsTurn, ThereReset, WideReset, There, WholeReset, Wholes}

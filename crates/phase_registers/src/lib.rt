@@ -54,7 +54,7 @@ fn lower_register(image: &[u8], net: &mut [u32], scr: &mut [u32], x: Register) -
         return z;
     };
     let enable = x.enable;
-    let u = walk_recursion::lower_control(image, net, scr, enable);
+    let u = phase_signals::lower_control(image, net, scr, enable);
     let Lowered::Done = u else {
         return u;
     };
@@ -80,7 +80,7 @@ pub fn connect_registers(image: &[u8], net: &mut [u32], scr: &mut [u32]) -> Lowe
     requires { ⌜ (Ready (now image) (now net) (now scr)) × (Sure (now image) (now net) (now scr)) ⌝ }
     ensures { λ r. ⌜ Phase (model.connectRegisters (decode (now (image .entry))) false 0 (decode (now (image .entry)) .registers) (walkState (now (image .entry)) (now (net .entry)) (now (scr .entry)))) (now (image .entry)) (now (net .entry)) (now (scr .entry)) r (now (net .exit)) (now (scr .exit)) ⌝ }
 {
-    let n = image_fields::count(image, 4);
+    let n = image_fields::count(image, image_fields::REGISTERS);
     let mut k = 0;
     while k < n {
         let x = connect_register(image, net, scr, k);

@@ -18,6 +18,7 @@ use Rattle.spec_model.specs.Words.{source, Netlist}
 use Rattle.spec_model.specs.Builder.{Made, from, addNodes}
 use Rattle.spec_model.specs.Lowering as M
 use Rattle.spec_model.specs.Lowering.{State, reserve, setSignal, reserveInput, reserveInputs, reserveBits, reserveRegisters, reserveSecond, reserveMemories, reserveSources}
+use Rattle.word_laws.specs.Runs.{from-at, length-from}
 use Rattle.net_view.specs.View.{netlistOf}
 use Rattle.net_index.specs.Index.{Held}
 use Rattle.scratch_view.specs.View.{limitOf, stateOf, Laid, Writes}
@@ -25,7 +26,7 @@ use Rattle.scratch_view.specs.Bounds.{signal-width}
 use Rattle.scratch_tables.specs.Answers.{Small}
 use Rattle.net_nodes.specs.declared.Added.{Added}
 use Rattle.net_nodes.specs.declared.Added.the-variants as A
-use Rattle.net_ports.specs.Fills.{runOf, Runs}
+use Rattle.net_ports.specs.Runs.{runOf, Runs}
 use Rattle.walk_view.specs.declared.Lowered.{Lowered}
 use Rattle.walk_view.specs.declared.Lowered.the-variants.{Done, TooManyNets, ListFull}
 use Rattle.walk_view.specs.View.{indexOf, walkState, Ready, Kept, outOf, Phase}
@@ -33,17 +34,6 @@ use Rattle.walk_view.specs.Answers.{Refused}
 use Rattle.walk_view.specs.Stores.{kept-then, no-store, stored-ready, stored-kept, stored-state}
 use Rattle.walk_view.specs.Phases.{phase-none, phase-as, phase-then, phase-out}
 use Rattle.phase_sources.specs.Reserves.{answerOf, withAdded, Keeps, inputAt, secondAt, dataAt}
-
-length-from : (b w : ℕ) → length (from b w) ≡ w
-unfolding from
-length-from b zero = refl
-length-from b (suc w) = ap suc (length-from (suc b) w)
-
-from-at : (b w i d : ℕ) → i < w → getD (from b w) i d ≡ b + i
-unfolding from
-from-at b zero i d h = absurd (omega arith)
-from-at b (suc w) zero d h = omega arith
-from-at b (suc w) (suc i) d h = from-at (suc b) w i d (omega arith) ∙ omega arith
 
 -- a run at the start of a list
 pub run-taken : (a : List ℕ) (first n : ℕ) → n ≤ length a → take n (sets a 0 (from first n)) ≡ from first n

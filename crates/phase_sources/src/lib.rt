@@ -12,6 +12,7 @@ ghost use Rattle.scratch_view.specs.View.{Laid, Writes};
 ghost use Rattle.net_nodes.specs.declared.Added.the-variants.{Net};
 ghost use Rattle.walk_view.specs.View.{walkState, Ready, Phase};
 ghost use Rattle.phase_sources.specs.Reserves.{Keeps, inputAt, outputsAt, dataAt};
+use image_numbers::*;
 use image_records::Direction;
 use net_nodes::Added;
 use walk_view::Lowered;
@@ -48,7 +49,7 @@ fn reserve_port(image: &[u8], net: &mut [u32], scr: &mut [u32], p: u32, n: u32) 
     requires { ⌜ (Ready (now image) (now net) (now scr)) × (p < countAt (now image) 0) × (n ≡ signalWidth (now image) p) ⌝ }
     ensures { λ r. ⌜ Phase (reserveInput R.Input p n (walkState (now (image .entry)) (now (net .entry)) (now (scr .entry)))) (now (image .entry)) (now (net .entry)) (now (scr .entry)) r (now (net .exit)) (now (scr .exit)) ⌝ }
 {
-    let x = net_ports::add_input_port(net, scr[0], p, n);
+    let x = net_ports::add_input_port(net, scr[scratch_view::LIMIT], p, n);
     keep_added(image, scr, p, n, x)
 }
 
@@ -66,7 +67,7 @@ fn reserve_bits(
     ensures { λ r. ⌜ Phase (reserveBits (decode (now (image .entry))) kind owner b p (walkState (now (image .entry)) (now (net .entry)) (now (scr .entry)))) (now (image .entry)) (now (net .entry)) (now (scr .entry)) r (now (net .exit)) (now (scr .exit)) ⌝ }
 {
     let n = image_fields::signal_width(image, p);
-    let x = net_ports::add_nodes(net, scr[0], kind, owner, b, n);
+    let x = net_ports::add_nodes(net, scr[scratch_view::LIMIT], kind, owner, b, n);
     keep_added(image, scr, p, n, x)
 }
 
@@ -90,7 +91,7 @@ fn reserve_inputs(image: &[u8], net: &mut [u32], scr: &mut [u32]) -> Lowered
     requires { ⌜ Ready (now image) (now net) (now scr) ⌝ }
     ensures { λ r. ⌜ Phase (reserveInputs 0 (decode (now (image .entry)) .signals) (walkState (now (image .entry)) (now (net .entry)) (now (scr .entry)))) (now (image .entry)) (now (net .entry)) (now (scr .entry)) r (now (net .exit)) (now (scr .exit)) ⌝ }
 {
-    let count = image_fields::count(image, 0);
+    let count = image_fields::count(image, image_fields::SIGNALS);
     let mut p = 0;
     while p < count {
         let x = reserve_input(image, net, scr, p);
@@ -109,15 +110,15 @@ fn reserve_register(image: &[u8], net: &mut [u32], scr: &mut [u32], k: u32) -> L
     requires { ⌜ (Ready (now image) (now net) (now scr)) × (k < countAt (now image) 4) ⌝ }
     ensures { λ r. ⌜ Phase (outputsAt (now (image .entry)) k (walkState (now (image .entry)) (now (net .entry)) (now (scr .entry)))) (now (image .entry)) (now (net .entry)) (now (scr .entry)) r (now (net .exit)) (now (scr .exit)) ⌝ }
 {
-    let target = image_fields::record_field(image, 4, k, 2);
-    reserve_bits(image, net, scr, 7, k, 0, target)
+    let target = image_fields::record_field(image, image_fields::REGISTERS, k, 2);
+    reserve_bits(image, net, scr, REGISTER_OUTPUT, k, 0, target)
 }
 
 fn reserve_registers(image: &[u8], net: &mut [u32], scr: &mut [u32]) -> Lowered
     requires { ⌜ Ready (now image) (now net) (now scr) ⌝ }
     ensures { λ r. ⌜ Phase (reserveRegisters (decode (now (image .entry))) 0 (decode (now (image .entry)) .registers) (walkState (now (image .entry)) (now (net .entry)) (now (scr .entry)))) (now (image .entry)) (now (net .entry)) (now (scr .entry)) r (now (net .exit)) (now (scr .exit)) ⌝ }
 {
-    let count = image_fields::count(image, 4);
+    let count = image_fields::count(image, image_fields::REGISTERS);
     let mut k = 0;
     while k < count {
         let x = reserve_register(image, net, scr, k);
@@ -136,11 +137,11 @@ fn reserve_second(image: &[u8], net: &mut [u32], scr: &mut [u32], k: u32, b: u32
     requires { ⌜ (Ready (now image) (now net) (now scr)) × (k < countAt (now image) 5) × (b ≤ 1024) ⌝ }
     ensures { λ r. ⌜ Phase (reserveSecond (decode (now (image .entry))) k b (memoryAt (now (image .entry)) k .second) (walkState (now (image .entry)) (now (net .entry)) (now (scr .entry)))) (now (image .entry)) (now (net .entry)) (now (scr .entry)) r (now (net .exit)) (now (scr .exit)) ⌝ }
 {
-    if image_fields::record_field(image, 5, k, image_fields::HAS_SECOND) == 0 {
+    if image_fields::record_field(image, image_fields::MEMORIES, k, image_fields::HAS_SECOND) == 0 {
         return Lowered::Done;
     }
-    let q = image_fields::record_field(image, 5, k, image_fields::SECOND_DATA);
-    reserve_bits(image, net, scr, 9, k, b, q)
+    let q = image_fields::record_field(image, image_fields::MEMORIES, k, image_fields::SECOND_DATA);
+    reserve_bits(image, net, scr, MEMORY_OUTPUT, k, b, q)
 }
 
 // The output nodes of memory k: first port, then second.
@@ -148,8 +149,8 @@ fn reserve_memory(image: &[u8], net: &mut [u32], scr: &mut [u32], k: u32) -> Low
     requires { ⌜ (Ready (now image) (now net) (now scr)) × (k < countAt (now image) 5) ⌝ }
     ensures { λ r. ⌜ Phase (dataAt (now (image .entry)) k (walkState (now (image .entry)) (now (net .entry)) (now (scr .entry)))) (now (image .entry)) (now (net .entry)) (now (scr .entry)) r (now (net .exit)) (now (scr .exit)) ⌝ }
 {
-    let p = image_fields::record_field(image, 5, k, image_fields::FIRST_DATA);
-    let x = reserve_bits(image, net, scr, 9, k, 0, p);
+    let p = image_fields::record_field(image, image_fields::MEMORIES, k, image_fields::FIRST_DATA);
+    let x = reserve_bits(image, net, scr, MEMORY_OUTPUT, k, 0, p);
     let Lowered::Done = x else {
         return x;
     };
@@ -161,7 +162,7 @@ fn reserve_memories(image: &[u8], net: &mut [u32], scr: &mut [u32]) -> Lowered
     requires { ⌜ Ready (now image) (now net) (now scr) ⌝ }
     ensures { λ r. ⌜ Phase (reserveMemories (decode (now (image .entry))) 0 (decode (now (image .entry)) .memories) (walkState (now (image .entry)) (now (net .entry)) (now (scr .entry)))) (now (image .entry)) (now (net .entry)) (now (scr .entry)) r (now (net .exit)) (now (scr .exit)) ⌝ }
 {
-    let count = image_fields::count(image, 5);
+    let count = image_fields::count(image, image_fields::MEMORIES);
     let mut k = 0;
     while k < count {
         let x = reserve_memory(image, net, scr, k);

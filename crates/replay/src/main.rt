@@ -92,7 +92,7 @@ fn least(a: u64, b: u64) -> u64
 fn scratch_need(image: &[u8], n: u32) -> usize {
     let signals = least(check_header::signal_bits(image), 4096);
     let exprs = least(check_header::expr_bits(image), 32768);
-    let count = image_fields::count(image, 1) as u64;
+    let count = image_fields::count(image, image_fields::EXPRESSIONS) as u64;
     (4 * signals + exprs + 8 * count + 4 * (n as u64) + 64) as usize
 }
 

@@ -21,7 +21,7 @@ use Rattle.scratch_view.specs.Rows.{listOf-agree, at-listOf, length-listOf, map
 use Rattle.scratch_view.specs.View.{limitOf, signalColumn, exprColumn, bitColumn, signalBit, driverAt, firstAt, exprAt, bitAt, known, isSet, isWhole, wholeAt, rangesAt, stateAt, freeAt, driverWord, Sized, LaidAt}
 use Rattle.scratch_view.specs.Laws.{Stored, stored-paste, need-is, signal-inside, signal-ends, signals-few, isSet-yes, isSet-no, known-none, whole-none, ranges-there, free-all}
 use Rattle.scratch_view.specs.Drivers.{covers, covered, covers-yes}
-use Rattle.scratch_layout.specs.Stages.{HeadedAt, Fixed, FirstsAt, Starts, Indexed, Ready}
+use Rattle.scratch_layout.specs.Stages.{HeadedAt, Fixed, FirstsAt, Starts, Indexed, Started}
 
 -- ---- cleared words ----
 
@@ -415,7 +415,7 @@ module _ (s : List ℕ) (n : ℕ) (ob : Bool) (w₀ w w′ : List ℕ) (h : Layi
       (none-rows false (λ i. isSet (getD w′ (signalColumn n + 2 * signalBits s + i) 0)) (λ i u. isSet-no _ (marks-none i u)) j)
       (wholes-none j) (ranges-none j)
 
-  pub ready-way : Ready s n ob w′
+  pub ready-way : Started s n ob w′
   ready-way =
       let q : getD w′ 0 0 ≡ n = laid-at .limit in
       record {

@@ -44,7 +44,7 @@ pub record Indexed (s : List ℕ) (n : ℕ) (w w′ : List ℕ) : Type 0 where
   pub other : (j : ℕ) → ((i : ℕ) → i < signalBits s → j ≡ signalColumn n + signalBits s + i → ⊥) → getD w′ j 0 ≡ getD w j 0
 
 -- the walk can start: the state is the model's, no bit is marked, and the index is empty
-pub record Ready (s : List ℕ) (n : ℕ) (ob : Bool) (w : List ℕ) : Type 0 where
+pub record Started (s : List ℕ) (n : ℕ) (ob : Bool) (w : List ℕ) : Type 0 where
   pub laid : Laid s w
   pub limit : getD w 0 0 ≡ n
   pub flag : isSet (getD w 4 0) ≡ ob

@@ -8,14 +8,14 @@ ghost use Rattle.spec_rules.specs.Image.{countAt, field, signalWidth};
 ghost use Rattle.spec_rules.specs.Checks.{signalBits, scratchNeed};
 ghost use Rattle.scratch_view.specs.View.{limitOf, signalColumn, firstAt, driverAt, Sized};
 ghost use Rattle.scratch_view.specs.Laws.{Stored};
-ghost use Rattle.scratch_layout.specs.Stages.{HeadedAt, Fixed, FirstsAt, Starts, Indexed, Ready};
+ghost use Rattle.scratch_layout.specs.Stages.{HeadedAt, Fixed, FirstsAt, Starts, Indexed, Started};
 
 // The bits of all signals.
 fn signal_bits(image: &[u8]) -> u32
     requires { ⌜ Sized (now image) ⌝ }
     ensures { λ r. ⌜ r ≡ signalBits (now (image .entry)) ⌝ }
 {
-    let count = image_fields::count(image, 0);
+    let count = image_fields::count(image, image_fields::SIGNALS);
     let mut sum = 0;
     let mut p = 0;
     while p < count {
@@ -32,13 +32,13 @@ fn lay_fixed(image: &[u8], n: u32, ob: bool, scr: &mut [u32])
 {
     let bits = signal_bits(image);
     let exprs = 64 + 4 * n + 4 * bits;
-    let nets = exprs + 8 * image_fields::count(image, 1);
-    scr[0] = n;
-    scr[1] = bits;
-    scr[2] = exprs;
-    scr[3] = nets;
+    let nets = exprs + 8 * image_fields::count(image, image_fields::EXPRESSIONS);
+    scr[scratch_view::LIMIT] = n;
+    scr[scratch_view::SIGNAL_BITS] = bits;
+    scr[scratch_view::ROWS] = exprs;
+    scr[scratch_view::NETS] = nets;
     if ob {
-        scr[4] = 1;
+        scr[scratch_view::OBSERVABLE] = 1;
     }
 }
 
@@ -47,8 +47,10 @@ fn lay_firsts(image: &[u8], scr: &mut [u32])
     requires { ⌜ HeadedAt (now image) (limitOf (now scr)) (now scr) ⌝ }
     ensures { λ _. ⌜ Stored (firstAt (now (image .entry)) (limitOf (now (scr .entry))) 0) (countAt (now (image .entry)) 0) (sumTo (signalWidth (now (image .entry)))) (now (scr .entry)) (now (scr .exit)) ⌝ }
 {
-    let count = image_fields::count(image, 0);
-    let at = 64 + 4 * (scr[0] as usize) + 3 * (scr[1] as usize);
+    let count = image_fields::count(image, image_fields::SIGNALS);
+    let at = scratch_view::FIXED
+        + 4 * (scr[scratch_view::LIMIT] as usize)
+        + 3 * (scr[scratch_view::SIGNAL_BITS] as usize);
     let mut sum = 0;
     let mut p = 0;
     while p < count {
@@ -63,12 +65,12 @@ fn lay_starts(image: &[u8], scr: &mut [u32])
     requires { ⌜ HeadedAt (now image) (limitOf (now scr)) (now scr) ⌝ }
     ensures { λ _. ⌜ Starts (now (image .entry)) (limitOf (now (scr .entry))) (now (scr .entry)) (now (scr .exit)) ⌝ }
 {
-    let count = image_fields::count(image, 1);
-    let at = scr[2] as usize;
+    let count = image_fields::count(image, image_fields::EXPRESSIONS);
+    let at = scr[scratch_view::ROWS] as usize;
     let mut sum = 0;
     let mut e = 0;
     while e < count {
-        scr[at + 8 * (e as usize)] = sum;
+        scr[at + scratch_view::ROW * (e as usize)] = sum;
         sum += image_fields::expr_width(image, e);
         e += 1;
     }
@@ -91,12 +93,12 @@ fn index_assignment(image: &[u8], scr: &mut [u32], a: u32)
     requires { ⌜ (FirstsAt (now image) (limitOf (now scr)) (now scr)) × (a < countAt (now image) 3) ⌝ }
     ensures { λ _. ⌜ Stored (driverAt (now (image .entry)) (limitOf (now (scr .entry))) (field (now (image .entry)) 3 a 0) (field (now (image .entry)) 3 a 1)) (field (now (image .entry)) 3 a 2) (λ i. (field (now (image .entry)) 3 a 3 + 1) * 1024 + i) (now (scr .entry)) (now (scr .exit)) ⌝ }
 {
-    let p = image_fields::record_field(image, 3, a, 0);
-    let lsb = image_fields::record_field(image, 3, a, 1);
-    let n = image_fields::record_field(image, 3, a, 2);
-    let e = image_fields::record_field(image, 3, a, 3);
-    let column = 64 + 4 * (scr[0] as usize);
-    let bits = scr[1] as usize;
+    let p = image_fields::record_field(image, image_fields::ASSIGNMENTS, a, 0);
+    let lsb = image_fields::record_field(image, image_fields::ASSIGNMENTS, a, 1);
+    let n = image_fields::record_field(image, image_fields::ASSIGNMENTS, a, 2);
+    let e = image_fields::record_field(image, image_fields::ASSIGNMENTS, a, 3);
+    let column = scratch_view::FIXED + 4 * (scr[scratch_view::LIMIT] as usize);
+    let bits = scr[scratch_view::SIGNAL_BITS] as usize;
     let first = scr[column + 3 * bits + p as usize] as usize;
     put_drivers(
         scr,
@@ -111,7 +113,7 @@ fn index_assignments(image: &[u8], scr: &mut [u32])
     requires { ⌜ (FirstsAt (now image) (limitOf (now scr)) (now scr)) × ((i : ℕ) → i < signalBits (now image) → getD (now scr) (signalColumn (limitOf (now scr)) + signalBits (now image) + i) 0 ≡ 0) ⌝ }
     ensures { λ _. ⌜ Indexed (now (image .entry)) (limitOf (now (scr .entry))) (now (scr .entry)) (now (scr .exit)) ⌝ }
 {
-    let mut a = image_fields::count(image, 3);
+    let mut a = image_fields::count(image, image_fields::ASSIGNMENTS);
     while 0 < a {
         a -= 1;
         index_assignment(image, scr, a);
@@ -121,7 +123,7 @@ fn index_assignments(image: &[u8], scr: &mut [u32])
 // Lays a scratch of exactly the needed words out for a walk with net limit n.
 pub fn lay(image: &[u8], n: u32, ob: bool, scr: &mut [u32])
     requires { ⌜ (Sized (now image)) × (n ≤ 65535) × (length (now scr) ≡ scratchNeed (now image) n) ⌝ }
-    ensures { λ _. ⌜ Ready (now (image .entry)) n ob (now (scr .exit)) ⌝ }
+    ensures { λ _. ⌜ Started (now (image .entry)) n ob (now (scr .exit)) ⌝ }
 {
     net_nodes::clear(scr);
     lay_fixed(image, n, ob, scr);

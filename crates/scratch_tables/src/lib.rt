@@ -12,8 +12,7 @@ ghost use Rattle.spec_model.specs.Words.{Netlist};
 ghost use Rattle.spec_model.specs.Lowering.{cell, signalBit, signalNets, rangeNets, rangeKnown, allSome, setSignalBit, setSignal, setWhole, setRange, driverOf};
 ghost use Rattle.scratch_view.specs.View.{limitOf, known, netWord, isWhole, stateOf, Laid, Writes, Marks};
 ghost use Rattle.scratch_tables.specs.Answers.{knownOf, drivenBy, SignalPlace, ExprPlace, ExprNet, Small};
-
-pub const ABSENT: u32 = 4294967295;
+use image_numbers::ABSENT;
 
 // A net that may not be there yet.
 pub enum Known {
@@ -50,8 +49,8 @@ fn signal_place(image: &[u8], scr: &[u32], p: u32, b: u32) -> usize
     requires { ⌜ (Laid (now image) (now scr)) × (p < countAt (now image) 0) × (b ≤ signalWidth (now image) p) ⌝ }
     ensures { λ r. ⌜ SignalPlace (now (image .entry)) (now (scr .entry)) p b r ⌝ }
 {
-    let column = 64 + 4 * (scr[0] as usize);
-    let bits = scr[1] as usize;
+    let column = scratch_view::FIXED + 4 * (scr[scratch_view::LIMIT] as usize);
+    let bits = scr[scratch_view::SIGNAL_BITS] as usize;
     let first = scr[column + 3 * bits + p as usize] as usize;
     column + (first + b as usize)
 }
@@ -61,9 +60,9 @@ fn expr_place(image: &[u8], scr: &[u32], e: u32, b: u32) -> usize
     requires { ⌜ (Laid (now image) (now scr)) × (e < countAt (now image) 1) × (b ≤ exprWidth (now image) e) ⌝ }
     ensures { λ r. ⌜ ExprPlace (now (image .entry)) (now (scr .entry)) e b r ⌝ }
 {
-    let words = scr[2] as usize + 8 * (e as usize);
+    let words = scr[scratch_view::ROWS] as usize + scratch_view::ROW * (e as usize);
     let first = scr[words] as usize;
-    scr[3] as usize + (first + b as usize)
+    scr[scratch_view::NETS] as usize + (first + b as usize)
 }
 
 // ---- signal bits ----
@@ -88,7 +87,7 @@ pub fn marked(image: &[u8], scr: &[u32], p: u32, b: u32) -> bool
     requires { ⌜ (Laid (now image) (now scr)) × (p < countAt (now image) 0) × (b < signalWidth (now image) p) ⌝ }
     ensures { λ r. ⌜ ((l : Netlist) → r ≡ cell false (stateOf (now (image .entry)) l (now (scr .entry)) .resolving) p b) ⌝ }
 {
-    let at = signal_place(image, scr, p, b) + 2 * (scr[1] as usize);
+    let at = signal_place(image, scr, p, b) + 2 * (scr[scratch_view::SIGNAL_BITS] as usize);
     scr[at] != 0
 }
 
@@ -96,7 +95,7 @@ pub fn mark_signal(image: &[u8], scr: &mut [u32], p: u32, b: u32)
     requires { ⌜ (Laid (now image) (now scr)) × (p < countAt (now image) 0) × (b < signalWidth (now image) p) ⌝ }
     ensures { λ _. ⌜ Marks (now (image .entry)) p b (now (scr .entry)) (now (scr .exit)) ⌝ }
 {
-    let bits = scr[1] as usize;
+    let bits = scr[scratch_view::SIGNAL_BITS] as usize;
     let at = signal_place(image, scr, p, b) + 2 * bits;
     scr[at] = 1;
 }
@@ -105,7 +104,7 @@ pub fn driver_of(image: &[u8], scr: &[u32], p: u32, b: u32) -> Driver
     requires { ⌜ (Laid (now image) (now scr)) × (p < countAt (now image) 0) × (b < signalWidth (now image) p) ⌝ }
     ensures { λ r. ⌜ drivenBy r ≡ driverOf (decode (now (image .entry))) p b ⌝ }
 {
-    let at = signal_place(image, scr, p, b) + scr[1] as usize;
+    let at = signal_place(image, scr, p, b) + scr[scratch_view::SIGNAL_BITS] as usize;
     let x = scr[at];
     if x == 0 {
         return Driver::Nothing;
@@ -119,7 +118,9 @@ pub fn is_whole(image: &[u8], scr: &[u32], e: u32) -> bool
     requires { ⌜ (Laid (now image) (now scr)) × (e < countAt (now image) 1) ⌝ }
     ensures { λ r. ⌜ r ≡ isWhole (now (image .entry)) (limitOf (now (scr .entry))) (now (scr .entry)) e ⌝ }
 {
-    let at = scr[2] as usize + 8 * (e as usize) + 1;
+    let at = scr[scratch_view::ROWS] as usize
+        + scratch_view::ROW * (e as usize)
+        + scratch_view::WHOLE;
     scr[at] != 0
 }
 
@@ -224,7 +225,9 @@ pub fn keep_whole(image: &[u8], scr: &mut [u32], e: u32, nets: &[u32], n: u32)
     requires { ⌜ (Laid (now image) (now scr)) × (e < countAt (now image) 1) × (n ≡ exprWidth (now image) e) × (n ≤ length (now nets)) × Small n (now nets) ⌝ }
     ensures { λ _. ⌜ Writes (λ st. setWhole st e (take n (now (nets .entry)))) (now (image .entry)) (now (scr .entry)) (now (scr .exit)) ⌝ }
 {
-    let flag = scr[2] as usize + 8 * (e as usize) + 1;
+    let flag = scr[scratch_view::ROWS] as usize
+        + scratch_view::ROW * (e as usize)
+        + scratch_view::WHOLE;
     let at = expr_place(image, scr, e, 0);
     fill(&mut scr[at..], nets, n);
     scr[flag] = 1;

@@ -174,7 +174,7 @@ take-agree m w w′ l h =
     getD-take m w′ j 0 v ∙ h j v ∙ sym (getD-take m w j 0 v))
 
 -- the words that no writer of a table changes, and nets that stay small
-pub record Kept (s : List ℕ) (n : ℕ) (w w′ : List ℕ) : Type 0 where
+pub record Unwritten (s : List ℕ) (n : ℕ) (w w′ : List ℕ) : Type 0 where
   pub long : length w′ ≡ length w
   pub fixed : (j : ℕ) → j < signalColumn n → getD w′ j 0 ≡ getD w j 0
   pub drivers : (j : ℕ) → j < signalBits s → getD w′ (signalColumn n + signalBits s + j) 0 ≡ getD w (signalColumn n + signalBits s + j) 0
@@ -184,7 +184,7 @@ pub record Kept (s : List ℕ) (n : ℕ) (w w′ : List ℕ) : Type 0 where
   pub exprNets : (j : ℕ) → j < exprBits s → getD w′ (bitColumn s n + j) 0 ≤ 65535
   pub wholes : (e b : ℕ) → e < countAt s 1 → b < exprWidth s e → isWhole s n w′ e ≡ true → 0 < getD w′ (bitAt s n e b) 0
 
-pub kept-laid : (s : List ℕ) (n : ℕ) (w w′ : List ℕ) → LaidAt s n w → Kept s n w w′ → LaidAt s n w′
+pub kept-laid : (s : List ℕ) (n : ℕ) (w w′ : List ℕ) → LaidAt s n w → Unwritten s n w w′ → LaidAt s n w′
 kept-laid s n w w′ h k = record {
   image = h .image;
   limited = h .limited;
@@ -209,7 +209,7 @@ pub still-whole : (s : List ℕ) (n : ℕ) (w w′ : List ℕ) (e b : ℕ) → L
     → 0 < getD w′ (bitAt s n e b) 0
 still-whole s n w w′ e b h x u v q = subst (λ (m : ℕ). 0 < m) (sym (x .1 b v)) (h .wholes e b u v (sym (ap isSet (x .0)) ∙ q))
 
-pub writes : (op : State → State) (s w w′ : List ℕ) → Laid s w → Kept s (limitOf w) w w′
+pub writes : (op : State → State) (s w w′ : List ℕ) → Laid s w → Unwritten s (limitOf w) w w′
     → ((l : Netlist) → stateAt s (limitOf w) l w′ ≡ op (stateAt s (limitOf w) l w)) → freeAt s (limitOf w) w′ ≤ freeAt s (limitOf w) w → Writes op s w w′
 writes op s w w′ h k e f =
     let n = limitOf w in
@@ -266,7 +266,7 @@ module _ (s w w′ : List ℕ) (p b x : ℕ) (h : Laid s w) (u : p < countAt s 0
   net-exprs : (e : ℕ) → e < countAt s 1 → ExprSame s (limitOf w) w w′ e
   net-exprs e a = (st .other _ (λ i c z. absurd (omega (arith, here-net))), λ b′ d. st .other _ (λ i c z. absurd (omega (arith, here-net))))
 
-  net-kept : Kept s (limitOf w) w w′
+  net-kept : Unwritten s (limitOf w) w w′
   net-kept = record {
     long = st .long;
     fixed = λ j a. st .other j (λ i c z. absurd (omega arith));
@@ -318,7 +318,7 @@ module _ (s w w′ : List ℕ) (p b : ℕ) (h : Laid s w) (u : p < countAt s 0) 
   mark-exprs : (e : ℕ) → e < countAt s 1 → ExprSame s (limitOf w) w w′ e
   mark-exprs e a = (st .other _ (λ i c z. absurd (omega (arith, here-mark))), λ b′ d. st .other _ (λ i c z. absurd (omega (arith, here-mark))))
 
-  mark-kept : Kept s (limitOf w) w w′
+  mark-kept : Unwritten s (limitOf w) w w′
   mark-kept = record {
     long = st .long;
     fixed = λ j a. st .other j (λ i c z. absurd (omega arith));
@@ -407,7 +407,7 @@ module _ (s w w′ ns : List ℕ) (p : ℕ) (h : Laid s w) (u : p < countAt s 0)
   signal-exprs : (e : ℕ) → e < countAt s 1 → ExprSame s (limitOf w) w w′ e
   signal-exprs e a = (st .other _ (λ i c z. absurd (omega (arith, here-signal))), λ b′ d. st .other _ (λ i c z. absurd (omega (arith, here-signal))))
 
-  signal-kept : Kept s (limitOf w) w w′
+  signal-kept : Unwritten s (limitOf w) w w′
   signal-kept = record {
     long = st .long;
     fixed = λ j a. st .other j (λ i c z. absurd (omega arith));
@@ -474,7 +474,7 @@ module _ (s w w′ ns : List ℕ) (e lsb k f : ℕ) (h : Laid s w) (u : e < coun
     λ b d. other _ (λ z. absurd (omega arith)) (λ i c z. stretch-apart (exprWidth s) e (lsb + i) e′ b (omega arith) d q (omega arith)),
   )
 
-  expr-kept : Kept s (limitOf w) w w′
+  expr-kept : Unwritten s (limitOf w) w w′
   expr-kept = record {
     long = len;
     fixed = λ j a. low j (omega arith);

@@ -1,7 +1,7 @@
 -- The step rule of docs/RULES.md; each of its sentences stands at the definition that it is. The rule is written once, on values; a
 -- module and a netlist only say what they read. Assumes nothing.
 -- "the driver is needed whole", "What a Slice takes is read by bit: .." say which bits must have a value: refusals 6 and 7, in the
--- lowering model. Here every word is computed whole; a bit of it that hangs on no looping or undriven bit is right in any case.
+-- lowering model. Here every word is computed whole; a bit of it that depends on no looping or undriven bit is right in any case.
 use Prim.Native.Nat.{ℕ, zero, suc, _+_, _*_, _-_, _^_}
 use mathlib.Core.Path.{_≡_}
 use mathlib.Core.Bool.{Bool, true, false, not, cond, _&&_, _||_}
@@ -165,7 +165,7 @@ abbrev pub bitCount : List R.Sig → ℕ
 bitCount [] = 0
 bitCount (s ∷ ss) = s .width + bitCount ss
 
--- the values of the signals' bits: as many rounds as there are bits, and one. A bit that does not hang on a loop or on an
+-- the values of the signals' bits: as many rounds as there are bits, and one. A bit that does not depend on a loop or on an
 -- undriven bit has its value then, whatever u is; "A bit read nowhere needs no value."
 abbrev pub settled : Module → Valuation → Setting → Contents → Valuation
 settled m u s c = rounds m s c u (suc (bitCount (m .signals)))

@@ -4,14 +4,20 @@
 --     begins, passed, found, ended, any-yes, any-no      that invariant at the start, at a step and at both ways out
 use Prim.Native.Nat.{ℕ, zero, suc, _+_, _-_, _≤_, _<_}
 use mathlib.Core.Bool.{Bool, true, false, not, true≢false}
+use mathlib.Core.Option.{Option, none as nothing, some}
 use mathlib.Core.Path.{_≡_, refl, sym, ap, _∙_, subst}
-use mathlib.Core.Logic.{⊎-elim}
+use mathlib.Core.Logic.{_⊎_, inl, inr, ⊎-elim}
 use native.Mathlib.Numerals.{add-one}
 use native.Mathlib.Nat.{sub-zero, sub-self, eq-or-lt-of-le}
 use native.Mathlib.Omega.{arith}
 use lib.Dec.{ltb, eqb}
 use borrow.Author.Tests.{lt-ltb, le-ltb, eq-eqb, ne-eqb, ltb-true, ltb-false, eqb-true, eqb-false}
 use Rattle.spec_tests.specs.Rules.{_<?_, _≡?_, _≢?_, _or_, _and_, pick, outside, upTo, first, any, sumTo}
+
+-- whether there is a value
+abbrev pub isSome : {A : Type 0} → Option A → Bool
+isSome nothing = false
+isSome (some a) = true
 
 -- ---- choice, or, and ----
 
@@ -40,6 +46,20 @@ unfolding _and_
 and-skip {a} {b} {r} e q = rw e q
 
 -- a failed `or` is two failed tests, a passed `and` two passed ones
+-- an `or` that holds is one of two tests that hold, and each of them is enough
+pub or-yes : {a b : Bool} → (a or b) ≡ true → (a ≡ true) ⊎ (b ≡ true)
+unfolding _or_
+or-yes {a = true} {b} e = inl refl
+or-yes {a = false} {b} e = inr e
+
+pub or-left : {a : Bool} (b : Bool) → a ≡ true → (a or b) ≡ true
+or-left b e = sym (or-hit b e)
+
+pub or-right : (a : Bool) {b : Bool} → b ≡ true → (a or b) ≡ true
+unfolding _or_
+or-right true e = refl
+or-right false e = e
+
 pub or-no : {a b : Bool} → (a or b) ≡ false → (a ≡ false) × (b ≡ false)
 unfolding _or_
 or-no {a = true} {b} e = absurd (true≢false e)

@@ -34,11 +34,11 @@ use Rattle.net_fold.specs.declared.Filled.the-variants as F
 use Rattle.scratch_view.specs.View.{limitOf, Writes}
 use Rattle.scratch_view.specs.Bounds.{whole-told, expr-count, expr-width}
 use Rattle.scratch_tables.specs.Answers.{Small}
-use Rattle.walk_tasks.specs.Tasks.{JobFits, Read, jobMade}
-use Rattle.walk_tasks.specs.declared.Job.{Job}
-use Rattle.walk_whole_operands.specs.Asked.{NeedWhole, AllWhole, SignalIn, Tabled, Asked}
-use Rattle.walk_range_operands.specs.Asked.{AskedRange}
-use Rattle.law_walk.specs.Kept.{Table, Holds, Makes}
+use Rattle.walk_operands.specs.Tasks.{JobFits, Read, jobMade}
+use Rattle.walk_operands.specs.declared.Job.{Job}
+use Rattle.walk_operands.specs.AskedWhole.{NeedWhole, AllWhole, SignalIn, Tabled, Asked}
+use Rattle.walk_operands.specs.AskedRange.{AskedRange}
+use Rattle.law_walk.specs.Kept.{Table, NetsGive, Makes}
 use Rattle.law_walk.specs.Reads.{below-at}
 use Rattle.walk_plan.specs.Plan.{stepNeeds}
 use Rattle.walk_plan.specs.Fits.{AllFit}
@@ -47,8 +47,9 @@ use Rattle.walk_view.specs.Met.{met, AllMet, Grows, grows-netlist, grows-whole,
 use Rattle.walk_view.specs.View.{indexOf, walkState, There, Ready, Sure, Builds, outOf}
 use Rattle.walk_view.specs.declared.Lowered.{Lowered}
 use Rattle.walk_view.specs.declared.Lowered.the-variants as L
-use Rattle.walk_sure.specs.Stores.{kept-then, stored-ready, stored-kept, stored-state, lent-stays, lent-ready, lent-kept, lent-state}
-use Rattle.walk_sure.specs.Makes.{has, whole-there, range-there, makes-below}
+use Rattle.walk_view.specs.Stores.{kept-then, stored-ready, stored-kept, stored-state}
+use Rattle.walk_invariant.specs.Stores.{lent-stays, lent-ready, lent-kept, lent-state}
+use Rattle.walk_invariant.specs.Makes.{has, whole-there, range-there, makes-below}
 use Rattle.walk_keep.specs.Keeps.{loweredOf, storedBy, Keeps}
 use Rattle.walk_build.specs.Built.{Performed}
 
@@ -155,7 +156,7 @@ job-model model s net w xs ys k j l r out net′ w′ a p = record {
 
 -- the nets made are numbers of nets
 pub small : {l : Netlist} {t : Table} {u : Valuation → List Bool} (model : Made (List ℕ)) (s net w net′ w′ xs : List ℕ) (k : ℕ) (r : Filled) → k ≤ length xs
-    → Makes l (λ ns l₁. Holds l₁ t ns u) model → Performed model s net w r (take k xs) net′ w′ → r ≡ F.Done → Small k xs
+    → Makes l (λ ns l₁. NetsGive l₁ t ns u) model → Performed model s net w r (take k xs) net′ w′ → r ≡ F.Done → Small k xs
 small model s net w net′ w′ xs k r long m p e i v =
     let l = netlistOf (limitOf w) net′ in
     let b = makes-below model (take k xs) l m (p .says ∙ ap (λ (x : Filled). filledOf x (take k xs) l) e) in

@@ -1,22 +1,18 @@
 // What an expression, or a range of it, is made of once its operands are lowered: they are read from the tables, the nets are made, and
 // the tables keep them. Follows the ends of `lower_expression` and `lower_expression_range` of struo-synth.
 ghost use mathlib.Core.Path.{_≡_};
-ghost use mathlib.Core.Bool.{false};
 ghost use Prim.Native.Nat.{_+_, _≤_, _<_};
 ghost use lib.ListN.{length, take};
 ghost use Rattle.spec_rules.specs.Image.{countAt, exprWidth};
-ghost use Rattle.spec_model.specs.Lowering as model;
-ghost use Rattle.expr_laws.specs.Exprs.{exprsOf};
 ghost use Rattle.net_view.specs.View.{netlistOf};
 ghost use Rattle.net_gates.specs.Nots.{PlainNots};
 ghost use Rattle.scratch_view.specs.View.{limitOf};
-ghost use Rattle.walk_tasks.specs.Tasks.{jobMade, JobFits};
-ghost use Rattle.walk_whole_operands.specs.Asked.{Room};
-ghost use Rattle.walk_view.specs.Met.{AllMet};
-ghost use Rattle.walk_view.specs.View.{walkState, Ready, Sure, Builds};
-ghost use Rattle.walk_build.specs.Built.{Performed};
+ghost use Rattle.walk_operands.specs.Tasks.{jobMade, JobFits};
+ghost use Rattle.walk_operands.specs.AskedWhole.{Room};
+ghost use Rattle.walk_view.specs.View.{Ready, Sure};
+ghost use Rattle.walk_build.specs.Built.{Performed, WholeMet, RangeMet, BuildsWhole, BuildsRange};
 use net_fold::Filled;
-use walk_tasks::Job;
+use walk_operands::Job;
 use walk_view::Lowered;
 
 // What a job makes of the nets read; the index is a part of the scratch.
@@ -32,9 +28,18 @@ fn make(
     requires { ⌜ (Ready (now image) (now net) (now scr)) × (JobFits (length (now xs)) w job) × (length (now xs) ≤ 1024) × (length (now ys) ≡ length (now xs)) × (PlainNots (netlistOf (limitOf (now scr)) (now net))) ⌝ }
     ensures { λ r. ⌜ Performed (jobMade (now (image .entry)) w job (now (xs .entry)) (now (ys .entry)) (netlistOf (limitOf (now (scr .entry))) (now (net .entry)))) (now (image .entry)) (now (net .entry)) (now (scr .entry)) r (take w (now (xs .exit))) (now (net .exit)) (now (scr .exit)) ⌝ }
 {
-    let n = scr[0];
-    let end = 64 + 4 * (n as usize);
-    walk_perform::perform(image, net, &mut scr[64..end], n, job, w, xs, ys)
+    let n = scr[scratch_view::LIMIT];
+    let end = scratch_view::FIXED + 4 * (n as usize);
+    walk_perform::perform(
+        image,
+        net,
+        &mut scr[scratch_view::FIXED..end],
+        n,
+        job,
+        w,
+        xs,
+        ys,
+    )
 }
 
 // A whole expression, made in two lists.
@@ -46,19 +51,19 @@ fn whole_in(
     xs: &mut [u32],
     ys: &mut [u32],
 ) -> Lowered
-    requires { ⌜ (Ready (now image) (now net) (now scr)) × (Sure (now image) (now net) (now scr)) × (e < countAt (now image) 1) × (AllMet (walkState (now image) (now net) (now scr)) (model.wholeSteps (exprsOf (now image)) e)) × (Room (now image) (length (now xs)) e) × (length (now xs) ≤ 1024) × (length (now ys) ≡ length (now xs)) ⌝ }
-    ensures { λ r. ⌜ Builds (model.keepWhole (walkState (now (image .entry)) (now (net .entry)) (now (scr .entry))) e (model.buildWhole (exprsOf (now (image .entry))) false (walkState (now (image .entry)) (now (net .entry)) (now (scr .entry))) e)) (now (image .entry)) (now (net .entry)) (now (scr .entry)) (model.Whole e) r (now (net .exit)) (now (scr .exit)) ⌝ }
+    requires { ⌜ (Ready (now image) (now net) (now scr)) × (Sure (now image) (now net) (now scr)) × (e < countAt (now image) 1) × (WholeMet (now image) (now net) (now scr) e) × (Room (now image) (length (now xs)) e) × (length (now xs) ≤ 1024) × (length (now ys) ≡ length (now xs)) ⌝ }
+    ensures { λ r. ⌜ BuildsWhole (now (image .entry)) (now (net .entry)) (now (scr .entry)) e r (now (net .exit)) (now (scr .exit)) ⌝ }
 {
     let w = image_fields::expr_width(image, e);
-    let job = walk_whole_operands::read_whole(image, scr, e, xs, ys);
+    let job = walk_operands::read_whole(image, scr, e, xs, ys);
     let made = make(image, net, scr, job, w, xs, ys);
     walk_keep::keep_whole(image, scr, e, xs, w, made)
 }
 
 // A narrow expression.
 fn whole_small(image: &[u8], net: &mut [u32], scr: &mut [u32], e: u32) -> Lowered
-    requires { ⌜ (Ready (now image) (now net) (now scr)) × (Sure (now image) (now net) (now scr)) × (e < countAt (now image) 1) × (AllMet (walkState (now image) (now net) (now scr)) (model.wholeSteps (exprsOf (now image)) e)) × (Room (now image) 64 e) ⌝ }
-    ensures { λ r. ⌜ Builds (model.keepWhole (walkState (now (image .entry)) (now (net .entry)) (now (scr .entry))) e (model.buildWhole (exprsOf (now (image .entry))) false (walkState (now (image .entry)) (now (net .entry)) (now (scr .entry))) e)) (now (image .entry)) (now (net .entry)) (now (scr .entry)) (model.Whole e) r (now (net .exit)) (now (scr .exit)) ⌝ }
+    requires { ⌜ (Ready (now image) (now net) (now scr)) × (Sure (now image) (now net) (now scr)) × (e < countAt (now image) 1) × (WholeMet (now image) (now net) (now scr) e) × (Room (now image) 64 e) ⌝ }
+    ensures { λ r. ⌜ BuildsWhole (now (image .entry)) (now (net .entry)) (now (scr .entry)) e r (now (net .exit)) (now (scr .exit)) ⌝ }
 {
     let mut xs = [0u32; 64];
     let mut ys = [0u32; 64];
@@ -66,8 +71,8 @@ fn whole_small(image: &[u8], net: &mut [u32], scr: &mut [u32], e: u32) -> Lowere
 }
 
 fn whole_large(image: &[u8], net: &mut [u32], scr: &mut [u32], e: u32) -> Lowered
-    requires { ⌜ (Ready (now image) (now net) (now scr)) × (Sure (now image) (now net) (now scr)) × (e < countAt (now image) 1) × AllMet (walkState (now image) (now net) (now scr)) (model.wholeSteps (exprsOf (now image)) e) ⌝ }
-    ensures { λ r. ⌜ Builds (model.keepWhole (walkState (now (image .entry)) (now (net .entry)) (now (scr .entry))) e (model.buildWhole (exprsOf (now (image .entry))) false (walkState (now (image .entry)) (now (net .entry)) (now (scr .entry))) e)) (now (image .entry)) (now (net .entry)) (now (scr .entry)) (model.Whole e) r (now (net .exit)) (now (scr .exit)) ⌝ }
+    requires { ⌜ (Ready (now image) (now net) (now scr)) × (Sure (now image) (now net) (now scr)) × (e < countAt (now image) 1) × WholeMet (now image) (now net) (now scr) e ⌝ }
+    ensures { λ r. ⌜ BuildsWhole (now (image .entry)) (now (net .entry)) (now (scr .entry)) e r (now (net .exit)) (now (scr .exit)) ⌝ }
 {
     let mut xs = [0u32; 1024];
     let mut ys = [0u32; 1024];
@@ -75,10 +80,10 @@ fn whole_large(image: &[u8], net: &mut [u32], scr: &mut [u32], e: u32) -> Lowere
 }
 
 pub fn build_whole(image: &[u8], net: &mut [u32], scr: &mut [u32], e: u32) -> Lowered
-    requires { ⌜ (Ready (now image) (now net) (now scr)) × (Sure (now image) (now net) (now scr)) × (e < countAt (now image) 1) × AllMet (walkState (now image) (now net) (now scr)) (model.wholeSteps (exprsOf (now image)) e) ⌝ }
-    ensures { λ r. ⌜ Builds (model.keepWhole (walkState (now (image .entry)) (now (net .entry)) (now (scr .entry))) e (model.buildWhole (exprsOf (now (image .entry))) false (walkState (now (image .entry)) (now (net .entry)) (now (scr .entry))) e)) (now (image .entry)) (now (net .entry)) (now (scr .entry)) (model.Whole e) r (now (net .exit)) (now (scr .exit)) ⌝ }
+    requires { ⌜ (Ready (now image) (now net) (now scr)) × (Sure (now image) (now net) (now scr)) × (e < countAt (now image) 1) × WholeMet (now image) (now net) (now scr) e ⌝ }
+    ensures { λ r. ⌜ BuildsWhole (now (image .entry)) (now (net .entry)) (now (scr .entry)) e r (now (net .exit)) (now (scr .exit)) ⌝ }
 {
-    if walk_whole_operands::is_narrow(image, e) {
+    if walk_operands::is_narrow(image, e) {
         return whole_small(image, net, scr, e);
     }
     whole_large(image, net, scr, e)
@@ -95,18 +100,18 @@ fn range_in(
     xs: &mut [u32],
     ys: &mut [u32],
 ) -> Lowered
-    requires { ⌜ (Ready (now image) (now net) (now scr)) × (Sure (now image) (now net) (now scr)) × (e < countAt (now image) 1) × (1 ≤ w) × (lsb + w ≤ exprWidth (now image) e) × (AllMet (walkState (now image) (now net) (now scr)) (model.rangeSteps (exprsOf (now image)) e lsb w)) × (w ≤ length (now xs)) × (length (now xs) ≤ 1024) × (length (now ys) ≡ length (now xs)) ⌝ }
-    ensures { λ r. ⌜ Builds (model.keepRange (walkState (now (image .entry)) (now (net .entry)) (now (scr .entry))) e lsb (model.buildRange (exprsOf (now (image .entry))) false (walkState (now (image .entry)) (now (net .entry)) (now (scr .entry))) e lsb w)) (now (image .entry)) (now (net .entry)) (now (scr .entry)) (model.Range e lsb w) r (now (net .exit)) (now (scr .exit)) ⌝ }
+    requires { ⌜ (Ready (now image) (now net) (now scr)) × (Sure (now image) (now net) (now scr)) × (e < countAt (now image) 1) × (1 ≤ w) × (lsb + w ≤ exprWidth (now image) e) × (RangeMet (now image) (now net) (now scr) e lsb w) × (w ≤ length (now xs)) × (length (now xs) ≤ 1024) × (length (now ys) ≡ length (now xs)) ⌝ }
+    ensures { λ r. ⌜ BuildsRange (now (image .entry)) (now (net .entry)) (now (scr .entry)) e lsb w r (now (net .exit)) (now (scr .exit)) ⌝ }
 {
-    let job = walk_range_operands::read_range(image, scr, e, lsb, w, xs, ys);
+    let job = walk_operands::read_range(image, scr, e, lsb, w, xs, ys);
     let made = make(image, net, scr, job, w, xs, ys);
     walk_keep::keep_range(image, scr, e, lsb, xs, w, made)
 }
 
 // A narrow range.
 fn range_small(image: &[u8], net: &mut [u32], scr: &mut [u32], e: u32, lsb: u32, w: u32) -> Lowered
-    requires { ⌜ (Ready (now image) (now net) (now scr)) × (Sure (now image) (now net) (now scr)) × (e < countAt (now image) 1) × (1 ≤ w) × (lsb + w ≤ exprWidth (now image) e) × (AllMet (walkState (now image) (now net) (now scr)) (model.rangeSteps (exprsOf (now image)) e lsb w)) × (w ≤ 64) ⌝ }
-    ensures { λ r. ⌜ Builds (model.keepRange (walkState (now (image .entry)) (now (net .entry)) (now (scr .entry))) e lsb (model.buildRange (exprsOf (now (image .entry))) false (walkState (now (image .entry)) (now (net .entry)) (now (scr .entry))) e lsb w)) (now (image .entry)) (now (net .entry)) (now (scr .entry)) (model.Range e lsb w) r (now (net .exit)) (now (scr .exit)) ⌝ }
+    requires { ⌜ (Ready (now image) (now net) (now scr)) × (Sure (now image) (now net) (now scr)) × (e < countAt (now image) 1) × (1 ≤ w) × (lsb + w ≤ exprWidth (now image) e) × (RangeMet (now image) (now net) (now scr) e lsb w) × (w ≤ 64) ⌝ }
+    ensures { λ r. ⌜ BuildsRange (now (image .entry)) (now (net .entry)) (now (scr .entry)) e lsb w r (now (net .exit)) (now (scr .exit)) ⌝ }
 {
     let mut xs = [0u32; 64];
     let mut ys = [0u32; 64];
@@ -114,8 +119,8 @@ fn range_small(image: &[u8], net: &mut [u32], scr: &mut [u32], e: u32, lsb: u32,
 }
 
 fn range_large(image: &[u8], net: &mut [u32], scr: &mut [u32], e: u32, lsb: u32, w: u32) -> Lowered
-    requires { ⌜ (Ready (now image) (now net) (now scr)) × (Sure (now image) (now net) (now scr)) × (e < countAt (now image) 1) × (1 ≤ w) × (lsb + w ≤ exprWidth (now image) e) × AllMet (walkState (now image) (now net) (now scr)) (model.rangeSteps (exprsOf (now image)) e lsb w) ⌝ }
-    ensures { λ r. ⌜ Builds (model.keepRange (walkState (now (image .entry)) (now (net .entry)) (now (scr .entry))) e lsb (model.buildRange (exprsOf (now (image .entry))) false (walkState (now (image .entry)) (now (net .entry)) (now (scr .entry))) e lsb w)) (now (image .entry)) (now (net .entry)) (now (scr .entry)) (model.Range e lsb w) r (now (net .exit)) (now (scr .exit)) ⌝ }
+    requires { ⌜ (Ready (now image) (now net) (now scr)) × (Sure (now image) (now net) (now scr)) × (e < countAt (now image) 1) × (1 ≤ w) × (lsb + w ≤ exprWidth (now image) e) × RangeMet (now image) (now net) (now scr) e lsb w ⌝ }
+    ensures { λ r. ⌜ BuildsRange (now (image .entry)) (now (net .entry)) (now (scr .entry)) e lsb w r (now (net .exit)) (now (scr .exit)) ⌝ }
 {
     let mut xs = [0u32; 1024];
     let mut ys = [0u32; 1024];
@@ -130,8 +135,8 @@ pub fn build_range(
     lsb: u32,
     w: u32,
 ) -> Lowered
-    requires { ⌜ (Ready (now image) (now net) (now scr)) × (Sure (now image) (now net) (now scr)) × (e < countAt (now image) 1) × (1 ≤ w) × (lsb + w ≤ exprWidth (now image) e) × AllMet (walkState (now image) (now net) (now scr)) (model.rangeSteps (exprsOf (now image)) e lsb w) ⌝ }
-    ensures { λ r. ⌜ Builds (model.keepRange (walkState (now (image .entry)) (now (net .entry)) (now (scr .entry))) e lsb (model.buildRange (exprsOf (now (image .entry))) false (walkState (now (image .entry)) (now (net .entry)) (now (scr .entry))) e lsb w)) (now (image .entry)) (now (net .entry)) (now (scr .entry)) (model.Range e lsb w) r (now (net .exit)) (now (scr .exit)) ⌝ }
+    requires { ⌜ (Ready (now image) (now net) (now scr)) × (Sure (now image) (now net) (now scr)) × (e < countAt (now image) 1) × (1 ≤ w) × (lsb + w ≤ exprWidth (now image) e) × RangeMet (now image) (now net) (now scr) e lsb w ⌝ }
+    ensures { λ r. ⌜ BuildsRange (now (image .entry)) (now (net .entry)) (now (scr .entry)) e lsb w r (now (net .exit)) (now (scr .exit)) ⌝ }
 {
     if w <= 64 {
         return range_small(image, net, scr, e, lsb, w);

@@ -13,9 +13,10 @@ use Rattle.walk_view.specs.Met.{stepNeed, AllMet, Grows, all-grow}
 use Rattle.walk_view.specs.View.{walkState, Ready, Sure, Kept, outOf, There, Gives}
 use Rattle.walk_view.specs.declared.Lowered.{Lowered}
 use Rattle.walk_view.specs.declared.Lowered.the-variants.{Done}
-use Rattle.walk_sure.specs.Sure.{sure-done}
+use Rattle.walk_invariant.specs.Sure.{sure-done}
 use Rattle.walk_view.specs.Stores.{kept-same, kept-then}
-use Rattle.walk_invariant.specs.Answers.{Refused, out, not-done}
+use Rattle.walk_view.specs.Phases.{then-then}
+use Rattle.walk_view.specs.Answers.{Refused, out, not-done}
 use Rattle.walk_invariant.specs.Fuel.{cost-enough}
 
 -- ---- the model's steps ----
@@ -25,10 +26,6 @@ module _ (rec : Need → State → Out State) where
   unfolding lowerSteps
   step-on (Always n) ss st = refl
   step-on (Unless c v n) ss st = refl
-
-  then-then : (o : Out State) (f g : State → Out State) → andThen (andThen o f) g ≡ andThen o (λ st. andThen (f st) g)
-  then-then (refused n x y) f g = refl
-  then-then (done st) f g = refl
 
   steps-append : (ss ts : List Step) (st : State) → lowerSteps rec false (ss ++ ts) st ≡ andThen (lowerSteps rec false ss st) (λ st₁. lowerSteps rec false ts st₁)
   unfolding lowerSteps

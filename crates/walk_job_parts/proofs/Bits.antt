@@ -12,7 +12,7 @@ use lib.Pow.{high, field, shr-shr}
 use lib.Seq.{length-take-le, take-all, take-suc-set, getD-set-same, getD-set-other, getD-take, getD-drop, ext-getD}
 use Rattle.spec_rtl.specs.Word.{odd, bits, length-bits, bits-eq}
 use Rattle.spec_rules.specs.Image.{listWord, constantWords, constantOf}
-use Rattle.net_fold_bits.specs.Digits.{held}
+use Rattle.net_fold.specs.Digits.{held}
 use Rattle.spec_model.specs.Words.{Netlist}
 use Rattle.spec_model.specs.Builder.{each, addConstant}
 use Rattle.net_fold.specs.Values.{Fills}

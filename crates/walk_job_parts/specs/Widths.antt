@@ -5,8 +5,8 @@ use Prim.Native.Nat.{ℕ, _-_, min}
 use lib.ListN.{length, replicate}
 use Rattle.spec_model.specs.Words.{Netlist}
 use Rattle.spec_model.specs.Builder.{Made, done, andThen, addConstant}
-use Rattle.walk_tasks.specs.declared.Task.{Task}
-use Rattle.walk_tasks.specs.declared.Task.the-variants.{Copied, Constant, Unary, Binary, Carried, Mux}
+use Rattle.walk_operands.specs.declared.Task.{Task}
+use Rattle.walk_operands.specs.declared.Task.the-variants.{Copied, Constant, Unary, Binary, Carried, Mux}
 
 -- of a task of width v in a job of width w
 abbrev pub madeWidth : ℕ → ℕ → Task → ℕ

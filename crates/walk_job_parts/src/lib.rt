@@ -8,13 +8,13 @@ ghost use Rattle.spec_rules.specs.Image.{listWord, constantOf};
 ghost use Rattle.spec_model.specs.Builder.{each, addConstant};
 ghost use Rattle.net_view.specs.View.{netlistOf};
 ghost use Rattle.net_index.specs.Index.{Held};
-ghost use Rattle.net_fold_bits.specs.Digits.{held};
+ghost use Rattle.net_fold.specs.Digits.{held};
 ghost use Rattle.net_fold.specs.Values.{Fills};
-ghost use Rattle.walk_tasks.specs.Tasks.{Fits};
+ghost use Rattle.walk_operands.specs.Tasks.{Fits};
 ghost use Rattle.walk_job_parts.specs.Widths.{madeWidth, extended};
 use net_fold::Filled;
 use net_nodes::Added;
-use walk_tasks::Task;
+use walk_operands::Task;
 
 // Bit b of the constant whose list words begin at start.
 fn constant_bit(image: &[u8], start: u32, b: u32) -> u32
@@ -37,7 +37,7 @@ fn put_bits(image: &[u8], start: u32, lsb: u32, out: &mut [u32])
     }
 }
 
-fn add_bits(
+fn add_constant_bits(
     image: &[u8],
     net: &mut [u32],
     idx: &mut [u32],
@@ -51,12 +51,6 @@ fn add_bits(
 {
     put_bits(image, start, lsb, out);
     net_fold::add_constants(net, idx, n, out)
-}
-
-fn lesser(a: u32, b: u32) -> u32
-    ensures { λ r. ⌜ r ≡ min a b ⌝ }
-{
-    if a < b { a } else { b }
 }
 
 // At most w bits, from bit lsb on, of a constant of width v.
@@ -74,8 +68,8 @@ pub fn constant(
     requires { ⌜ (Held n (now net) (now idx)) × (start ≤ 8192) × (lsb ≤ v) × (v ≤ 1024) × (w ≤ length (now xs)) ⌝ }
     ensures { λ r. ⌜ Fills (each addConstant (take w (drop lsb (bits v (constantOf (now (image .entry)) v start)))) (netlistOf n (now (net .entry)))) n r (take (min w (v - lsb)) (now (xs .exit))) (now (net .exit)) (now (idx .exit)) ⌝ }
 {
-    let m = lesser(w, v - lsb) as usize;
-    add_bits(image, net, idx, n, start, lsb, &mut xs[..m])
+    let m = word_order::smaller(w, v - lsb) as usize;
+    add_constant_bits(image, net, idx, n, start, lsb, &mut xs[..m])
 }
 
 // The words from a to e all z.
@@ -110,7 +104,7 @@ pub fn task_width(task: Task, v: u32, w: u32) -> u32
 {
     match task {
         Task::Copied => w,
-        Task::Constant(_, k, lsb) => lesser(w, k - lsb),
+        Task::Constant(_, k, lsb) => word_order::smaller(w, k - lsb),
         Task::Unary(_, _) => v,
         Task::Binary(_, _, _) => v,
         Task::Carried(_, _) => v,

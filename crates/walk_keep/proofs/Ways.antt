@@ -7,7 +7,7 @@ use Rattle.net_fold.specs.declared.Filled.{Filled}
 use Rattle.net_fold.specs.declared.Filled.the-variants as F
 use Rattle.scratch_view.specs.View.{Laid, Writes}
 use Rattle.walk_view.specs.declared.Lowered.the-variants as L
-use Rattle.walk_sure.specs.Stores.{no-store}
+use Rattle.walk_view.specs.Stores.{no-store}
 use Rattle.walk_keep.specs.Keeps.{Keeps}
 
 module _ (op : State → State) (s w : List ℕ) (made : Filled) where

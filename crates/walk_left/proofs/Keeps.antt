@@ -15,8 +15,8 @@ use Rattle.scratch_view.specs.Reads.{whole-net}
 use Rattle.scratch_tables.specs.Answers.{ExprNet}
 use Rattle.walk_view.specs.declared.Lowered.{Lowered}
 use Rattle.walk_view.specs.declared.Lowered.the-variants.{Done, Undriven, Loop, Reset, TooManyNets, ListFull}
-use Rattle.walk_sure.specs.Stores.{no-store}
-use Rattle.walk_invariant.specs.Answers.{Refused}
+use Rattle.walk_view.specs.Stores.{no-store}
+use Rattle.walk_view.specs.Answers.{Refused}
 use Rattle.walk_left.specs.Left.{driven, Keeps}
 
 pub keep-refused : (s w : List ℕ) (p b e o : ℕ) (x : Lowered) → Laid s w → Refused x → Keeps s w p b e o x x w

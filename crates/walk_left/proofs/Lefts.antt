@@ -5,6 +5,7 @@ use mathlib.Core.List.{List, [], _∷_, _++_, append-assoc}
 use Prim.Native.Nat.{ℕ, _+_, _≤_, _<_}
 use native.Mathlib.Omega.{arith}
 use lib.ListN.{drop}
+use Rattle.spec_tests.specs.Laws.{isSome}
 use Rattle.spec_model.specs.Words.{Netlist}
 use Rattle.spec_model.specs.Lowering as M
 use Rattle.spec_model.specs.Lowering.{State, signalBit}
@@ -12,7 +13,7 @@ use Rattle.scratch_view.specs.View.{stateOf}
 use Rattle.scratch_tables.specs.declared.Known.{Known}
 use Rattle.scratch_tables.specs.declared.Known.the-variants.{Net}
 use Rattle.scratch_tables.specs.Answers.{knownOf}
-use Rattle.walk_view.specs.Met.{met, isSome}
+use Rattle.walk_view.specs.Met.{met}
 use Rattle.walk_plan.specs.declared.Need.{Need}
 use Rattle.walk_plan.specs.declared.Need.the-variants.{Bit, Whole, Range, Nothing}
 use Rattle.walk_plan.specs.declared.Turn.{Turn}

@@ -31,8 +31,8 @@ use Rattle.scratch_view.specs.View as view
 use Rattle.scratch_view.specs.View.{limitOf, netWord, isWhole, stateOf, Laid}
 use Rattle.scratch_view.specs.Laws.{netWord-some, expr-ends}
 use Rattle.scratch_view.specs.Reads.{read-range, whole-nets, whole-net}
-use Rattle.walk_tasks.specs.Tasks.{taskMade, narrowOf, cutTo, Read}
-use Rattle.walk_tasks.specs.declared.Task.the-variants as T
+use Rattle.walk_operands.specs.Tasks.{taskMade, narrowOf, cutTo, Read}
+use Rattle.walk_operands.specs.declared.Task.the-variants as T
 use Rattle.walk_operands.specs.Reads.{WholeIn, CopiedWhole, partsWidth, MuxIn, CarryIn, AddIn, addMade}
 
 -- ---- copies ----

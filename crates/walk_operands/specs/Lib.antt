@@ -1,2 +1,5 @@
--- What the functions that read operands give.
+-- What tasks stand for, what the functions that read operands ask and give.
+pub mod AskedRange
+pub mod AskedWhole
+pub mod Tasks
 pub mod Reads

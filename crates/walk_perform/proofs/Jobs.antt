@@ -12,10 +12,10 @@ use Rattle.net_fold.specs.Values.{Fills}
 use Rattle.net_fold.specs.declared.Filled.{Filled}
 use Rattle.net_fold.specs.declared.Filled.the-variants.{Done}
 use Rattle.op_bits.proofs.Laws.{NotDone, list-by, first-out, first-then}
-use Rattle.walk_tasks.specs.Tasks.{taskMade, narrowOf, jobMade, Fits, cutTo, JobFits}
-use Rattle.walk_tasks.specs.declared.Task.{Task}
-use Rattle.walk_tasks.specs.declared.Task.the-variants.{Copied, Constant, Unary, Binary, Carried, Mux}
-use Rattle.walk_tasks.specs.declared.Job.{Job}
+use Rattle.walk_operands.specs.Tasks.{taskMade, narrowOf, jobMade, Fits, cutTo, JobFits}
+use Rattle.walk_operands.specs.declared.Task.{Task}
+use Rattle.walk_operands.specs.declared.Task.the-variants.{Copied, Constant, Unary, Binary, Carried, Mux}
+use Rattle.walk_operands.specs.declared.Job.{Job}
 use Rattle.walk_job_parts.specs.Widths.{madeWidth, extended}
 
 -- ---- widths ----

@@ -16,7 +16,7 @@ use Rattle.image_records.specs.declared.BinaryOp.{BinaryOp}
 use Rattle.image_records.specs.declared.BinaryOp.the-variants as B
 use Rattle.walk_job_parts.proofs.Lent.{back-front}
 use Rattle.op_makers.specs.Class.{classOf}
-use Rattle.op_lower.specs.Operators.{unaryWidth, classWidth, Fit}
+use Rattle.op_lower.specs.Operators.{unaryWidth, classWidth, OperandsFit}
 use Rattle.op_makers.specs.declared.Class.{Class}
 use Rattle.op_makers.specs.declared.Class.the-variants.{Bitwise, Arithmetic, Equal, NotEqual, Compare, CompareBack, Shift}
 
@@ -82,7 +82,7 @@ binary-wide B.ShiftLeft v j k h = h
 binary-wide B.ShiftRightLogical v j k h = h
 binary-wide B.ShiftRightArithmetic v j k h = h
 
-pub binary-fit : (op : BinaryOp) (v j k : ℕ) → BinWidth (binaryMeans op) v j k → Fit (classOf op) j k
+pub binary-fit : (op : BinaryOp) (v j k : ℕ) → BinWidth (binaryMeans op) v j k → OperandsFit (classOf op) j k
 unfolding binaryMeans classOf
 binary-fit B.And v j k h = h .0 ∙ sym (h .1)
 binary-fit B.Or v j k h = h .0 ∙ sym (h .1)

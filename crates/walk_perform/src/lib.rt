@@ -14,15 +14,15 @@ ghost use Rattle.net_gates.specs.Nots.{PlainNots};
 ghost use Rattle.net_fold.specs.Values.{Fills};
 ghost use Rattle.image_records.specs.Expr.{unaryMeans, binaryMeans};
 ghost use Rattle.op_makers.specs.Class.{classOf};
-ghost use Rattle.op_lower.specs.Operators.{unaryWidth, classWidth, Fit};
-ghost use Rattle.walk_tasks.specs.Tasks.{taskMade, jobMade, Fits, JobFits};
+ghost use Rattle.op_lower.specs.Operators.{unaryWidth, classWidth, OperandsFit};
+ghost use Rattle.walk_operands.specs.Tasks.{taskMade, jobMade, Fits, JobFits};
 ghost use Rattle.walk_job_parts.specs.Widths.{madeWidth};
 use image_records::BinaryOp;
 use image_records::UnaryOp;
 use net_fold::ArithmeticOp;
 use net_fold::Filled;
-use walk_tasks::Job;
-use walk_tasks::Task;
+use walk_operands::Job;
+use walk_operands::Task;
 
 fn mux(
     net: &mut [u32],
@@ -58,7 +58,7 @@ fn binary(
     xs: &mut [u32],
     ys: &[u32],
 ) -> Filled
-    requires { ⌜ (Held n (now net) (now idx)) × (0 < j) × (j ≤ 1024) × (j ≤ length (now xs)) × (k ≤ length (now ys)) × (Fit (classOf op) j k) × (PlainNots (netlistOf n (now net))) ⌝ }
+    requires { ⌜ (Held n (now net) (now idx)) × (0 < j) × (j ≤ 1024) × (j ≤ length (now xs)) × (k ≤ length (now ys)) × (OperandsFit (classOf op) j k) × (PlainNots (netlistOf n (now net))) ⌝ }
     ensures { λ r. ⌜ Fills (lowerBinary (binaryMeans op) (take j (now (xs .entry))) (take k (now (ys .entry))) (netlistOf n (now (net .entry)))) n r (take (classWidth (classOf op) j) (now (xs .exit))) (now (net .exit)) (now (idx .exit)) ⌝ }
 {
     let a = j as usize;
@@ -80,7 +80,7 @@ fn carried(
     ensures { λ r. ⌜ Fills (W.arithmetic B.Add (take k (now (xs .entry))) (take k (now (ys .entry))) (some c) (netlistOf n (now (net .entry)))) n r (take k (now (xs .exit))) (now (net .exit)) (now (idx .exit)) ⌝ }
 {
     let m = k as usize;
-    net_word_cells::arithmetic(net, idx, n, ArithmeticOp::Add, c, &mut xs[..m], &ys[..m])
+    net_cells::arithmetic(net, idx, n, ArithmeticOp::Add, c, &mut xs[..m], &ys[..m])
 }
 
 // The nets of a task of width v, in a job of width w.

@@ -1,2 +1,1 @@
 -- Laws that the proofs of the plan's functions cite.
-pub mod Among

@@ -27,11 +27,12 @@ use Rattle.image_records.specs.declared.BinaryOp.{BinaryOp}
 use Rattle.image_records.specs.declared.BinaryOp.the-variants as B
 use Rattle.image_records.specs.declared.ExprKind.{ExprKind}
 use Rattle.image_records.specs.declared.ExprKind.the-variants as K
+use Rattle.image_records.specs.OpClass.{bitwise}
 use Rattle.expr_laws.specs.Exprs.{exprsOf, length-exprs}
 use Rattle.law_accepted.specs.Formed.{readable}
 use Rattle.walk_view.specs.Image.{fits, width-is, width-at, below-each}
 use Rattle.walk_view.specs.View.{rankOf, There}
-use Rattle.walk_plan.specs.Plan.{stepNeeds, BitsThere, operandNeeds, kindNeeds, wholeNeeds, Asked, bitwise, unaryNeeds, binaryNeeds, pieceStep, partNeeds, lowFirst, kindRest, AskedRange, rangeRest}
+use Rattle.walk_plan.specs.Plan.{stepNeeds, BitsThere, operandNeeds, kindNeeds, wholeNeeds, Asked, unaryNeeds, binaryNeeds, pieceStep, partNeeds, lowFirst, kindRest, AskedRange, rangeRest}
 use Rattle.walk_plan.specs.Lists.{piece-next}
 use Rattle.walk_plan.specs.Kinds.{none-left, binary-yes, binary-no, whole-read, needs-short, rest-short}
 

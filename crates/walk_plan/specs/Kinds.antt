@@ -7,6 +7,7 @@ use Prim.Native.Nat.{ℕ, _+_, _-_, _≤_, _<_, min, max}
 use native.Mathlib.Omega.{arith}
 use lib.ListN.{length, drop, drop-of-length-le}
 use borrow.Author.Tests.{lt-ltb, le-ltb}
+use Rattle.spec_tests.specs.Laws.{isSome}
 use Rattle.spec_rules.specs.Image.{countAt, exprWidth, listWord}
 use Rattle.spec_rtl.specs.Rtl as R
 use Rattle.spec_model.specs.Ranges.{Gate, classOf, widthAt}
@@ -19,14 +20,14 @@ use Rattle.image_records.specs.declared.ExprKind.{ExprKind}
 use Rattle.image_records.specs.declared.ExprKind.the-variants as K
 use Rattle.image_records.specs.declared.Expression.{Expression}
 use Rattle.expr_laws.specs.Exprs.{exprsOf, Readable, width-at, width-read, kind-read}
-use Rattle.image_operators.specs.OpClass.{opClassOf, addsOf, add-class}
-use Rattle.image_operators.specs.declared.OpClass.{OpClass}
-use Rattle.walk_view.specs.Met.{isSome}
+use Rattle.image_records.specs.OpClass.{opClassOf, addsOf, add-class}
+use Rattle.image_records.specs.declared.OpClass.{OpClass}
+use Rattle.image_records.specs.OpClass.{bitwise}
 use Rattle.walk_plan.specs.declared.Need.{Need}
 use Rattle.walk_plan.specs.declared.Need.the-variants.{Bit, Whole, Range, Nothing}
 use Rattle.walk_plan.specs.declared.Turn.{Turn}
 use Rattle.walk_plan.specs.declared.Turn.the-variants.{Lower, Last, Bits, Build}
-use Rattle.walk_plan.specs.Plan.{needsOf, stepNeeds, bitsNeeds, TurnOf, TurnIn, plainOf, operandNeeds, pairNeeds, tripleNeeds, lowFirst, partsNeeds, kindNeeds, wholeNeeds, Asked, bitwise, unaryNeeds, binaryNeeds, muxRanges, pieceStep, partNeeds, piecesNeeds, kindRest, AskedParts, AskedRange, rangeRest}
+use Rattle.walk_plan.specs.Plan.{needsOf, stepNeeds, bitsNeeds, TurnOf, TurnIn, plainOf, operandNeeds, pairNeeds, tripleNeeds, lowFirst, partsNeeds, kindNeeds, wholeNeeds, Asked, unaryNeeds, binaryNeeds, muxRanges, pieceStep, partNeeds, piecesNeeds, kindRest, AskedParts, AskedRange, rangeRest}
 use Rattle.walk_plan.specs.Lists.{signal-length, low-length, low-next, wholes-length, wholes-drop, piece-next}
 
 -- ---- operands ----
@@ -143,7 +144,7 @@ module _ (e a b lsb w : ℕ) where
   unfolding binaryNeeds bitwise
   binary-no op h = gate-no (gateOf (classOf (binaryMeans op))) h
 
--- what part_range answers
+-- what part_range_need answers
 module _ (lsb end at p v : ℕ) where
   pub part-yes : (lo hi : ℕ) → lo ≡ max lsb at → hi ≡ min end (at + v) → lo < hi → partNeeds lsb end at p v ≡ M.Range p (lo - at) (hi - lo) ∷ []
   unfolding partNeeds

@@ -15,7 +15,7 @@ use Rattle.spec_model.specs.Builder.{from}
 use Rattle.spec_model.specs.Ranges.{widthAt}
 use Rattle.spec_model.specs.Lowering as M
 use Rattle.spec_model.specs.Lowering.{signalSteps, wholes, backwards, pieces}
-use Rattle.expr_laws.specs.Listed.{length-listOf, getD-listOf}
+use Rattle.scratch_view.specs.Rows.{length-listOf, at-listOf}
 use Rattle.walk_plan.specs.Plan.{stepNeeds, pieceStep, partNeeds}
 
 -- an element and what is behind it
@@ -72,7 +72,7 @@ module _ (n : ℕ) (f : ℕ → ℕ) where
   low-at : (k : ℕ) → k < n → getD (backwards (listOf n f) []) k 0 ≡ f (n - 1 - k)
   low-at k h =
       let l = length-listOf n f in
-      back-at (listOf n f) [] k (omega arith) ∙ ap (λ (m : ℕ). getD (listOf n f) (m - 1 - k) 0) l ∙ getD-listOf n f (n - 1 - k) 0 (omega arith)
+      back-at (listOf n f) [] k (omega arith) ∙ ap (λ (m : ℕ). getD (listOf n f) (m - 1 - k) 0) l ∙ at-listOf n f (n - 1 - k) 0 (omega arith)
 
   pub low-next : (k : ℕ) → k < n → drop k (backwards (listOf n f) []) ≡ f (n - 1 - k) ∷ drop (k + 1) (backwards (listOf n f) [])
   low-next k h =

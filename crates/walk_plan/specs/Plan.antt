@@ -1,6 +1,6 @@
 -- The needs that the answers stand for, and the lists of needs of the lowering model by the code's kinds. Assumes nothing.
 use mathlib.Core.Path.{_≡_}
-use mathlib.Core.Bool.{Bool, cond}
+use mathlib.Core.Bool.{cond}
 use mathlib.Core.List.{List, [], _∷_, _++_, map}
 use mathlib.Core.Option.{none}
 use Prim.Native.Nat.{ℕ, _+_, _*_, _-_, _≤_, _<_, min, max}
@@ -17,7 +17,7 @@ use Rattle.image_records.specs.declared.ExprKind.{ExprKind}
 use Rattle.image_records.specs.declared.ExprKind.the-variants as K
 use Rattle.expr_laws.specs.Exprs.{exprsOf}
 use Rattle.expr_fusion.specs.Fusion.{Inside, partsOf}
-use Rattle.walk_view.specs.Met.{stepNeed, isSome}
+use Rattle.walk_view.specs.Met.{stepNeed}
 use Rattle.walk_plan.specs.declared.Need.{Need}
 use Rattle.walk_plan.specs.declared.Need.the-variants.{Bit, Whole, Range, Nothing}
 use Rattle.walk_plan.specs.declared.Turn.{Turn}
@@ -94,9 +94,6 @@ Asked s w (K.Concat start n) = start + n ≤ 8192
 Asked s w (K.Slice a lsb) = Unit {0}
 
 -- ---- a range of an expression: lsb, width w ----
-
-unfoldable pub bitwise : BinaryOp → Bool
-bitwise op = isSome (gateOf (classOf (binaryMeans op)))
 
 unfoldable pub unaryNeeds : UnaryOp → ℕ → ℕ → ℕ → ℕ → List M.Need
 unaryNeeds op e a lsb w = stepNeeds (cond (isBitNot (unaryMeans op)) (Always (M.Range a lsb w) ∷ []) (M.wholes (e ∷ [])))

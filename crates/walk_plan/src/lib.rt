@@ -8,12 +8,12 @@ ghost use Rattle.check_image.specs.Accepted.{Accepted};
 ghost use Rattle.image_records.specs.Expr.{binaryMeans};
 ghost use Rattle.expr_laws.specs.Exprs.{exprsOf};
 ghost use Rattle.expr_fusion.specs.Fusion.{Inside, shown};
-ghost use Rattle.walk_plan.specs.Plan.{needsOf, TurnOf, TurnIn, operandNeeds, plainOf, pairNeeds, tripleNeeds, partsNeeds, kindNeeds, wholeNeeds, Asked, bitwise, unaryNeeds, binaryNeeds, muxRanges, partNeeds, piecesNeeds, kindRest, AskedParts, AskedRange, rangeRest};
+ghost use Rattle.walk_plan.specs.Plan.{needsOf, TurnOf, TurnIn, operandNeeds, plainOf, pairNeeds, tripleNeeds, partsNeeds, kindNeeds, wholeNeeds, Asked, unaryNeeds, binaryNeeds, muxRanges, partNeeds, piecesNeeds, kindRest, AskedParts, AskedRange, rangeRest};
 use expr_fusion::Carry;
 use expr_fusion::Operands;
-use image_operators::OpClass;
 use image_records::BinaryOp;
 use image_records::ExprKind;
+use image_records::OpClass;
 use image_records::UnaryOp;
 
 // Something to lower: a signal's bit, an expression, a range of an expression (lsb, width), or nothing.
@@ -59,7 +59,7 @@ pub fn operands(image: &[u8], op: BinaryOp, lhs: u32, rhs: u32) -> Operands
     requires { ⌜ Inside (now image) lhs rhs ⌝ }
     ensures { λ r. ⌜ shown r ≡ model.operandsOf (exprsOf (now (image .entry))) (binaryMeans op) lhs rhs ⌝ }
 {
-    let class = image_operators::op_class(op);
+    let class = image_records::op_class(op);
     match class {
         OpClass::Adds => expr_fusion::add_with_carry(image, lhs, rhs),
         OpClass::Ands => plain(lhs, rhs),
@@ -148,7 +148,7 @@ pub fn whole_turn(image: &[u8], e: u32, k: u32) -> Turn
 
 // ---- a range of an expression ----
 
-fn unary_range(op: UnaryOp, e: u32, a: u32, lsb: u32, w: u32) -> Need
+fn unary_range_need(op: UnaryOp, e: u32, a: u32, lsb: u32, w: u32) -> Need
     ensures { λ r. ⌜ unaryNeeds op e a lsb w ≡ needsOf r ⌝ }
 {
     match op {
@@ -160,22 +160,10 @@ fn unary_range(op: UnaryOp, e: u32, a: u32, lsb: u32, w: u32) -> Need
     }
 }
 
-// And, Or and Xor take the same range of both operands.
-pub fn is_bitwise(op: BinaryOp) -> bool
-    ensures { λ r. ⌜ r ≡ bitwise op ⌝ }
-{
-    match op {
-        BinaryOp::And => true,
-        BinaryOp::Or => true,
-        BinaryOp::Xor => true,
-        _ => false,
-    }
-}
-
-fn binary_range(op: BinaryOp, e: u32, a: u32, b: u32, lsb: u32, w: u32, k: u32) -> Turn
+fn binary_range_turn(op: BinaryOp, e: u32, a: u32, b: u32, lsb: u32, w: u32, k: u32) -> Turn
     ensures { λ r. ⌜ ((s : List ℕ) → TurnIn s (binaryNeeds op e a b lsb w) k r) ⌝ }
 {
-    if !is_bitwise(op) {
+    if !image_records::is_bitwise(op) {
         return one(Need::Whole(e), k);
     }
     if k == 0 {
@@ -187,40 +175,28 @@ fn binary_range(op: BinaryOp, e: u32, a: u32, b: u32, lsb: u32, w: u32, k: u32) 
     Turn::Build
 }
 
-fn mux_range(c: u32, t: u32, f: u32, lsb: u32, w: u32, k: u32) -> Turn
-    ensures { λ r. ⌜ ((s : List ℕ) → TurnIn s (muxRanges c t f lsb w) k r) ⌝ }
+fn mux_range_turn(condition: u32, then_expr: u32, else_expr: u32, lsb: u32, w: u32, k: u32) -> Turn
+    ensures { λ r. ⌜ ((s : List ℕ) → TurnIn s (muxRanges condition «then_expr» «else_expr» lsb w) k r) ⌝ }
 {
     if k == 0 {
-        return Turn::Lower(Need::Whole(c), 0);
+        return Turn::Lower(Need::Whole(condition), 0);
     }
     if k == 1 {
-        return Turn::Lower(Need::Range(t, lsb, w), 0);
+        return Turn::Lower(Need::Range(then_expr, lsb, w), 0);
     }
     if k == 2 {
-        return Turn::Last(Need::Range(f, lsb, w));
+        return Turn::Last(Need::Range(else_expr, lsb, w));
     }
     Turn::Build
 }
 
-fn larger(a: u32, b: u32) -> u32
-    ensures { λ r. ⌜ r ≡ max a b ⌝ }
-{
-    if a < b { b } else { a }
-}
-
-fn smaller(a: u32, b: u32) -> u32
-    ensures { λ r. ⌜ r ≡ min a b ⌝ }
-{
-    if a < b { a } else { b }
-}
-
 // What the range takes of a part, v wide, that begins at bit at.
-fn part_range(lsb: u32, end: u32, at: u32, p: u32, v: u32) -> Need
+fn part_range_need(lsb: u32, end: u32, at: u32, p: u32, v: u32) -> Need
     requires { ⌜ at + v < 4294967296 ⌝ }
     ensures { λ r. ⌜ partNeeds lsb end at p v ≡ needsOf r ⌝ }
 {
-    let low = larger(lsb, at);
-    let high = smaller(end, at + v);
+    let low = word_order::larger(lsb, at);
+    let high = word_order::smaller(end, at + v);
     if low < high {
         return Need::Range(p, low - at, high - low);
     }
@@ -228,29 +204,37 @@ fn part_range(lsb: u32, end: u32, at: u32, p: u32, v: u32) -> Need
 }
 
 // Of a Concat's part k, which begins at bit at, what stands in the range.
-fn concat_range(image: &[u8], start: u32, count: u32, lsb: u32, w: u32, k: u32, at: u32) -> Turn
+fn concat_range_turn(
+    image: &[u8],
+    start: u32,
+    count: u32,
+    lsb: u32,
+    w: u32,
+    k: u32,
+    at: u32,
+) -> Turn
     requires { ⌜ (AskedParts (now image) start count lsb w) × (at ≤ 1024 * k) ⌝ }
     ensures { λ r. ⌜ TurnOf (now (image .entry)) (piecesNeeds (now (image .entry)) start count lsb w) k at r ⌝ }
 {
     if k < count {
         let part = image_fields::list_word(image, start + (count - 1 - k));
         let v = image_fields::expr_width(image, part);
-        return Turn::Lower(part_range(lsb, lsb + w, at, part, v), at + v);
+        return Turn::Lower(part_range_need(lsb, lsb + w, at, part, v), at + v);
     }
     Turn::Build
 }
 
-fn kind_range(image: &[u8], e: u32, lsb: u32, w: u32, kind: ExprKind, k: u32, at: u32) -> Turn
+fn kind_range_turn(image: &[u8], e: u32, lsb: u32, w: u32, kind: ExprKind, k: u32, at: u32) -> Turn
     requires { ⌜ (AskedRange (now image) lsb w kind) × (at ≤ 1024 * k) ⌝ }
     ensures { λ r. ⌜ TurnOf (now (image .entry)) (kindRest (now (image .entry)) e lsb w kind) k at r ⌝ }
 {
     match kind {
         ExprKind::Signal(p, l) => Turn::Bits(p, l + lsb, w),
         ExprKind::Constant(_) => Turn::Build,
-        ExprKind::Unary(op, a) => one(unary_range(op, e, a, lsb, w), k),
-        ExprKind::Binary(op, a, b) => binary_range(op, e, a, b, lsb, w, k),
-        ExprKind::Mux(c, t, f) => mux_range(c, t, f, lsb, w, k),
-        ExprKind::Concat(start, count) => concat_range(image, start, count, lsb, w, k, at),
+        ExprKind::Unary(op, a) => one(unary_range_need(op, e, a, lsb, w), k),
+        ExprKind::Binary(op, a, b) => binary_range_turn(op, e, a, b, lsb, w, k),
+        ExprKind::Mux(c, t, f) => mux_range_turn(c, t, f, lsb, w, k),
+        ExprKind::Concat(start, count) => concat_range_turn(image, start, count, lsb, w, k, at),
         ExprKind::Slice(a, l) => one(Need::Range(a, l + lsb, w), k),
     }
 }
@@ -262,5 +246,5 @@ pub fn range_turn(image: &[u8], e: u32, lsb: u32, w: u32, k: u32, at: u32) -> Tu
 {
     let x = image_records::expression_at(image, e);
     let kind = x.kind;
-    kind_range(image, e, lsb, w, kind, k, at)
+    kind_range_turn(image, e, lsb, w, kind, k, at)
 }

@@ -11,7 +11,7 @@ use Rattle.spec_model.specs.Lowering.{State, Step, Always, Unless, lowerSteps, 
 use Rattle.walk_view.specs.Met.{AllMet}
 use Rattle.walk_view.specs.declared.Lowered.{Lowered}
 use Rattle.walk_view.specs.View.{outOf}
-use Rattle.walk_invariant.specs.Answers.{Refused, out}
+use Rattle.walk_view.specs.Answers.{Refused, out}
 use Rattle.walk_plan.specs.Plan.{stepNeeds}
 use Rattle.walk_left.specs.Needs.{lowerNeeds, NeedsMet}
 

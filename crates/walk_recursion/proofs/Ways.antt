@@ -7,6 +7,7 @@ use Prim.Native.Nat.{ℕ, zero, suc, _+_, _*_, _≤_, _<_}
 use native.Mathlib.Nat.{mul-le-mul-right, suc-mul}
 use native.Mathlib.Omega.{arith}
 use lib.ListN.{length, getD, drop}
+use Rattle.spec_tests.specs.Laws.{isSome}
 use Rattle.spec_tests.specs.Rules.{listOf, sumTo}
 use Rattle.spec_rules.specs.Image.{countAt, signalWidth, exprWidth, decode}
 use Rattle.spec_model.specs.Builder.{Out, done, andThen}
@@ -20,9 +21,9 @@ use Rattle.scratch_view.specs.Drivers.{driver-inside}
 use Rattle.law_accepted.specs.Formed.{readable}
 use Rattle.walk_view.specs.declared.Lowered.{Lowered}
 use Rattle.walk_view.specs.declared.Lowered.the-variants.{Done, Undriven, Loop, Reset, TooManyNets, ListFull}
-use Rattle.walk_view.specs.Met.{met, isSome, AllMet, Grows, grows-mark, grows-signal, meets-signal}
+use Rattle.walk_view.specs.Met.{met, AllMet, Grows, grows-mark, grows-signal, meets-signal}
 use Rattle.walk_view.specs.View.{walkState, Ready, Sure, There, outOf, Builds, rankOf, costOf, Gives}
-use Rattle.walk_sure.specs.Sure.{sure-done, sure-marks}
+use Rattle.walk_invariant.specs.Sure.{sure-done, sure-marks}
 use Rattle.walk_plan.specs.declared.Need.{Need}
 use Rattle.walk_plan.specs.declared.Need.the-variants.{Bit, Whole, Range, Nothing}
 use Rattle.walk_plan.specs.Plan.{needsOf, stepNeeds, wholeNeeds, rangeRest}
@@ -34,8 +35,8 @@ use Rattle.walk_left.specs.declared.Left.the-variants as F
 use Rattle.walk_left.specs.Needs.{lowerNeeds, NeedsMet}
 use Rattle.walk_left.specs.Left.{Skips, LeftOf, wholeRest, FirstTurn, driven, Keeps}
 use Rattle.walk_recursion.specs.Walk.{ThereNeed, GivesNeed, costNeed, LoopAt, WholeLoop, RangeLoop, needOf, At, Below}
-use Rattle.walk_sure.specs.Stores.{stored-ready, stored-kept, stored-state, stored-grows, kept-same, kept-then}
-use Rattle.walk_invariant.specs.Answers.{Refused, out, not-done}
+use Rattle.walk_view.specs.Stores.{stored-ready, stored-kept, stored-state, stored-grows, kept-same, kept-then}
+use Rattle.walk_view.specs.Answers.{Refused, out, not-done}
 use Rattle.walk_recursion.proofs.Steps.{needs-none, needs-on, needs-out, all-needs, need-suc, whole-there, whole-open, range-there, range-open, bit-there, bit-undriven, bit-loop, bit-driven}
 
 pub enough : (model : ℕ → Out State) (cost : ℕ) (x : Out State) → ((f : ℕ) → cost ≤ f → model (suc f) ≡ x) → (f : ℕ) → cost < f → model f ≡ x

@@ -13,7 +13,7 @@ use Rattle.walk_view.specs.declared.Lowered.{Lowered}
 use Rattle.walk_view.specs.declared.Lowered.the-variants.{Done}
 use Rattle.walk_view.specs.Met.{AllMet, Grows}
 use Rattle.walk_view.specs.View.{walkState, Ready, Sure, Kept, There, rankOf, costOf, Gives}
-use Rattle.walk_invariant.specs.Answers.{Refused}
+use Rattle.walk_view.specs.Answers.{Refused}
 use Rattle.walk_plan.specs.declared.Need.{Need}
 use Rattle.walk_plan.specs.declared.Need.the-variants.{Bit, Whole, Range, Nothing}
 use Rattle.walk_plan.specs.Plan.{wholeNeeds, rangeRest}

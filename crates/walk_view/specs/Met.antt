@@ -1,6 +1,6 @@
 -- What is lowered already in a state of the lowering model, and that the model's stores take none of it back. Assumes nothing.
 use mathlib.Core.Path.{_≡_, refl, sym, ap, _∙_}
-use mathlib.Core.Bool.{Bool, true, false, true≢false}
+use mathlib.Core.Bool.{Bool, true, true≢false}
 use mathlib.Core.List.{List, [], _∷_, _++_, map, append-assoc}
 use mathlib.Core.Logic.{⊎-elim, inl, inr, _⊎_}
 use mathlib.Core.Option.{Option, none, some}
@@ -8,12 +8,9 @@ use Prim.Native.Nat.{ℕ, zero, suc, _+_, _≤_, _<_}
 use native.Mathlib.Omega.{arith}
 use lib.ListN.{length, getD, set, take, drop, length-map}
 use lib.Seq.{getD-set-same, length-take-le, take-at, drop-at}
+use Rattle.spec_tests.specs.Laws.{isSome}
 use Rattle.spec_model.specs.Words.{Netlist}
 use Rattle.spec_model.specs.Lowering.{State, Need, Bit, Whole, Range, Step, Always, Unless, cell, put, withNetlist, mark, setSignalBit, setWhole, setRange, signalBit, whole, allSome, knownBy, rangesBy, rangeKnown}
-
-abbrev pub isSome : {A : Type 0} → Option A → Bool
-isSome none = false
-isSome (some a) = true
 
 -- a signal's bit has a net, an expression is lowered whole, all bits of a range have nets
 unfoldable pub met : State → Need → Bool

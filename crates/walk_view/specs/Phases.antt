@@ -2,13 +2,17 @@
 use mathlib.Core.Path.{_≡_, refl, ap, _∙_}
 use mathlib.Core.List.{List}
 use Prim.Native.Nat.{ℕ}
-use Rattle.spec_model.specs.Builder.{Out, done, andThen}
+use Rattle.spec_model.specs.Builder.{Out, refused, done, andThen}
 use Rattle.spec_model.specs.Lowering.{State}
 use Rattle.walk_view.specs.declared.Lowered.{Lowered}
 use Rattle.walk_view.specs.declared.Lowered.the-variants.{Done}
 use Rattle.walk_view.specs.View.{walkState, Ready, outOf, Phase}
 use Rattle.walk_view.specs.Answers.{Refused, out}
 use Rattle.walk_view.specs.Stores.{kept-same, kept-then}
+
+pub then-then : (o : Out State) (f g : State → Out State) → andThen (andThen o f) g ≡ andThen o (λ st. andThen (f st) g)
+then-then (refused n x y) f g = refl
+then-then (done st) f g = refl
 
 pub phase-none : (s net w : List ℕ) → Ready s net w → Phase (done (walkState s net w)) s net w Done net w
 phase-none s net w h = record { says = refl; ready = h; kept = kept-same s net w }

@@ -13,7 +13,7 @@ use lib.IntN.{ℤ, pos, negsuc, negℤ, subℕ, _+ℤ_, +ℤ-idr, +ℤ-negℤ-ca
 use lib.Signed.{ltZ, leZ, shrZ, _≤ℤ_, _<ℤ_}
 use Rattle.spec_rtl.specs.Word.{value, bit-lt}
 use Rattle.spec_rtl.specs.Ops.{tab, top, signed, xorB, notW, ltU, ltS, leS, shr}
-use Rattle.word_laws.specs.Add.{value-not}
+use Rattle.word_laws.specs.Ripple.{value-not}
 use Rattle.word_laws.specs.Shift.{T-true, T-false, tab-ext, top-shr}
 use Rattle.word_laws.specs.Tree.{test-iff}
 use Rattle.word_laws.specs.Values.{value-shr}

@@ -45,16 +45,13 @@ module _ {A : Type 0} (f : A → A → A) where
     levels-fold zero (x ∷ y ∷ l) h = absurd (not-suc-le-zero (le-of-suc-le-suc h))
     levels-fold (suc n) l h = levels-fold n (pairs l) (fewer-pairs n l h) ∙ pairs-fold l
 
-xor-assoc : (x y z : Bool) → xorB (xorB x y) z ≡ xorB x (xorB y z)
-xor-assoc true true z = not-not z
-  where
-    not-not : (z : Bool) → z ≡ not (not z)
-    not-not true = refl
-    not-not false = refl
+pub xor-assoc : (x y z : Bool) → xorB (xorB x y) z ≡ xorB x (xorB y z)
+xor-assoc true true true = refl
+xor-assoc true true false = refl
 xor-assoc true false z = refl
 xor-assoc false y z = refl
 
-xor-false : (x : Bool) → xorB x false ≡ x
+pub xor-false : (x : Bool) → xorB x false ≡ x
 xor-false true = refl
 xor-false false = refl
 

@@ -1,4 +1,5 @@
--- Worked cases of narrowing and fusion (bench cases K2 to K6, K11, K12; request Q-5), by computation. Assumes nothing.
+-- Worked cases of ranges and narrowing beside the bench's (crate `bench`), by computation: a sum that wraps; Or and Xor (request Q-5).
+-- Assumes nothing.
 use mathlib.Core.Path.{_≡_, refl}
 use mathlib.Core.List.{List, [], _∷_}
 use mathlib.Core.Option.{none, some}
@@ -6,40 +7,13 @@ use Prim.Native.Nat.{ℕ, _+_}
 use Rattle.spec_rtl.specs.Rtl as R
 use Rattle.spec_rtl.specs.Rtl.{Expr, Kind}
 use Rattle.spec_model.specs.Ranges.{Range, OrGate, XorGate, Bitwise, rangeAt, binaryRange, adderWidth, point}
-use Rattle.spec_model.specs.Lowering.{isZeroExpression, carryLsb, addOperands, operandsOf}
 
 abbrev expr : ℕ → Kind → Expr
 expr w k = record { width = w; kind = k }
 
--- an Add of two words of width w that are zero-extended to w + z
-abbrev extended : ℕ → ℕ → List Expr
-extended w z =
-    expr w (R.Signal 0 0) ∷ expr w (R.Signal 1 0) ∷ expr z (R.Constant 0) ∷ expr (w + z) (R.Concat (2 ∷ 0 ∷ [])) ∷ expr (w + z) (R.Concat (2 ∷ 1 ∷ []))
-    ∷ expr (w + z) (R.Bin R.Add 3 4) ∷ []
-
-k2 : adderWidth (extended 4 4) 5 ≡ some 5
-unfolding adderWidth rangeAt binaryRange
-k2 = refl
-
-k5 : adderWidth (extended 32 32) 5 ≡ some 33
-unfolding adderWidth rangeAt binaryRange
-k5 = refl
-
-k6 : adderWidth (extended 32 33) 5 ≡ none
-unfolding adderWidth rangeAt binaryRange
-k6 = refl
-
 -- an Add of two constants of 8 bits
 abbrev constants : ℕ → ℕ → List Expr
 constants m n = expr 8 (R.Constant m) ∷ expr 8 (R.Constant n) ∷ expr 8 (R.Bin R.Add 0 1) ∷ []
-
-k3 : adderWidth (constants 0 0) 2 ≡ some 1
-unfolding adderWidth rangeAt binaryRange
-k3 = refl
-
-k4 : adderWidth (constants 254 1) 2 ≡ none
-unfolding adderWidth rangeAt binaryRange
-k4 = refl
 
 -- 255 + 1 wraps: its range is 0
 wrapped : rangeAt (constants 255 1) 2 ≡ some (point 0)
@@ -87,19 +61,3 @@ xor-narrowed = refl
 or-65-bits : adderWidth (joined R.Or 3 62) 6 ≡ none
 unfolding adderWidth rangeAt binaryRange
 or-65-bits = refl
-
--- ---- fusion ----
-
--- (a + b) + {p, q}, where expression 2 is a one-bit signal and 3 seven zero bits
-abbrev carried : ℕ → ℕ → List Expr
-carried p q =
-    expr 8 (R.Signal 0 0) ∷ expr 8 (R.Signal 1 0) ∷ expr 1 (R.Signal 2 0) ∷ expr 7 (R.Constant 0) ∷ expr 8 (R.Concat (p ∷ q ∷ [])) ∷ expr 8 (R.Bin R.Add 0 1)
-    ∷ expr 8 (R.Bin R.Add 5 4) ∷ []
-
-k11 : operandsOf (carried 3 2) R.Add 5 4 ≡ record { lhs = 0; rhs = 1; carry = some 2 }
-unfolding operandsOf addOperands carryLsb isZeroExpression
-k11 = refl
-
-k12 : operandsOf (carried 2 3) R.Add 5 4 ≡ record { lhs = 5; rhs = 4; carry = none }
-unfolding operandsOf addOperands carryLsb isZeroExpression
-k12 = refl

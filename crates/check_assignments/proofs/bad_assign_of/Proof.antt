@@ -7,27 +7,15 @@ use Rattle.check_references.specs.Good.{is-signal}
 use Rattle.check_assignments.specs.Assign.{badAssignOf}
 use borrow.Author.Needs.{needs}
 
-no-signal-requires : tie.Need-no-signal-requires
-no-signal-requires c κs = search needs
-
 returns : tie.Need-returns
 unfolding badAssignOf
 returns c = λ r m. or-hit _ (sym (c .before .no-signal .ensures) ∙ c .if1 .taken)
-
-is-outside-requires : tie.Need-is-outside-requires
-is-outside-requires c κs = search needs
 
 returns-2 : tie.Need-returns-2
 unfolding badAssignOf
 returns-2 c = λ r m.
     or-skip (sym (c .before .before .before .no-signal .ensures) ∙ c .before .before .if1 .left)
     (or-hit _ (sym (c .before .is-outside .ensures) ∙ c .if2 .taken))
-
-signal-width-requires : tie.Need-signal-width-requires
-signal-width-requires c κs = search needs
-
-below-sum-requires : tie.Need-below-sum-requires
-below-sum-requires c κs = search needs
 
 returns-3 : tie.Need-returns-3
 unfolding badAssignOf
@@ -37,9 +25,6 @@ returns-3 c =
     or-skip (sym (c4 .before .before .no-signal .ensures) ∙ c4 .before .if1 .left)
     (or-skip (sym (c4 .is-outside .ensures) ∙ c .before .before .before .if2 .left)
     (or-hit _ (sym (rw (c .before .before .signal-width .ensures) at (c .before .below-sum .ensures)) ∙ c .if3 .taken)))
-
-no-expr-requires : tie.Need-no-expr-requires
-no-expr-requires c κs = search needs
 
 returns-4 : tie.Need-returns-4
 unfolding badAssignOf
@@ -52,9 +37,6 @@ returns-4 c =
     (or-skip (sym (rw (c4 .signal-width .ensures) at (c .before .before .before .below-sum .ensures)) ∙ c .before .before .if3 .left)
     (or-hit _ (sym (c .before .no-expr .ensures) ∙ c .if4 .taken))))
 
-expr-width-requires : tie.Need-expr-width-requires
-expr-width-requires c κs = search needs
-
 returns-5 : tie.Need-returns-5
 unfolding badAssignOf
 returns-5 c =
@@ -66,9 +48,6 @@ returns-5 c =
     (or-skip (sym (rw (c4 .before .before .signal-width .ensures) at (c4 .before .below-sum .ensures)) ∙ c4 .if3 .left)
     (or-skip (sym (c .before .before .before .no-expr .ensures) ∙ c .before .before .if4 .left)
     (or-hit _ (ne-yes _ _ (λ e. c .if5 .taken (c .before .expr-width .ensures ∙ e)))))))
-
-is-input-requires : tie.Need-is-input-requires
-is-input-requires c κs = search needs
 
 returns-6 : tie.Need-returns-6
 unfolding badAssignOf
@@ -115,19 +94,5 @@ returns-7 c =
 pub bad-assign-of-spec : {M : Type 1} → statement M
 bad-assign-of-spec =
     tie.close
-    (tie.spec
-    no-signal-requires
-    returns
-    is-outside-requires
-    returns-2
-    signal-width-requires
-    below-sum-requires
-    returns-3
-    no-expr-requires
-    returns-4
-    expr-width-requires
-    returns-5
-    is-input-requires
-    returns-6
-    is-assigned-requires
-    returns-7)
+    (tie.spec (λ c κs. search needs) returns (λ c κs. search needs) returns-2 (λ c κs. search needs) (λ c κs. search needs) returns-3
+    (λ c κs. search needs) returns-4 (λ c κs. search needs) returns-5 (λ c κs. search needs) returns-6 is-assigned-requires returns-7)

@@ -7,24 +7,6 @@ use Rattle.check_assignments.specs.Assign.{bad-of}
 use Rattle.check_assignments.specs.Good.{good-of, assign-marked}
 use borrow.Author.Needs.{needs}
 
-record-field-requires : tie.Need-record-field-requires
-record-field-requires c κs = search needs
-
-record-field-requires-2 : tie.Need-record-field-requires-2
-record-field-requires-2 c κs = search needs
-
-record-field-requires-3 : tie.Need-record-field-requires-3
-record-field-requires-3 c κs = search needs
-
-record-field-requires-4 : tie.Need-record-field-requires-4
-record-field-requires-4 c κs = search needs
-
-bad-assign-of-requires : tie.Need-bad-assign-of-requires
-bad-assign-of-requires c κs = search needs
-
-same-length : tie.Need-same-length
-same-length c = search needs
-
 returns : tie.Need-returns
 returns c =
     let c4 = c .before .before .before .before in
@@ -38,9 +20,6 @@ mark-bits-requires c κs =
     let g = good-of _ _ _ _ _ _ (sym (c .before .before .bad-assign-of .ensures _ (c .before .before .before .before .before .before .before .before .before .before .before .pre .1)) ∙ c .before .if1 .left) in
     (c .before .before .before .before .before .before .before .before .before .before .before .pre .0, c .before .before .before .before .before .before .before .before .before .before .before .pre .1 .holds .room, g .there, g .room)
 
-same-length-2 : tie.Need-same-length-2
-same-length-2 c = search needs
-
 returns-2 : tie.Need-returns-2
 returns-2 c =
     let g = good-of _ _ _ _ _ _ (sym (c .before .before .before .before .before .bad-assign-of .ensures _ (c .before .before .before .before .before .before .before .before .before .before .before .before .before .before .pre .1)) ∙ c .before .before .before .before .if1 .left) in (
@@ -51,14 +30,5 @@ returns-2 c =
 pub check-assign-spec : {M : Type 1} → statement M
 check-assign-spec =
     tie.close
-    (tie.spec
-    record-field-requires
-    record-field-requires-2
-    record-field-requires-3
-    record-field-requires-4
-    bad-assign-of-requires
-    same-length
-    returns
-    mark-bits-requires
-    same-length-2
-    returns-2)
+    (tie.spec (λ c κs. search needs) (λ c κs. search needs) (λ c κs. search needs) (λ c κs. search needs) (λ c κs. search needs) (λ c. search needs)
+    returns mark-bits-requires (λ c. search needs) returns-2)

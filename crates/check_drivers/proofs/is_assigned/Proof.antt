@@ -4,11 +4,8 @@ use Rattle.check_drivers.proofs.is_assigned.Tie as tie
 use Rattle.check_drivers.specs.Bits.{answers-assigned}
 use borrow.Author.Needs.{needs}
 
-is-marked-requires : tie.Need-is-marked-requires
-is-marked-requires c κs = search needs
-
 returns : tie.Need-returns
 returns c = λ a m. answers-assigned _ a _ _ _ _ (c .is-marked .ensures a 0 0 m)
 
 pub is-assigned-spec : {M : Type 1} → statement M
-is-assigned-spec = tie.close (tie.spec is-marked-requires returns)
+is-assigned-spec = tie.close (tie.spec (λ c κs. search needs) returns)

@@ -7,15 +7,9 @@ use Rattle.spec_tests.specs.Laws.{or-hit, or-skip}
 use Rattle.spec_rules.specs.Checks.{driven}
 use borrow.Author.Needs.{needs}
 
-is-input-requires : tie.Need-is-input-requires
-is-input-requires c κs = search needs
-
 returns : tie.Need-returns
 unfolding driven
 returns c = λ i j m. or-hit _ (sym (c .before .is-input .ensures) ∙ c .if1 .taken)
-
-signal-width-requires : tie.Need-signal-width-requires
-signal-width-requires c κs = search needs
 
 is-marked-requires : tie.Need-is-marked-requires
 is-marked-requires c κs =
@@ -28,6 +22,4 @@ unfolding driven
 returns-2 c = λ i j m. or-skip (sym (c .before .before .before .is-input .ensures) ∙ c .before .before .if1 .left) (rw (c .before .signal-width .ensures) at (c .is-marked .ensures _ i j m))
 
 pub is-driven-spec : {M : Type 1} → statement M
-is-driven-spec =
-    tie.close
-    (tie.spec is-input-requires returns signal-width-requires is-marked-requires returns-2)
+is-driven-spec = tie.close (tie.spec (λ c κs. search needs) returns (λ c κs. search needs) is-marked-requires returns-2)

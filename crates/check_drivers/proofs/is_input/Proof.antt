@@ -6,12 +6,9 @@ use borrow.Author.Needs.{needs}
 use Rattle.spec_tests.specs.Laws.{eq-same}
 use Rattle.spec_rules.specs.Checks.{isInput}
 
-record-field-requires : tie.Need-record-field-requires
-record-field-requires c κs = search needs
-
 returns : tie.Need-returns
 unfolding isInput
 returns c = eq-same (c .record-field .ensures) refl
 
 pub is-input-spec : {M : Type 1} → statement M
-is-input-spec = tie.close (tie.spec record-field-requires returns)
+is-input-spec = tie.close (tie.spec (λ c κs. search needs) returns)

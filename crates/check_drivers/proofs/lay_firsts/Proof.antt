@@ -18,38 +18,17 @@ Inv-loop s firsts₀ n sum₀ p₀ firsts sum p = (p ≤ countAt s 0) × (sum �
 abbrev μ-loop : tie.MeasureT-loop
 μ-loop s firsts₀ n sum₀ p₀ firsts sum p = n - p
 
-count-requires : tie.Need-count-requires Inv-loop μ-loop
-count-requires c κs = search needs
-
 loop-holds : tie.Need-loop-holds Inv-loop μ-loop
 loop-holds c = (omega arith, sym (sum-none _), refl, λ q h. absurd (omega arith))
 
-cast-firsts : tie.Need-cast-firsts Inv-loop μ-loop
-cast-firsts c = omega arith
-
-mul-firsts : tie.Need-mul-firsts Inv-loop μ-loop
-mul-firsts c = omega arith
-
-slice-write-firsts : tie.Need-slice-write-firsts Inv-loop μ-loop
-slice-write-firsts c = search needs
-
-signal-width-requires : tie.Need-signal-width-requires Inv-loop μ-loop
-signal-width-requires c κs = search needs
-
 add-sum : tie.Need-add-sum Inv-loop μ-loop
 add-sum c =
-    let u : c .before .before .loop .p < countAt (c .before .before .before .before .before .before .args .s .now) 0 = omega arith in
+    let u : c .before .before .loop .p < countAt (c .before .before .before .before .before .before .args .image .now) 0 = omega arith in
     omega (arith, signal-ends _ _ u, c .before .before .before .before .before .before .pre .0 .most)
-
-add-p : tie.Need-add-p Inv-loop μ-loop
-add-p c = omega arith
-
-loop-less : tie.Need-loop-less Inv-loop μ-loop
-loop-less c = omega arith
 
 loop-again : tie.Need-loop-again Inv-loop μ-loop
 loop-again c =
-    let s = c .before .before .before .before .before .before .args .s .now in
+    let s = c .before .before .before .before .before .before .args .image .now in
     let l = c .before .before .loop in (
       omega arith,
       omega (arith, sum-more (signalWidth s) (l .p)),
@@ -57,32 +36,16 @@ loop-again c =
       first-more s (l .firsts) (l .p) (omega arith) (l .inv .3) _ (l .inv .1),
     )
 
-same-length : tie.Need-same-length Inv-loop μ-loop
-same-length c = search needs
-
 returns : tie.Need-returns Inv-loop μ-loop
 unfolding signalBits
 returns c =
-    let e : c .before .loop .p ≡ countAt (c .before .before .before .before .before .args .s .now) 0 = omega arith in (
-      c .before .loop .inv .1 ∙ ap (sumTo (signalWidth (c .before .before .before .before .before .args .s .now))) e,
+    let e : c .before .loop .p ≡ countAt (c .before .before .before .before .before .args .image .now) 0 = omega arith in (
+      c .before .loop .inv .1 ∙ ap (sumTo (signalWidth (c .before .before .before .before .before .args .image .now))) e,
       record { fit = c .before .before .before .before .before .pre .0; few = omega arith; first-of = λ q h. c .before .loop .inv .3 q (omega arith) },
     )
 
 pub lay-firsts-spec : {M : Type 1} → statement M
 lay-firsts-spec =
     tie.close
-    (tie.spec
-    Inv-loop
-    μ-loop
-    count-requires
-    loop-holds
-    cast-firsts
-    mul-firsts
-    slice-write-firsts
-    signal-width-requires
-    add-sum
-    add-p
-    loop-less
-    loop-again
-    same-length
-    returns)
+    (tie.spec Inv-loop μ-loop (λ c κs. search needs) loop-holds (λ c. omega arith) (λ c. omega arith) (λ c. search needs) (λ c κs. search needs)
+    add-sum (λ c. omega arith) (λ c. omega arith) loop-again (λ c. search needs) returns)

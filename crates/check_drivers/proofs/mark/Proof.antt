@@ -15,26 +15,8 @@ abbrev μ-loop : tie.MeasureT-loop
 loop-holds : tie.Need-loop-holds Inv-loop μ-loop
 loop-holds c = (omega arith, mark-none _ _)
 
-cast-taken : tie.Need-cast-taken Inv-loop μ-loop
-cast-taken c = omega arith
-
-add-taken : tie.Need-add-taken Inv-loop μ-loop
-add-taken c = search needs
-
-slice-write-taken : tie.Need-slice-write-taken Inv-loop μ-loop
-slice-write-taken c = search needs
-
-add-i : tie.Need-add-i Inv-loop μ-loop
-add-i c = omega arith
-
-loop-less : tie.Need-loop-less Inv-loop μ-loop
-loop-less c = omega arith
-
 loop-again : tie.Need-loop-again Inv-loop μ-loop
 loop-again c = (omega arith, mark-more _ _ _ _ (omega arith) (c .before .loop .inv .1))
-
-same-length : tie.Need-same-length Inv-loop μ-loop
-same-length c = search needs
 
 returns : tie.Need-returns Inv-loop μ-loop
 returns c = mark-end _ _ _ _ _ (omega arith) (omega arith) (c .before .loop .inv .1)
@@ -42,15 +24,5 @@ returns c = mark-end _ _ _ _ _ (omega arith) (omega arith) (c .before .loop .inv
 pub mark-spec : {M : Type 1} → statement M
 mark-spec =
     tie.close
-    (tie.spec
-    Inv-loop
-    μ-loop
-    loop-holds
-    cast-taken
-    add-taken
-    slice-write-taken
-    add-i
-    loop-less
-    loop-again
-    same-length
-    returns)
+    (tie.spec Inv-loop μ-loop loop-holds (λ c. omega arith) (λ c. search needs) (λ c. search needs) (λ c. omega arith) (λ c. omega arith) loop-again
+    (λ c. search needs) returns)

@@ -5,12 +5,6 @@ use native.Mathlib.Omega.{arith}
 use Rattle.check_drivers.specs.Bits.{signal-ends}
 use borrow.Author.Needs.{needs}
 
-mul-result : tie.Need-mul-result
-mul-result c = search needs
-
-shared-slice-read-result : tie.Need-shared-slice-read-result
-shared-slice-read-result c = search needs
-
 cast-result : tie.Need-cast-result
 cast-result c = omega (arith, c .before .pre .0 .first-of _ (c .before .pre .1), signal-ends _ _ (c .before .pre .1))
 
@@ -21,5 +15,4 @@ returns : tie.Need-returns
 returns c = omega (arith, c .before .pre .0 .first-of _ (c .before .pre .1))
 
 pub place-spec : {M : Type 1} → statement M
-place-spec =
-    tie.close (tie.spec mul-result shared-slice-read-result cast-result add-result returns)
+place-spec = tie.close (tie.spec (λ c. search needs) (λ c. search needs) cast-result add-result returns)

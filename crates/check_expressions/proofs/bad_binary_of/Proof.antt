@@ -7,30 +7,15 @@ use Rattle.spec_tests.specs.Laws.{or-hit, or-skip}
 use Rattle.spec_rules.specs.Checks.{badBinary}
 use Rattle.check_expressions.specs.Kinds.{badBinaryOf}
 
-is-late-requires : tie.Need-is-late-requires
-is-late-requires c κs = search needs
-
 returns : tie.Need-returns
 unfolding badBinaryOf
 returns c = or-hit _ (sym (c .before .is-late .ensures) ∙ c .if1 .taken)
-
-is-late-requires-2 : tie.Need-is-late-requires-2
-is-late-requires-2 c κs = search needs
 
 returns-2 : tie.Need-returns-2
 unfolding badBinaryOf
 returns-2 c =
     or-skip (sym (c .before .before .before .is-late .ensures) ∙ c .before .before .if1 .left)
     (or-hit _ (sym (c .before .is-late2 .ensures) ∙ c .if2 .taken))
-
-expr-width-requires : tie.Need-expr-width-requires
-expr-width-requires c κs = search needs
-
-expr-width-requires-2 : tie.Need-expr-width-requires-2
-expr-width-requires-2 c κs = search needs
-
-bad-binary-requires : tie.Need-bad-binary-requires
-bad-binary-requires c κs = search needs
 
 returns-3 : tie.Need-returns-3
 unfolding badBinaryOf
@@ -43,12 +28,5 @@ returns-3 c =
 pub bad-binary-of-spec : {M : Type 1} → statement M
 bad-binary-of-spec =
     tie.close
-    (tie.spec
-    is-late-requires
-    returns
-    is-late-requires-2
-    returns-2
-    expr-width-requires
-    expr-width-requires-2
-    bad-binary-requires
+    (tie.spec (λ c κs. search needs) returns (λ c κs. search needs) returns-2 (λ c κs. search needs) (λ c κs. search needs) (λ c κs. search needs)
     returns-3)

@@ -12,12 +12,6 @@ returns : tie.Need-returns
 unfolding badConcat lateWord partWidth
 returns c = or-hit _ (eq-yes _ _ (c .if1 .taken))
 
-count-requires : tie.Need-count-requires
-count-requires c κs = search needs
-
-below-sum-requires : tie.Need-below-sum-requires
-below-sum-requires c κs = search needs
-
 returns-2 : tie.Need-returns-2
 unfolding badConcat lateWord partWidth
 returns-2 c =
@@ -49,12 +43,4 @@ returns-4 c =
 pub bad-concat-spec : {M : Type 1} → statement M
 bad-concat-spec =
     tie.close
-    (tie.spec
-    returns
-    count-requires
-    below-sum-requires
-    returns-2
-    has-late-part-requires
-    returns-3
-    parts-sum-requires
-    returns-4)
+    (tie.spec returns (λ c κs. search needs) (λ c κs. search needs) returns-2 has-late-part-requires returns-3 parts-sum-requires returns-4)

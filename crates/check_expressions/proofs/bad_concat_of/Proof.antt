@@ -6,9 +6,6 @@ use borrow.Author.Needs.{needs}
 use Rattle.spec_tests.specs.Laws.{or-hit, or-skip, ne-same}
 use Rattle.check_expressions.specs.Kinds.{badConcatOf}
 
-bad-concat-requires : tie.Need-bad-concat-requires
-bad-concat-requires c κs = search needs
-
 returns : tie.Need-returns
 unfolding badConcatOf
 returns c = or-hit _ (sym (c .before .bad-concat .ensures) ∙ c .if1 .taken)
@@ -20,4 +17,4 @@ returns-2 c =
     (ne-same refl refl)
 
 pub bad-concat-of-spec : {M : Type 1} → statement M
-bad-concat-of-spec = tie.close (tie.spec bad-concat-requires returns returns-2)
+bad-concat-of-spec = tie.close (tie.spec (λ c κs. search needs) returns returns-2)

@@ -7,18 +7,6 @@ use Rattle.spec_tests.specs.Laws.{or-hit, or-skip, ne-yes, ne-no, ne-same}
 use Rattle.spec_rules.specs.Image.{constantWords}
 use Rattle.check_expressions.specs.Kinds.{badConstant}
 
-count-requires : tie.Need-count-requires
-count-requires c κs = search needs
-
-add-below-sum : tie.Need-add-below-sum
-add-below-sum c = search needs
-
-mul-below-sum : tie.Need-mul-below-sum
-mul-below-sum c = search needs
-
-below-sum-requires : tie.Need-below-sum-requires
-below-sum-requires c κs = search needs
-
 returns : tie.Need-returns
 unfolding badConstant constantWords
 returns c = or-hit _ (sym (rw (c .before .before .count .ensures) at (c .before .below-sum .ensures)) ∙ c .if1 .taken)
@@ -39,11 +27,4 @@ returns-3 c =
 pub bad-constant-spec : {M : Type 1} → statement M
 bad-constant-spec =
     tie.close
-    (tie.spec
-    count-requires
-    add-below-sum
-    mul-below-sum
-    below-sum-requires
-    returns
-    returns-2
-    returns-3)
+    (tie.spec (λ c κs. search needs) (λ c. search needs) (λ c. search needs) (λ c κs. search needs) returns returns-2 returns-3)

@@ -7,27 +7,6 @@ use borrow.Author.Needs.{needs}
 use Rattle.check_references.specs.Tests.{beyond}
 use Rattle.check_expressions.specs.Kinds.{kind-read, kind-constant, kind-unary, kind-binary, kind-mux, kind-concat, kind-slice, kind-none}
 
-bad-read-requires : tie.Need-bad-read-requires
-bad-read-requires c κs = search needs
-
-bad-constant-requires : tie.Need-bad-constant-requires
-bad-constant-requires c κs = search needs
-
-bad-unary-of-requires : tie.Need-bad-unary-of-requires
-bad-unary-of-requires c κs = search needs
-
-bad-binary-of-requires : tie.Need-bad-binary-of-requires
-bad-binary-of-requires c κs = search needs
-
-bad-mux-requires : tie.Need-bad-mux-requires
-bad-mux-requires c κs = search needs
-
-bad-concat-of-requires : tie.Need-bad-concat-of-requires
-bad-concat-of-requires c κs = search needs
-
-bad-slice-requires : tie.Need-bad-slice-requires
-bad-slice-requires c κs = search needs
-
 returns : tie.Need-returns
 returns c = c .bad-read .ensures ∙ kind-read _ _ _ _ _ _ _ (c .before .match .keys1)
 
@@ -58,19 +37,5 @@ returns-8 c =
 pub bad-kind-spec : {M : Type 1} → statement M
 bad-kind-spec =
     tie.close
-    (tie.spec
-    bad-read-requires
-    bad-constant-requires
-    bad-unary-of-requires
-    bad-binary-of-requires
-    bad-mux-requires
-    bad-concat-of-requires
-    bad-slice-requires
-    returns
-    returns-2
-    returns-3
-    returns-4
-    returns-5
-    returns-6
-    returns-7
-    returns-8)
+    (tie.spec (λ c κs. search needs) (λ c κs. search needs) (λ c κs. search needs) (λ c κs. search needs) (λ c κs. search needs)
+    (λ c κs. search needs) (λ c κs. search needs) returns returns-2 returns-3 returns-4 returns-5 returns-6 returns-7 returns-8)

@@ -6,15 +6,9 @@ use borrow.Author.Needs.{needs}
 use Rattle.spec_tests.specs.Laws.{or-hit, or-skip, ne-yes, ne-no, ne-same}
 use Rattle.check_expressions.specs.Kinds.{badMux}
 
-is-late-requires : tie.Need-is-late-requires
-is-late-requires c κs = search needs
-
 returns : tie.Need-returns
 unfolding badMux
 returns c = or-hit _ (sym (c .before .is-late .ensures) ∙ c .if1 .taken)
-
-is-late-requires-2 : tie.Need-is-late-requires-2
-is-late-requires-2 c κs = search needs
 
 returns-2 : tie.Need-returns-2
 unfolding badMux
@@ -22,18 +16,12 @@ returns-2 c =
     or-skip (sym (c .before .before .before .is-late .ensures) ∙ c .before .before .if1 .left)
     (or-hit _ (sym (c .before .is-late2 .ensures) ∙ c .if2 .taken))
 
-is-late-requires-3 : tie.Need-is-late-requires-3
-is-late-requires-3 c κs = search needs
-
 returns-3 : tie.Need-returns-3
 unfolding badMux
 returns-3 c =
     or-skip (sym (c .before .before .before .before .before .is-late .ensures) ∙ c .before .before .before .before .if1 .left)
     (or-skip (sym (c .before .before .before .is-late2 .ensures) ∙ c .before .before .if2 .left)
     (or-hit _ (sym (c .before .is-late3 .ensures) ∙ c .if3 .taken)))
-
-expr-width-requires : tie.Need-expr-width-requires
-expr-width-requires c κs = search needs
 
 returns-4 : tie.Need-returns-4
 unfolding badMux
@@ -43,9 +31,6 @@ returns-4 c =
     (or-skip (sym (c4 .before .is-late2 .ensures) ∙ c4 .if2 .left)
     (or-skip (sym (c .before .before .before .is-late3 .ensures) ∙ c .before .before .if3 .left)
     (or-hit _ (ne-yes _ _ (λ e. c .if4 .taken (c .before .expr-width .ensures ∙ e))))))
-
-expr-width-requires-2 : tie.Need-expr-width-requires-2
-expr-width-requires-2 c κs = search needs
 
 returns-5 : tie.Need-returns-5
 unfolding badMux
@@ -57,9 +42,6 @@ returns-5 c =
     (or-skip (sym (c4 .before .is-late3 .ensures) ∙ c4 .if3 .left)
     (or-skip (ne-no _ _ (sym (c .before .before .before .expr-width .ensures) ∙ c .before .before .if4 .left))
     (or-hit _ (ne-yes _ _ (λ e. c .if5 .taken (c .before .expr-width2 .ensures ∙ e)))))))
-
-expr-width-requires-3 : tie.Need-expr-width-requires-3
-expr-width-requires-3 c κs = search needs
 
 returns-6 : tie.Need-returns-6
 unfolding badMux
@@ -76,16 +58,5 @@ returns-6 c =
 pub bad-mux-spec : {M : Type 1} → statement M
 bad-mux-spec =
     tie.close
-    (tie.spec
-    is-late-requires
-    returns
-    is-late-requires-2
-    returns-2
-    is-late-requires-3
-    returns-3
-    expr-width-requires
-    returns-4
-    expr-width-requires-2
-    returns-5
-    expr-width-requires-3
-    returns-6)
+    (tie.spec (λ c κs. search needs) returns (λ c κs. search needs) returns-2 (λ c κs. search needs) returns-3 (λ c κs. search needs) returns-4
+    (λ c κs. search needs) returns-5 (λ c κs. search needs) returns-6)

@@ -6,18 +6,9 @@ use borrow.Author.Needs.{needs}
 use Rattle.spec_tests.specs.Laws.{or-hit, or-skip, ne-same}
 use Rattle.check_expressions.specs.Kinds.{badRead}
 
-no-signal-requires : tie.Need-no-signal-requires
-no-signal-requires c κs = search needs
-
 returns : tie.Need-returns
 unfolding badRead
 returns c = or-hit _ (sym (c .before .no-signal .ensures) ∙ c .if1 .taken)
-
-signal-width-requires : tie.Need-signal-width-requires
-signal-width-requires c κs = search needs
-
-below-sum-requires : tie.Need-below-sum-requires
-below-sum-requires c κs = search needs
 
 returns-2 : tie.Need-returns-2
 unfolding badRead
@@ -33,12 +24,4 @@ returns-3 c =
     (ne-same refl refl))
 
 pub bad-read-spec : {M : Type 1} → statement M
-bad-read-spec =
-    tie.close
-    (tie.spec
-    no-signal-requires
-    returns
-    signal-width-requires
-    below-sum-requires
-    returns-2
-    returns-3)
+bad-read-spec = tie.close (tie.spec (λ c κs. search needs) returns (λ c κs. search needs) (λ c κs. search needs) returns-2 returns-3)

@@ -6,18 +6,9 @@ use borrow.Author.Needs.{needs}
 use Rattle.spec_tests.specs.Laws.{or-hit, or-skip, ne-same}
 use Rattle.check_expressions.specs.Kinds.{badSlice}
 
-is-late-requires : tie.Need-is-late-requires
-is-late-requires c κs = search needs
-
 returns : tie.Need-returns
 unfolding badSlice
 returns c = or-hit _ (sym (c .before .is-late .ensures) ∙ c .if1 .taken)
-
-expr-width-requires : tie.Need-expr-width-requires
-expr-width-requires c κs = search needs
-
-below-sum-requires : tie.Need-below-sum-requires
-below-sum-requires c κs = search needs
 
 returns-2 : tie.Need-returns-2
 unfolding badSlice
@@ -33,6 +24,4 @@ returns-3 c =
     (ne-same refl refl))
 
 pub bad-slice-spec : {M : Type 1} → statement M
-bad-slice-spec =
-    tie.close
-    (tie.spec is-late-requires returns expr-width-requires below-sum-requires returns-2 returns-3)
+bad-slice-spec = tie.close (tie.spec (λ c κs. search needs) returns (λ c κs. search needs) (λ c κs. search needs) returns-2 returns-3)

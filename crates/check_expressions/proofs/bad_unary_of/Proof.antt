@@ -6,18 +6,9 @@ use borrow.Author.Needs.{needs}
 use Rattle.spec_tests.specs.Laws.{or-hit, or-skip, ne-same}
 use Rattle.check_expressions.specs.Kinds.{badUnaryOf}
 
-is-late-requires : tie.Need-is-late-requires
-is-late-requires c κs = search needs
-
 returns : tie.Need-returns
 unfolding badUnaryOf
 returns c = or-hit _ (sym (c .before .is-late .ensures) ∙ c .if1 .taken)
-
-expr-width-requires : tie.Need-expr-width-requires
-expr-width-requires c κs = search needs
-
-bad-unary-requires : tie.Need-bad-unary-requires
-bad-unary-requires c κs = search needs
 
 returns-2 : tie.Need-returns-2
 unfolding badUnaryOf
@@ -33,6 +24,4 @@ returns-3 c =
     (ne-same refl refl))
 
 pub bad-unary-of-spec : {M : Type 1} → statement M
-bad-unary-of-spec =
-    tie.close
-    (tie.spec is-late-requires returns expr-width-requires bad-unary-requires returns-2 returns-3)
+bad-unary-of-spec = tie.close (tie.spec (λ c κs. search needs) returns (λ c κs. search needs) (λ c κs. search needs) returns-2 returns-3)

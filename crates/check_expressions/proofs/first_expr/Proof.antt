@@ -35,13 +35,7 @@ expr-width-requires c κs = tt
 add-sum : tie.Need-add-sum Inv-loop μ-loop
 add-sum c =
     let ok = good-expr _ _ (sym (c .before .before .bad-expr .ensures) ∙ c .before .if1 .left) in
-    omega (arith, ok .sum, sum-more (exprWidth (now (c .before .before .before .before .before .before .before .args .s))) (c .before .before .before .before .loop .r))
-
-add-r : tie.Need-add-r Inv-loop μ-loop
-add-r c = omega arith
-
-loop-less : tie.Need-loop-less Inv-loop μ-loop
-loop-less c = omega arith
+    omega (arith, ok .sum, sum-more (exprWidth (now (c .before .before .before .before .before .before .before .args .image))) (c .before .before .before .before .loop .r))
 
 loop-again : tie.Need-loop-again Inv-loop μ-loop
 loop-again c =
@@ -55,16 +49,5 @@ returns-2 c = sym (ended _ _ _ (omega arith) (omega arith) (c .before .loop .inv
 pub first-expr-spec : {M : Type 1} → statement M
 first-expr-spec =
     tie.close
-    (tie.spec
-    Inv-loop
-    μ-loop
-    count-requires
-    loop-holds
-    bad-expr-requires
-    returns
-    expr-width-requires
-    add-sum
-    add-r
-    loop-less
-    loop-again
-    returns-2)
+    (tie.spec Inv-loop μ-loop count-requires loop-holds bad-expr-requires returns expr-width-requires add-sum (λ c. omega arith) (λ c. omega arith)
+    loop-again returns-2)

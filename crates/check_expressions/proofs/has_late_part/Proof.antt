@@ -17,9 +17,6 @@ abbrev μ-loop : tie.MeasureT-loop
 loop-holds : tie.Need-loop-holds Inv-loop μ-loop
 loop-holds c = (omega arith, begins _ _)
 
-add-list-word : tie.Need-add-list-word Inv-loop μ-loop
-add-list-word c = omega arith
-
 list-word-requires : tie.Need-list-word-requires Inv-loop μ-loop
 list-word-requires c κs = tt
 
@@ -29,12 +26,6 @@ is-late-requires c κs = tt
 returns : tie.Need-returns Inv-loop μ-loop
 unfolding lateWord
 returns c = sym (any-yes _ _ _ (omega arith) (c .before .before .before .before .loop .inv .1) (sym (rw (c .before .before .list-word .ensures) at (c .before .is-late .ensures)) ∙ c .if1 .taken))
-
-add-i : tie.Need-add-i Inv-loop μ-loop
-add-i c = omega arith
-
-loop-less : tie.Need-loop-less Inv-loop μ-loop
-loop-less c = omega arith
 
 loop-again : tie.Need-loop-again Inv-loop μ-loop
 unfolding lateWord
@@ -46,15 +37,5 @@ returns-2 c = sym (any-no _ _ _ (omega arith) (omega arith) (c .before .loop .in
 pub has-late-part-spec : {M : Type 1} → statement M
 has-late-part-spec =
     tie.close
-    (tie.spec
-    Inv-loop
-    μ-loop
-    loop-holds
-    add-list-word
-    list-word-requires
-    is-late-requires
-    returns
-    add-i
-    loop-less
-    loop-again
-    returns-2)
+    (tie.spec Inv-loop μ-loop loop-holds (λ c. omega arith) list-word-requires is-late-requires returns (λ c. omega arith) (λ c. omega arith)
+    loop-again returns-2)

@@ -17,26 +17,11 @@ abbrev μ-loop : tie.MeasureT-loop
 loop-holds : tie.Need-loop-holds Inv-loop μ-loop
 loop-holds c = (omega arith, sym (sum-none _), omega arith)
 
-add-list-word : tie.Need-add-list-word Inv-loop μ-loop
-add-list-word c = omega arith
-
 list-word-requires : tie.Need-list-word-requires Inv-loop μ-loop
 list-word-requires c κs = tt
 
 expr-width-requires : tie.Need-expr-width-requires Inv-loop μ-loop
 expr-width-requires c κs = tt
-
-cast-t : tie.Need-cast-t Inv-loop μ-loop
-cast-t c = omega arith
-
-add-t : tie.Need-add-t Inv-loop μ-loop
-add-t c = omega arith
-
-add-i : tie.Need-add-i Inv-loop μ-loop
-add-i c = omega arith
-
-loop-less : tie.Need-loop-less Inv-loop μ-loop
-loop-less c = omega arith
 
 loop-again : tie.Need-loop-again Inv-loop μ-loop
 unfolding partWidth
@@ -50,16 +35,5 @@ returns c = c .before .loop .inv .1 ∙ ap (sumTo (partWidth _ _)) (omega arith)
 pub parts-sum-spec : {M : Type 1} → statement M
 parts-sum-spec =
     tie.close
-    (tie.spec
-    Inv-loop
-    μ-loop
-    loop-holds
-    add-list-word
-    list-word-requires
-    expr-width-requires
-    cast-t
-    add-t
-    add-i
-    loop-less
-    loop-again
-    returns)
+    (tie.spec Inv-loop μ-loop loop-holds (λ c. omega arith) list-word-requires expr-width-requires (λ c. omega arith) (λ c. omega arith)
+    (λ c. omega arith) (λ c. omega arith) loop-again returns)

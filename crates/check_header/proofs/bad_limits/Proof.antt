@@ -5,17 +5,11 @@ use Rattle.check_header.proofs.bad_limits.Tie as tie
 use mathlib.Core.Path.{sym, _∙_}
 use Rattle.spec_tests.specs.Laws.{or-hit, or-skip}
 
-is-outside-requires : tie.Need-is-outside-requires
-is-outside-requires c κs = search needs
-
 returns : tie.Need-returns
 returns c = or-hit _ (sym (c .before .is-outside .ensures) ∙ c .if1 .taken)
-
-is-outside-requires-2 : tie.Need-is-outside-requires-2
-is-outside-requires-2 c κs = search needs
 
 returns-2 : tie.Need-returns-2
 returns-2 c = or-skip (sym (c .before .before .is-outside .ensures) ∙ c .before .if1 .left) (c .is-outside2 .ensures)
 
 pub bad-limits-spec : {M : Type 1} → statement M
-bad-limits-spec = tie.close (tie.spec is-outside-requires returns is-outside-requires-2 returns-2)
+bad-limits-spec = tie.close (tie.spec (λ c κs. search needs) returns (λ c κs. search needs) returns-2)

@@ -6,12 +6,9 @@ use Rattle.spec_rules.specs.Image.{exprWidth}
 use Rattle.spec_rules.specs.Checks.{exprBits}
 use Rattle.check_header.specs.Header.{fieldOf}
 
-field-sum-requires : tie.Need-field-sum-requires
-field-sum-requires c κs = search needs
-
 returns : tie.Need-returns
 unfolding exprBits fieldOf exprWidth
 returns c = c .field-sum .ensures
 
 pub expr-bits-spec : {M : Type 1} → statement M
-expr-bits-spec = tie.close (tie.spec field-sum-requires returns)
+expr-bits-spec = tie.close (tie.spec (λ c κs. search needs) returns)

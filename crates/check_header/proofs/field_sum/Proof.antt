@@ -16,46 +16,18 @@ Inv-loop s k f n sum₀ r₀ sum r = (r ≤ n) × (sum ≡ sumTo (fieldOf s k f)
 abbrev μ-loop : tie.MeasureT-loop
 μ-loop s k f n sum₀ r₀ sum r = n - r
 
-count-requires : tie.Need-count-requires Inv-loop μ-loop
-count-requires c κs = search needs
-
 loop-holds : tie.Need-loop-holds Inv-loop μ-loop
 loop-holds c = (omega arith, sym (sum-none _), omega arith)
 
-record-field-requires : tie.Need-record-field-requires Inv-loop μ-loop
-record-field-requires c κs = search needs
-
-cast-sum : tie.Need-cast-sum Inv-loop μ-loop
-cast-sum c = search needs
-
-add-sum : tie.Need-add-sum Inv-loop μ-loop
-add-sum c = search needs
-
-add-r : tie.Need-add-r Inv-loop μ-loop
-add-r c = search needs
-
-loop-less : tie.Need-loop-less Inv-loop μ-loop
-loop-less c = search needs
-
 loop-again : tie.Need-loop-again Inv-loop μ-loop
 unfolding fieldOf
-loop-again c = (omega arith, omega (arith, sum-more (fieldOf (now (c .before .before .before .before .before .args .s)) (c .before .before .before .before .before .args .k) (c .before .before .before .before .before .args .f)) (c .before .before .loop .r)), omega arith)
+loop-again c = (omega arith, omega (arith, sum-more (fieldOf (now (c .before .before .before .before .before .args .image)) (c .before .before .before .before .before .args .k) (c .before .before .before .before .before .args .f)) (c .before .before .loop .r)), omega arith)
 
 returns : tie.Need-returns Inv-loop μ-loop
-returns c = c .before .loop .inv .1 ∙ ap (sumTo (fieldOf (now (c .before .before .before .before .args .s)) (c .before .before .before .before .args .k) (c .before .before .before .before .args .f))) (omega arith)
+returns c = c .before .loop .inv .1 ∙ ap (sumTo (fieldOf (now (c .before .before .before .before .args .image)) (c .before .before .before .before .args .k) (c .before .before .before .before .args .f))) (omega arith)
 
 pub field-sum-spec : {M : Type 1} → statement M
 field-sum-spec =
     tie.close
-    (tie.spec
-    Inv-loop
-    μ-loop
-    count-requires
-    loop-holds
-    record-field-requires
-    cast-sum
-    add-sum
-    add-r
-    loop-less
-    loop-again
-    returns)
+    (tie.spec Inv-loop μ-loop (λ c κs. search needs) loop-holds (λ c κs. search needs) (λ c. search needs) (λ c. search needs) (λ c. search needs)
+    (λ c. search needs) loop-again returns)

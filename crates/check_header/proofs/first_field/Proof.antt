@@ -23,18 +23,9 @@ returns c = pick-hit _ (lt-yes _ _ (omega arith)) refl
 loop-holds : tie.Need-loop-holds Inv-loop μ-loop
 loop-holds c = (omega arith, begins _ _, omega arith)
 
-wrong-field-requires : tie.Need-wrong-field-requires Inv-loop μ-loop
-wrong-field-requires c κs = search needs
-
 returns-2 : tie.Need-returns-2 Inv-loop μ-loop
 unfolding firstField
 returns-2 c = pick-skip _ (lt-no _ _ (c .before .before .before .loop .inv .2)) (sym (found _ _ _ (omega arith) (c .before .before .before .loop .inv .1) (sym (c .before .wrong-field .ensures) ∙ c .if2 .taken)))
-
-add-i : tie.Need-add-i Inv-loop μ-loop
-add-i c = search needs
-
-loop-less : tie.Need-loop-less Inv-loop μ-loop
-loop-less c = search needs
 
 loop-again : tie.Need-loop-again Inv-loop μ-loop
 loop-again c = (omega arith, c .before .before .before .loop .inv .1 ∙ passed _ _ _ (omega arith) (sym (c .before .wrong-field .ensures) ∙ c .if2 .left), c .before .before .before .loop .inv .2)
@@ -46,14 +37,4 @@ returns-3 c = pick-skip _ (lt-no _ _ (c .before .loop .inv .2)) (sym (ended _ _ 
 pub first-field-spec : {M : Type 1} → statement M
 first-field-spec =
     tie.close
-    (tie.spec
-    Inv-loop
-    μ-loop
-    returns
-    loop-holds
-    wrong-field-requires
-    returns-2
-    add-i
-    loop-less
-    loop-again
-    returns-3)
+    (tie.spec Inv-loop μ-loop returns loop-holds (λ c κs. search needs) returns-2 (λ c. search needs) (λ c. search needs) loop-again returns-3)

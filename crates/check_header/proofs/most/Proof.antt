@@ -5,15 +5,9 @@ use Rattle.check_header.proofs.most.Tie as tie
 use mathlib.Core.Path.{refl}
 use Rattle.spec_rules.specs.Image.{mostOf}
 
-mul-result : tie.Need-mul-result
-mul-result c = search needs
-
-array-read-result : tie.Need-array-read-result
-array-read-result c = search needs
-
 returns : tie.Need-returns
 unfolding mostOf
 returns c = refl
 
 pub most-spec : {M : Type 1} → statement M
-most-spec = tie.close (tie.spec mul-result array-read-result returns)
+most-spec = tie.close (tie.spec (λ c. search needs) (λ c. search needs) returns)

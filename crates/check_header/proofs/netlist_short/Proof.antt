@@ -6,18 +6,9 @@ use mathlib.Core.Path.{refl}
 use Rattle.spec_tests.specs.Laws.{lt-same}
 use Rattle.spec_rules.specs.Checks.{netlistNeed}
 
-mul-result : tie.Need-mul-result
-mul-result c = search needs
-
-add-result : tie.Need-add-result
-add-result c = search needs
-
-add-result-2 : tie.Need-add-result-2
-add-result-2 c = search needs
-
 returns : tie.Need-returns
 unfolding netlistNeed
 returns c = lt-same refl refl
 
 pub netlist-short-spec : {M : Type 1} → statement M
-netlist-short-spec = tie.close (tie.spec mul-result add-result add-result-2 returns)
+netlist-short-spec = tie.close (tie.spec (λ c. search needs) (λ c. search needs) (λ c. search needs) returns)

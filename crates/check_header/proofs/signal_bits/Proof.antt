@@ -6,12 +6,9 @@ use Rattle.spec_rules.specs.Image.{signalWidth}
 use Rattle.spec_rules.specs.Checks.{signalBits}
 use Rattle.check_header.specs.Header.{fieldOf}
 
-field-sum-requires : tie.Need-field-sum-requires
-field-sum-requires c κs = search needs
-
 returns : tie.Need-returns
 unfolding signalBits fieldOf signalWidth
 returns c = c .field-sum .ensures
 
 pub signal-bits-spec : {M : Type 1} → statement M
-signal-bits-spec = tie.close (tie.spec field-sum-requires returns)
+signal-bits-spec = tie.close (tie.spec (λ c κs. search needs) returns)

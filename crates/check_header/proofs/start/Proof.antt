@@ -19,51 +19,25 @@ abbrev μ-loop : tie.MeasureT-loop
 loop-holds : tie.Need-loop-holds Inv-loop μ-loop
 loop-holds c = (omega arith, sym (start-none _), omega arith)
 
-count-requires : tie.Need-count-requires Inv-loop μ-loop
-count-requires c κs = search needs
-
-cast-at : tie.Need-cast-at Inv-loop μ-loop
-cast-at c = search needs
-
-size-requires : tie.Need-size-requires Inv-loop μ-loop
-size-requires c κs = search needs
-
 mul-at : tie.Need-mul-at Inv-loop μ-loop
 mul-at c = omega (arith, scaled (c .before .count .result) (c .size .result) (omega arith) (c .size .ensures .1))
 
 add-at : tie.Need-add-at Inv-loop μ-loop
 add-at c = omega (arith, scaled (c .before .count .result) (c .size .result) (omega arith) (c .size .ensures .1))
 
-add-j : tie.Need-add-j Inv-loop μ-loop
-add-j c = search needs
-
-loop-less : tie.Need-loop-less Inv-loop μ-loop
-loop-less c = search needs
-
 loop-again : tie.Need-loop-again Inv-loop μ-loop
 unfolding bytesOf
 loop-again c =
-    let s = now (c .before .before .before .before .before .args .s) in
+    let s = now (c .before .before .before .before .before .args .image) in
     let r = scaled (c .before .count .result) (c .size .result) (omega arith) (c .size .ensures .1) in
     let e : c .before .count .result * c .size .result ≡ bytesOf s (c .before .before .before .loop .j) = cc (c .size .ensures .0) in
     (omega arith, omega (arith, start-more s (c .before .before .before .loop .j)), omega arith)
 
 returns : tie.Need-returns Inv-loop μ-loop
-returns c = c .before .loop .inv .1 ∙ ap (startOf (now (c .before .before .before .args .s))) (omega arith)
+returns c = c .before .loop .inv .1 ∙ ap (startOf (now (c .before .before .before .args .image))) (omega arith)
 
 pub start-spec : {M : Type 1} → statement M
 start-spec =
     tie.close
-    (tie.spec
-    Inv-loop
-    μ-loop
-    loop-holds
-    count-requires
-    cast-at
-    size-requires
-    mul-at
-    add-at
-    add-j
-    loop-less
-    loop-again
-    returns)
+    (tie.spec Inv-loop μ-loop loop-holds (λ c κs. search needs) (λ c. search needs) (λ c κs. search needs) mul-at add-at (λ c. search needs)
+    (λ c. search needs) loop-again returns)

@@ -7,18 +7,9 @@ use native.Mathlib.Omega.{arith}
 use Rattle.spec_tests.specs.Laws.{or-hit, or-skip, and-miss, and-skip, lt-yes, lt-no, eq-yes, eq-no, ne-same}
 use Rattle.spec_rules.specs.Checks.{wrongCount}
 
-most-requires : tie.Need-most-requires
-most-requires c κs = search needs
-
-count-requires : tie.Need-count-requires
-count-requires c κs = search needs
-
 returns : tie.Need-returns
 unfolding wrongCount
 returns c = or-hit _ (lt-yes _ _ (omega arith))
-
-start-requires : tie.Need-start-requires
-start-requires c κs = search needs
 
 returns-2 : tie.Need-returns-2
 unfolding wrongCount
@@ -29,5 +20,4 @@ unfolding wrongCount
 returns-3 c = or-skip (lt-no _ _ (omega arith)) (and-miss _ (eq-no _ _ (c .if2 .left)))
 
 pub wrong-count-spec : {M : Type 1} → statement M
-wrong-count-spec =
-    tie.close (tie.spec most-requires count-requires returns start-requires returns-2 returns-3)
+wrong-count-spec = tie.close (tie.spec (λ c κs. search needs) (λ c κs. search needs) returns (λ c κs. search needs) returns-2 returns-3)

@@ -8,24 +8,15 @@ use Rattle.check_header.specs.Header.{header-tells}
 use Rattle.check_image.specs.Checked.{answerOf, then-fine, then-refused, refuse-yes, refuse-no, header-bad, header-fine, in-order}
 use Rattle.check_image.specs.Accepted.{counts}
 
-bad-limits-requires : tie.Need-bad-limits-requires
-bad-limits-requires c κs = search needs
-
 returns : tie.Need-returns
 unfolding answerOf rule.checked
 returns c = then-refused _ 1 0 0 (refuse-yes 1 (sym (c .before .bad-limits .ensures) ∙ c .if1 .taken))
-
-netlist-short-requires : tie.Need-netlist-short-requires
-netlist-short-requires c κs = search needs
 
 returns-2 : tie.Need-returns-2
 unfolding answerOf rule.checked
 returns-2 c =
     then-fine (refuse-no 1 (sym (c .before .before .before .bad-limits .ensures) ∙ c .before .before .if1 .left))
     (then-refused _ 2 0 0 (refuse-yes 2 (sym (c .before .netlist-short .ensures) ∙ c .if2 .taken)))
-
-first-field-requires : tie.Need-first-field-requires
-first-field-requires c κs = search needs
 
 returns-3 : tie.Need-returns-3
 unfolding answerOf rule.checked
@@ -48,12 +39,4 @@ returns-4 c =
 pub check-spec : {M : Type 1} → statement M
 check-spec =
     tie.close
-    (tie.spec
-    bad-limits-requires
-    returns
-    netlist-short-requires
-    returns-2
-    first-field-requires
-    returns-3
-    check-records-requires
-    returns-4)
+    (tie.spec (λ c κs. search needs) returns (λ c κs. search needs) returns-2 (λ c κs. search needs) returns-3 check-records-requires returns-4)

@@ -5,21 +5,9 @@ use Rattle.check_image.proofs.check_records.Tie as tie
 use Rattle.check_image.specs.Checked.{answerOf, recordsThen, then-fine, then-refused, section-bad, section-fine, all-good}
 use Rattle.check_image.specs.Accepted.{signals-fit, expr-bits}
 
-first-signal-requires : tie.Need-first-signal-requires
-first-signal-requires c κs = search needs
-
-count-requires : tie.Need-count-requires
-count-requires c κs = search needs
-
 returns : tie.Need-returns
 unfolding answerOf recordsThen
 returns c = then-refused _ 4 0 _ (section-bad _ 0 _ _ _ (c .before .before .first-signal .ensures) (c .before .count .ensures) (c .if1 .taken))
-
-first-expr-requires : tie.Need-first-expr-requires
-first-expr-requires c κs = search needs
-
-count-requires-2 : tie.Need-count-requires-2
-count-requires-2 c κs = search needs
 
 returns-2 : tie.Need-returns-2
 unfolding answerOf recordsThen
@@ -44,12 +32,5 @@ returns-3 c =
 pub check-records-spec : {M : Type 1} → statement M
 check-records-spec =
     tie.close
-    (tie.spec
-    first-signal-requires
-    count-requires
-    returns
-    first-expr-requires
-    count-requires-2
-    returns-2
-    check-drivers-requires
+    (tie.spec (λ c κs. search needs) (λ c κs. search needs) returns (λ c κs. search needs) (λ c κs. search needs) returns-2 check-drivers-requires
     returns-3)

@@ -6,27 +6,12 @@ use native.Mathlib.Omega.{arith}
 use Rattle.check_image.specs.Checked.{answerOf, driversThen, then-fine, then-refused, refuse-yes, refuse-no, section-bad, section-fine}
 use borrow.Author.Needs.{needs}
 
-first-assign-requires : tie.Need-first-assign-requires
-first-assign-requires c κs = search needs
-
-count-requires : tie.Need-count-requires
-count-requires c κs = search needs
-
-same-length : tie.Need-same-length
-same-length c = search needs
-
 returns : tie.Need-returns
 unfolding answerOf driversThen
 returns c = then-refused _ 4 3 _ (section-bad _ 3 _ _ _ (c .before .before .before .before .first-assign .ensures .0) (c .before .count .ensures) (c .if1 .taken))
 
 first-register-requires : tie.Need-first-register-requires
 first-register-requires c κs = (c .before .before .before .before .before .before .before .before .before .before .pre .0 .registers, c .before .before .before .before .before .before .before .before .before .before .pre .2, c .before .before .before .before .before .first-assign .ensures .1 (omega arith))
-
-count-requires-2 : tie.Need-count-requires-2
-count-requires-2 c κs = search needs
-
-same-length-2 : tie.Need-same-length-2
-same-length-2 c = search needs
 
 returns-2 : tie.Need-returns-2
 unfolding answerOf driversThen
@@ -39,12 +24,6 @@ returns-2 c =
 first-memory-requires : tie.Need-first-memory-requires
 first-memory-requires c κs = (c .before .before .before .before .before .before .before .before .before .before .before .before .before .before .before .before .pre .0 .memories, c .before .before .before .before .before .before .before .before .before .before .before .before .before .before .before .before .pre .2, c .before .before .before .before .before .first-register .ensures .1 (omega arith))
 
-count-requires-3 : tie.Need-count-requires-3
-count-requires-3 c κs = search needs
-
-same-length-3 : tie.Need-same-length-3
-same-length-3 c = search needs
-
 returns-3 : tie.Need-returns-3
 unfolding answerOf driversThen
 returns-3 c =
@@ -55,12 +34,6 @@ returns-3 c =
     then-fine (section-fine _ 3 _ _ _ (c16 .first-assign .ensures .0) (c12 .before .count .ensures) (c12 .if1 .left))
     (then-fine (section-fine _ 4 _ _ _ (c8 .before .before .first-register .ensures .0) (c4 .before .before .before .count2 .ensures) (c4 .before .before .if2 .left))
     (then-refused _ 4 5 _ (section-bad _ 5 _ _ _ (c4 .first-memory .ensures) (c .before .count3 .ensures) (c .if3 .taken))))
-
-scratch-short-requires : tie.Need-scratch-short-requires
-scratch-short-requires c κs = search needs
-
-same-length-4 : tie.Need-same-length-4
-same-length-4 c = search needs
 
 returns-4 : tie.Need-returns-4
 unfolding answerOf driversThen
@@ -73,9 +46,6 @@ returns-4 c =
     (then-fine (section-fine _ 4 _ _ _ (c12 .first-register .ensures .0) (c8 .before .count2 .ensures) (c8 .if2 .left))
     (then-fine (section-fine _ 5 _ _ _ (c4 .before .before .first-memory .ensures) (c .before .before .before .count3 .ensures) (c .before .before .if3 .left))
     (sym (refuse-yes 5 (sym (c .before .scratch-short .ensures) ∙ c .if4 .taken)))))
-
-same-length-5 : tie.Need-same-length-5
-same-length-5 c = search needs
 
 returns-5 : tie.Need-returns-5
 unfolding answerOf driversThen
@@ -92,21 +62,6 @@ returns-5 c =
 pub check-sections-spec : {M : Type 1} → statement M
 check-sections-spec =
     tie.close
-    (tie.spec
-    first-assign-requires
-    count-requires
-    same-length
-    returns
-    first-register-requires
-    count-requires-2
-    same-length-2
-    returns-2
-    first-memory-requires
-    count-requires-3
-    same-length-3
-    returns-3
-    scratch-short-requires
-    same-length-4
-    returns-4
-    same-length-5
-    returns-5)
+    (tie.spec (λ c κs. search needs) (λ c κs. search needs) (λ c. search needs) returns first-register-requires (λ c κs. search needs)
+    (λ c. search needs) returns-2 first-memory-requires (λ c κs. search needs) (λ c. search needs) returns-3 (λ c κs. search needs)
+    (λ c. search needs) returns-4 (λ c. search needs) returns-5)

@@ -6,18 +6,9 @@ use borrow.Author.Needs.{needs}
 use Rattle.spec_tests.specs.Laws.{or-hit, or-skip}
 use Rattle.spec_rules.specs.Checks.{badAddress}
 
-no-expr-requires : tie.Need-no-expr-requires
-no-expr-requires c κs = search needs
-
 returns : tie.Need-returns
 unfolding badAddress
 returns c = or-hit _ (sym (c .before .no-expr .ensures) ∙ c .if1 .taken)
-
-expr-width-requires : tie.Need-expr-width-requires
-expr-width-requires c κs = search needs
-
-is-outside-requires : tie.Need-is-outside-requires
-is-outside-requires c κs = search needs
 
 returns-2 : tie.Need-returns-2
 unfolding badAddress
@@ -26,5 +17,4 @@ returns-2 c =
     (rw (c .before .expr-width .ensures) at (c .is-outside .ensures))
 
 pub bad-address-spec : {M : Type 1} → statement M
-bad-address-spec =
-    tie.close (tie.spec no-expr-requires returns expr-width-requires is-outside-requires returns-2)
+bad-address-spec = tie.close (tie.spec (λ c κs. search needs) returns (λ c κs. search needs) (λ c κs. search needs) returns-2)

@@ -6,20 +6,8 @@ use Rattle.spec_tests.specs.Laws.{or-hit, or-skip}
 use Rattle.check_memories.specs.Memory.{port-halves, read-there}
 use borrow.Author.Needs.{needs}
 
-add-record-field : tie.Need-add-record-field
-add-record-field c = search needs
-
-record-field-requires : tie.Need-record-field-requires
-record-field-requires c κs = search needs
-
-bad-read-requires : tie.Need-bad-read-requires
-bad-read-requires c κs = search needs
-
 returns : tie.Need-returns
 returns c = or-hit _ (sym (rw (c .before .before .record-field .ensures) at (c .before .bad-read .ensures)) ∙ c .if1 .taken) ∙ port-halves _ _ _ _
-
-bad-write-requires : tie.Need-bad-write-requires
-bad-write-requires c κs = search needs
 
 returns-2 : tie.Need-returns-2
 returns-2 c =
@@ -42,12 +30,4 @@ returns-3 c =
 pub bad-port-spec : {M : Type 1} → statement M
 bad-port-spec =
     tie.close
-    (tie.spec
-    add-record-field
-    record-field-requires
-    bad-read-requires
-    returns
-    bad-write-requires
-    returns-2
-    is-driven-requires
-    returns-3)
+    (tie.spec (λ c. search needs) (λ c κs. search needs) (λ c κs. search needs) returns (λ c κs. search needs) returns-2 is-driven-requires returns-3)

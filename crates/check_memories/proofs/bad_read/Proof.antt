@@ -6,27 +6,15 @@ use borrow.Author.Needs.{needs}
 use Rattle.spec_tests.specs.Laws.{or-hit, or-skip, ne-yes, ne-no}
 use Rattle.check_memories.specs.Memory.{badRead}
 
-record-field-requires : tie.Need-record-field-requires
-record-field-requires c κs = search needs
-
-bad-address-requires : tie.Need-bad-address-requires
-bad-address-requires c κs = search needs
-
 returns : tie.Need-returns
 unfolding badRead
 returns c = or-hit _ (sym (rw (c .before .before .record-field .ensures) at (c .before .bad-address .ensures)) ∙ c .if1 .taken)
-
-no-signal-requires : tie.Need-no-signal-requires
-no-signal-requires c κs = search needs
 
 returns-2 : tie.Need-returns-2
 unfolding badRead
 returns-2 c =
     or-skip (sym (rw (c .before .before .before .before .record-field .ensures) at (c .before .before .before .bad-address .ensures)) ∙ c .before .before .if1 .left)
     (or-hit _ (sym (c .before .no-signal .ensures) ∙ c .if2 .taken))
-
-signal-width-requires : tie.Need-signal-width-requires
-signal-width-requires c κs = search needs
 
 returns-3 : tie.Need-returns-3
 unfolding badRead
@@ -35,12 +23,6 @@ returns-3 c =
     or-skip (sym (rw (c4 .before .before .record-field .ensures) at (c4 .before .bad-address .ensures)) ∙ c4 .if1 .left)
     (or-skip (sym (c .before .before .before .no-signal .ensures) ∙ c .before .before .if2 .left)
     (or-hit _ (ne-yes _ _ (λ e. c .if3 .taken (c .before .signal-width .ensures ∙ e)))))
-
-add-bad-optional : tie.Need-add-bad-optional
-add-bad-optional c = search needs
-
-bad-optional-requires : tie.Need-bad-optional-requires
-bad-optional-requires c κs = search needs
 
 returns-4 : tie.Need-returns-4
 unfolding badRead
@@ -54,14 +36,5 @@ returns-4 c =
 pub bad-read-spec : {M : Type 1} → statement M
 bad-read-spec =
     tie.close
-    (tie.spec
-    record-field-requires
-    bad-address-requires
-    returns
-    no-signal-requires
-    returns-2
-    signal-width-requires
-    returns-3
-    add-bad-optional
-    bad-optional-requires
-    returns-4)
+    (tie.spec (λ c κs. search needs) (λ c κs. search needs) returns (λ c κs. search needs) returns-2 (λ c κs. search needs) returns-3
+    (λ c. search needs) (λ c κs. search needs) returns-4)

@@ -6,21 +6,9 @@ use Rattle.spec_tests.specs.Laws.{or-hit, or-skip}
 use Rattle.check_memories.specs.Memory.{badRest}
 use borrow.Author.Needs.{needs}
 
-record-field-requires : tie.Need-record-field-requires
-record-field-requires c κs = search needs
-
-signal-width-requires : tie.Need-signal-width-requires
-signal-width-requires c κs = search needs
-
-bad-shape-requires : tie.Need-bad-shape-requires
-bad-shape-requires c κs = search needs
-
 returns : tie.Need-returns
 unfolding badRest
 returns c = or-hit _ (sym (rw (c .before .before .signal-width .ensures, c .before .before .before .record-field .ensures) at (c .before .bad-shape .ensures)) ∙ c .if1 .taken)
-
-bad-port-requires : tie.Need-bad-port-requires
-bad-port-requires c κs = search needs
 
 returns-2 : tie.Need-returns-2
 unfolding badRest
@@ -28,12 +16,6 @@ returns-2 c =
     let c4 = c .before .before .before .before in
     or-skip (sym (rw (c4 .signal-width .ensures, c4 .before .record-field .ensures) at (c .before .before .before .bad-shape .ensures)) ∙ c .before .before .if1 .left)
     (or-hit _ (sym (rw (c4 .signal-width .ensures, c4 .before .record-field .ensures) at (c .before .bad-port .ensures)) ∙ c .if2 .taken))
-
-record-field-requires-2 : tie.Need-record-field-requires-2
-record-field-requires-2 c κs = search needs
-
-bad-second-requires : tie.Need-bad-second-requires
-bad-second-requires c κs = search needs
 
 returns-3 : tie.Need-returns-3
 unfolding badRest
@@ -47,4 +29,5 @@ returns-3 c =
 pub bad-rest-spec : {M : Type 1} → statement M
 bad-rest-spec =
     tie.close
-    (tie.spec record-field-requires signal-width-requires bad-shape-requires returns bad-port-requires returns-2 record-field-requires-2 bad-second-requires returns-3)
+    (tie.spec (λ c κs. search needs) (λ c κs. search needs) (λ c κs. search needs) returns (λ c κs. search needs) returns-2 (λ c κs. search needs)
+    (λ c κs. search needs) returns-3)

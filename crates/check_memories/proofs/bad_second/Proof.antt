@@ -6,9 +6,6 @@ use Rattle.spec_tests.specs.Laws.{pick-hit, pick-skip, or-hit, or-skip, eq-yes,
 use Rattle.spec_rules.specs.Checks.{badSecond}
 use borrow.Author.Needs.{needs}
 
-not-zero-requires : tie.Need-not-zero-requires
-not-zero-requires c κs = search needs
-
 returns : tie.Need-returns
 unfolding badSecond
 returns c = pick-hit _ (eq-yes _ _ (c .before .if1 .taken)) (c .not-zero .ensures)
@@ -17,21 +14,12 @@ returns-2 : tie.Need-returns-2
 unfolding badSecond
 returns-2 c = pick-skip _ (eq-no _ _ (c .before .if1 .left)) (pick-skip _ (eq-no _ _ (c .if2 .taken)) refl)
 
-bad-port-requires : tie.Need-bad-port-requires
-bad-port-requires c κs = search needs
-
 returns-3 : tie.Need-returns-3
 unfolding badSecond
 returns-3 c =
     pick-skip _ (eq-no _ _ (c .before .before .before .if1 .left))
     (pick-hit _ (eq-yes _ _ (c .before .before .if2 .left))
     (or-hit _ (sym (c .before .bad-port .ensures) ∙ c .if3 .taken)))
-
-record-field-requires : tie.Need-record-field-requires
-record-field-requires c κs = search needs
-
-record-field-requires-2 : tie.Need-record-field-requires-2
-record-field-requires-2 c κs = search needs
 
 returns-4 : tie.Need-returns-4
 unfolding badSecond
@@ -43,12 +31,4 @@ returns-4 c =
 pub bad-second-spec : {M : Type 1} → statement M
 bad-second-spec =
     tie.close
-    (tie.spec
-    not-zero-requires
-    returns
-    returns-2
-    bad-port-requires
-    returns-3
-    record-field-requires
-    record-field-requires-2
-    returns-4)
+    (tie.spec (λ c κs. search needs) returns returns-2 (λ c κs. search needs) returns-3 (λ c κs. search needs) (λ c κs. search needs) returns-4)

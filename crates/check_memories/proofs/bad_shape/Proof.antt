@@ -6,27 +6,15 @@ use Rattle.spec_tests.specs.Laws.{or-hit, or-skip, lt-yes, lt-no, ne-yes, ne-no
 use Rattle.check_memories.specs.Memory.{badShape}
 use borrow.Author.Needs.{needs}
 
-record-field-requires : tie.Need-record-field-requires
-record-field-requires c κs = search needs
-
-is-outside-requires : tie.Need-is-outside-requires
-is-outside-requires c κs = search needs
-
 returns : tie.Need-returns
 unfolding badShape
 returns c = or-hit _ (sym (rw (c .before .before .record-field .ensures) at (c .before .is-outside .ensures)) ∙ c .if1 .taken)
-
-record-field-requires-2 : tie.Need-record-field-requires-2
-record-field-requires-2 c κs = search needs
 
 returns-2 : tie.Need-returns-2
 unfolding badShape
 returns-2 c =
     or-skip (sym (rw (c .before .before .before .before .record-field .ensures) at (c .before .before .before .is-outside .ensures)) ∙ c .before .before .if1 .left)
     (or-hit _ (ne-yes _ _ (λ e. c .if2 .taken (c .before .record-field2 .ensures ∙ e))))
-
-record-field-requires-3 : tie.Need-record-field-requires-3
-record-field-requires-3 c κs = search needs
 
 returns-3 : tie.Need-returns-3
 unfolding badShape
@@ -35,9 +23,6 @@ returns-3 c =
     or-skip (sym (rw (c4 .before .before .record-field .ensures) at (c4 .before .is-outside .ensures)) ∙ c4 .if1 .left)
     (or-skip (ne-no _ _ (sym (c .before .before .before .record-field2 .ensures) ∙ c .before .before .if2 .left))
     (or-hit _ (lt-yes _ _ (rw (c .before .record-field3 .ensures) at (c .if3 .taken)))))
-
-record-field-requires-4 : tie.Need-record-field-requires-4
-record-field-requires-4 c κs = search needs
 
 returns-4 : tie.Need-returns-4
 unfolding badShape
@@ -50,4 +35,5 @@ returns-4 c =
 pub bad-shape-spec : {M : Type 1} → statement M
 bad-shape-spec =
     tie.close
-    (tie.spec record-field-requires is-outside-requires returns record-field-requires-2 returns-2 record-field-requires-3 returns-3 record-field-requires-4 returns-4)
+    (tie.spec (λ c κs. search needs) (λ c κs. search needs) returns (λ c κs. search needs) returns-2 (λ c κs. search needs) returns-3
+    (λ c κs. search needs) returns-4)

@@ -6,39 +6,15 @@ use borrow.Author.Needs.{needs}
 use Rattle.spec_tests.specs.Laws.{or-hit, or-skip, lt-same}
 use Rattle.check_memories.specs.Memory.{badWrite}
 
-add-record-field : tie.Need-add-record-field
-add-record-field c = search needs
-
-record-field-requires : tie.Need-record-field-requires
-record-field-requires c κs = search needs
-
-bad-address-requires : tie.Need-bad-address-requires
-bad-address-requires c κs = search needs
-
 returns : tie.Need-returns
 unfolding badWrite
 returns c = or-hit _ (sym (rw (c .before .before .record-field .ensures) at (c .before .bad-address .ensures)) ∙ c .if1 .taken)
-
-add-record-field-2 : tie.Need-add-record-field-2
-add-record-field-2 c = search needs
-
-record-field-requires-2 : tie.Need-record-field-requires-2
-record-field-requires-2 c κs = search needs
-
-bad-value-requires : tie.Need-bad-value-requires
-bad-value-requires c κs = search needs
 
 returns-2 : tie.Need-returns-2
 unfolding badWrite
 returns-2 c =
     or-skip (sym (rw (c .before .before .before .before .before .record-field .ensures) at (c .before .before .before .before .bad-address .ensures)) ∙ c .before .before .before .if1 .left)
     (or-hit _ (sym (rw (c .before .before .record-field2 .ensures) at (c .before .bad-value .ensures)) ∙ c .if2 .taken))
-
-add-bad-control : tie.Need-add-bad-control
-add-bad-control c = search needs
-
-bad-control-requires : tie.Need-bad-control-requires
-bad-control-requires c κs = search needs
 
 returns-3 : tie.Need-returns-3
 unfolding badWrite
@@ -47,15 +23,6 @@ returns-3 c =
     or-skip (sym (rw (c4 .before .before .before .record-field .ensures) at (c4 .before .before .bad-address .ensures)) ∙ c4 .before .if1 .left)
     (or-skip (sym (rw (c4 .record-field2 .ensures) at (c .before .before .before .bad-value .ensures)) ∙ c .before .before .if2 .left)
     (or-hit _ (sym (c .before .bad-control .ensures) ∙ c .if3 .taken)))
-
-add-record-field-3 : tie.Need-add-record-field-3
-add-record-field-3 c = search needs
-
-record-field-requires-3 : tie.Need-record-field-requires-3
-record-field-requires-3 c κs = search needs
-
-bad-bit-requires : tie.Need-bad-bit-requires
-bad-bit-requires c κs = search needs
 
 returns-4 : tie.Need-returns-4
 unfolding badWrite
@@ -66,12 +33,6 @@ returns-4 c =
     (or-skip (sym (rw (c4 .before .before .before .record-field2 .ensures) at (c4 .before .before .bad-value .ensures)) ∙ c4 .before .if2 .left)
     (or-skip (sym (c4 .bad-control .ensures) ∙ c .before .before .before .if3 .left)
     (or-hit _ (sym (rw (c .before .before .record-field3 .ensures) at (c .before .bad-bit .ensures)) ∙ c .if4 .taken))))
-
-add-record-field-4 : tie.Need-add-record-field-4
-add-record-field-4 c = search needs
-
-record-field-requires-4 : tie.Need-record-field-requires-4
-record-field-requires-4 c κs = search needs
 
 returns-5 : tie.Need-returns-5
 unfolding badWrite
@@ -87,22 +48,6 @@ returns-5 c =
 pub bad-write-spec : {M : Type 1} → statement M
 bad-write-spec =
     tie.close
-    (tie.spec
-    add-record-field
-    record-field-requires
-    bad-address-requires
-    returns
-    add-record-field-2
-    record-field-requires-2
-    bad-value-requires
-    returns-2
-    add-bad-control
-    bad-control-requires
-    returns-3
-    add-record-field-3
-    record-field-requires-3
-    bad-bit-requires
-    returns-4
-    add-record-field-4
-    record-field-requires-4
-    returns-5)
+    (tie.spec (λ c. search needs) (λ c κs. search needs) (λ c κs. search needs) returns (λ c. search needs) (λ c κs. search needs)
+    (λ c κs. search needs) returns-2 (λ c. search needs) (λ c κs. search needs) returns-3 (λ c. search needs) (λ c κs. search needs)
+    (λ c κs. search needs) returns-4 (λ c. search needs) (λ c κs. search needs) returns-5)

@@ -5,12 +5,6 @@ use mathlib.Core.Bool.{true≢false}
 use mathlib.Core.Path.{sym, _∙_}
 use borrow.Author.Needs.{needs}
 
-bad-rest-requires : tie.Need-bad-rest-requires
-bad-rest-requires c κs = search needs
-
-same-length : tie.Need-same-length
-same-length c = search needs
-
 returns : tie.Need-returns
 returns c = (sym (c .if1 .taken) ∙ c .before .bad-rest .ensures, λ e. absurd (true≢false e))
 
@@ -19,13 +13,8 @@ mark-memory-requires c κs =
     let c4 = c .before .before .before .before in
     (c4 .before .before .before .pre .0, c4 .before .before .before .pre .1, sym (c .before .before .bad-rest .ensures) ∙ c .before .if1 .left)
 
-same-length-2 : tie.Need-same-length-2
-same-length-2 c = search needs
-
 returns-2 : tie.Need-returns-2
 returns-2 c = (sym (c .before .before .before .before .if1 .left) ∙ c .before .before .before .before .before .bad-rest .ensures, λ e. c .before .before .mark-memory .ensures)
 
 pub check-rest-spec : {M : Type 1} → statement M
-check-rest-spec =
-    tie.close
-    (tie.spec bad-rest-requires same-length returns mark-memory-requires same-length-2 returns-2)
+check-rest-spec = tie.close (tie.spec (λ c κs. search needs) (λ c. search needs) returns mark-memory-requires (λ c. search needs) returns-2)

@@ -6,22 +6,8 @@ use Rattle.check_memories.specs.Memory.{first-earlier}
 use Rattle.check_names.specs.Earlier.{earlierOf}
 use borrow.Author.Needs.{needs}
 
-first-name-requires : tie.Need-first-name-requires
-first-name-requires c κs = search needs
-
-first-rest-requires : tie.Need-first-rest-requires
-first-rest-requires c κs = search needs
-
-earlier-requires : tie.Need-earlier-requires
-earlier-requires c κs = search needs
-
-same-length : tie.Need-same-length
-same-length c = search needs
-
 returns : tie.Need-returns
 returns c = c .earlier .ensures ∙ (ap₂ earlierOf (c .before .before .before .before .before .first-name .ensures) (c .before .before .before .first-rest .ensures) ∙ sym (first-earlier _ _))
 
 pub first-memory-spec : {M : Type 1} → statement M
-first-memory-spec =
-    tie.close
-    (tie.spec first-name-requires first-rest-requires earlier-requires same-length returns)
+first-memory-spec = tie.close (tie.spec (λ c κs. search needs) (λ c κs. search needs) (λ c κs. search needs) (λ c. search needs) returns)

@@ -18,9 +18,6 @@ Inv-loop s firsts taken₀ n r₀ taken r = (r ≤ countAt s 5) × (first (badRe
 abbrev μ-loop : tie.MeasureT-loop
 μ-loop s firsts taken₀ n r₀ taken r = n - r
 
-count-requires : tie.Need-count-requires Inv-loop μ-loop
-count-requires c κs = search needs
-
 loop-holds : tie.Need-loop-holds Inv-loop μ-loop
 loop-holds c = (omega arith, begins _ _, c .before .before .before .before .pre .1, refl)
 
@@ -29,17 +26,8 @@ check-rest-requires c κs =
     let c4 = c .before .before .before .before in
     (c4 .before .before .before .pre .0, c .before .before .loop .inv .2)
 
-same-length : tie.Need-same-length Inv-loop μ-loop
-same-length c = search needs
-
 returns : tie.Need-returns Inv-loop μ-loop
 returns c = sym (found _ _ _ (omega arith) (c .before .before .before .before .before .before .loop .inv .1) (sym (c .before .before .before .check-rest .ensures .0) ∙ c .if1 .taken))
-
-add-r : tie.Need-add-r Inv-loop μ-loop
-add-r c = search needs
-
-loop-less : tie.Need-loop-less Inv-loop μ-loop
-loop-less c = search needs
 
 loop-again : tie.Need-loop-again Inv-loop μ-loop
 loop-again c = (
@@ -49,25 +37,11 @@ loop-again c = (
   search needs,
 )
 
-same-length-2 : tie.Need-same-length-2 Inv-loop μ-loop
-same-length-2 c = search needs
-
 returns-2 : tie.Need-returns-2 Inv-loop μ-loop
 returns-2 c = c .before .before .count .ensures ∙ sym (ended _ _ _ (omega arith) (omega arith) (c .before .loop .inv .1))
 
 pub first-rest-spec : {M : Type 1} → statement M
 first-rest-spec =
     tie.close
-    (tie.spec
-    Inv-loop
-    μ-loop
-    count-requires
-    loop-holds
-    check-rest-requires
-    same-length
-    returns
-    add-r
-    loop-less
-    loop-again
-    same-length-2
-    returns-2)
+    (tie.spec Inv-loop μ-loop (λ c κs. search needs) loop-holds check-rest-requires (λ c. search needs) returns (λ c. search needs)
+    (λ c. search needs) loop-again (λ c. search needs) returns-2)

@@ -18,24 +18,9 @@ abbrev μ-loop : tie.MeasureT-loop
 loop-holds : tie.Need-loop-holds Inv-loop μ-loop
 loop-holds c = (omega arith, begins _ _)
 
-cast-byte : tie.Need-cast-byte Inv-loop μ-loop
-cast-byte c = search needs
-
-byte-requires : tie.Need-byte-requires Inv-loop μ-loop
-byte-requires c κs = search needs
-
-is-outside-requires : tie.Need-is-outside-requires Inv-loop μ-loop
-is-outside-requires c κs = search needs
-
 returns : tie.Need-returns Inv-loop μ-loop
 unfolding badByte
 returns c = sym (any-yes _ _ _ (omega arith) (c .before .before .before .before .loop .inv .1) (cc (c .before .before .byte .ensures .0)))
-
-add-i : tie.Need-add-i Inv-loop μ-loop
-add-i c = search needs
-
-loop-less : tie.Need-loop-less Inv-loop μ-loop
-loop-less c = search needs
 
 loop-again : tie.Need-loop-again Inv-loop μ-loop
 unfolding badByte
@@ -47,15 +32,5 @@ returns-2 c = sym (any-no _ _ _ (omega arith) (omega arith) (c .before .loop .in
 pub bad-bytes-spec : {M : Type 1} → statement M
 bad-bytes-spec =
     tie.close
-    (tie.spec
-    Inv-loop
-    μ-loop
-    loop-holds
-    cast-byte
-    byte-requires
-    is-outside-requires
-    returns
-    add-i
-    loop-less
-    loop-again
-    returns-2)
+    (tie.spec Inv-loop μ-loop loop-holds (λ c. search needs) (λ c κs. search needs) (λ c κs. search needs) returns (λ c. search needs)
+    (λ c. search needs) loop-again returns-2)

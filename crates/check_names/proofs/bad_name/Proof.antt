@@ -13,65 +13,23 @@ use Rattle.spec_tests.specs.Rules.{outside, any}
 use Rattle.spec_rules.specs.Image.{nameOf}
 use denote.Ref.{now}
 
-record-field-requires : tie.Need-record-field-requires
-record-field-requires c κs = search needs
-
-record-field-requires-2 : tie.Need-record-field-requires-2
-record-field-requires-2 c κs = search needs
-
-is-outside-requires : tie.Need-is-outside-requires
-is-outside-requires c κs = search needs
-
 returns : tie.Need-returns
 unfolding badName
 returns c = or-hit _ (ap (λ (x : ℕ). outside x 1 64) (sym (c .before .before .record-field2 .ensures)) ∙ sym (c .before .is-outside .ensures) ∙ c .if1 .taken)
 
-count-requires : tie.Need-count-requires
-count-requires c κs = search needs
-
-cast-if2 : tie.Need-cast-if2
-cast-if2 c = search needs
-
-cast-if2-2 : tie.Need-cast-if2-2
-cast-if2-2 c = search needs
-
-cast-if2-3 : tie.Need-cast-if2-3
-cast-if2-3 c = search needs
-
-add-if2 : tie.Need-add-if2
-add-if2 c = search needs
-
 returns-2 : tie.Need-returns-2
 unfolding badName
 returns-2 c = or-skip (ap (λ (x : ℕ). outside x 1 64) (sym (c .before .before .before .before .record-field2 .ensures)) ∙ sym (c .before .before .before .is-outside .ensures) ∙ c .before .before .if1 .left) (or-hit _ (lt-yes _ _ (omega arith)))
-
-name-requires : tie.Need-name-requires
-name-requires c κs = search needs
-
-bad-bytes-requires : tie.Need-bad-bytes-requires
-bad-bytes-requires c κs = search needs
 
 returns-3 : tie.Need-returns-3
 unfolding badName badByte
 returns-3 c =
     let bytes = ap (λ (t : List ℕ). any (badByte t) (c .before .before .before .before .before .before .record-field2 .result)) (c .before .name .ensures) in
     or-skip (ap (λ (x : ℕ). outside x 1 64) (sym (c .before .before .before .before .before .before .record-field2 .ensures)) ∙ sym (c .before .before .before .before .before .is-outside .ensures) ∙ c .before .before .before .before .if1 .left)
-    (or-skip (lt-no _ _ (omega arith)) (c .bad-bytes .ensures ∙ bytes ∙ ap (any (badByte (nameOf (now (c .before .before .before .before .before .before .before .before .before .args .s)) (c .before .before .before .before .before .before .before .before .before .args .k) (c .before .before .before .before .before .before .before .before .before .args .r)))) (c .before .before .before .before .before .before .record-field2 .ensures)))
+    (or-skip (lt-no _ _ (omega arith)) (c .bad-bytes .ensures ∙ bytes ∙ ap (any (badByte (nameOf (now (c .before .before .before .before .before .before .before .before .before .args .image)) (c .before .before .before .before .before .before .before .before .before .args .k) (c .before .before .before .before .before .before .before .before .before .args .r)))) (c .before .before .before .before .before .before .record-field2 .ensures)))
 
 pub bad-name-spec : {M : Type 1} → statement M
 bad-name-spec =
     tie.close
-    (tie.spec
-    record-field-requires
-    record-field-requires-2
-    is-outside-requires
-    returns
-    count-requires
-    cast-if2
-    cast-if2-2
-    cast-if2-3
-    add-if2
-    returns-2
-    name-requires
-    bad-bytes-requires
-    returns-3)
+    (tie.spec (λ c κs. search needs) (λ c κs. search needs) (λ c κs. search needs) returns (λ c κs. search needs) (λ c. search needs)
+    (λ c. search needs) (λ c. search needs) (λ c. search needs) returns-2 (λ c κs. search needs) (λ c κs. search needs) returns-3)

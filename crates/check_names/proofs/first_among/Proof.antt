@@ -16,20 +16,8 @@ Inv-loop s k n hs seen₀ r₀ seen r = (r ≤ n) × (first (wrongName s k) n �
 abbrev μ-loop : tie.MeasureT-loop
 μ-loop s k n hs seen₀ r₀ seen r = n - r
 
-lay-hashes-requires : tie.Need-lay-hashes-requires Inv-loop μ-loop
-lay-hashes-requires c κs = search needs
-
 loop-holds : tie.Need-loop-holds Inv-loop μ-loop
 loop-holds c = (omega arith, begins _ _, seen-none _ _ _, refl)
-
-bad-name-requires : tie.Need-bad-name-requires Inv-loop μ-loop
-bad-name-requires c κs = search needs
-
-same-length : tie.Need-same-length Inv-loop μ-loop
-same-length c = search needs
-
-same-length-2 : tie.Need-same-length-2 Inv-loop μ-loop
-same-length-2 c = search needs
 
 returns : tie.Need-returns Inv-loop μ-loop
 unfolding wrongName
@@ -38,21 +26,9 @@ returns c = sym (found _ _ _ (omega arith) (c .before .before .before .loop .inv
 name-seen-requires : tie.Need-name-seen-requires Inv-loop μ-loop
 name-seen-requires c κs = (omega arith, hashed-less _ _ _ _ _ (omega arith) (c .before .before .before .before .before .before .before .before .lay-hashes .ensures), omega arith, c .before .before .before .before .before .loop .inv .2)
 
-same-length-3 : tie.Need-same-length-3 Inv-loop μ-loop
-same-length-3 c = search needs
-
-same-length-4 : tie.Need-same-length-4 Inv-loop μ-loop
-same-length-4 c = search needs
-
 returns-2 : tie.Need-returns-2 Inv-loop μ-loop
 unfolding wrongName
 returns-2 c = sym (found _ _ _ (omega arith) (c .before .before .before .before .before .before .before .before .before .loop .inv .1) (sym (or-skip (sym (c .before .before .before .before .before .before .before .bad-name .ensures) ∙ c .before .before .before .before .before .before .if1 .left) (sym (c .if2 .taken) ∙ c .before .before .before .name-seen .ensures .0))))
-
-add-r : tie.Need-add-r Inv-loop μ-loop
-add-r c = search needs
-
-loop-less : tie.Need-loop-less Inv-loop μ-loop
-loop-less c = search needs
 
 loop-again : tie.Need-loop-again Inv-loop μ-loop
 unfolding wrongName
@@ -63,34 +39,12 @@ loop-again c = (
   search needs,
 )
 
-same-length-5 : tie.Need-same-length-5 Inv-loop μ-loop
-same-length-5 c = search needs
-
-same-length-6 : tie.Need-same-length-6 Inv-loop μ-loop
-same-length-6 c = search needs
-
 returns-3 : tie.Need-returns-3 Inv-loop μ-loop
 returns-3 c = sym (ended _ _ _ (omega arith) (omega arith) (c .before .loop .inv .1))
 
 pub first-among-spec : {M : Type 1} → statement M
 first-among-spec =
     tie.close
-    (tie.spec
-    Inv-loop
-    μ-loop
-    lay-hashes-requires
-    loop-holds
-    bad-name-requires
-    same-length
-    same-length-2
-    returns
-    name-seen-requires
-    same-length-3
-    same-length-4
-    returns-2
-    add-r
-    loop-less
-    loop-again
-    same-length-5
-    same-length-6
-    returns-3)
+    (tie.spec Inv-loop μ-loop (λ c κs. search needs) loop-holds (λ c κs. search needs) (λ c. search needs) (λ c. search needs) returns
+    name-seen-requires (λ c. search needs) (λ c. search needs) returns-2 (λ c. search needs) (λ c. search needs) loop-again (λ c. search needs)
+    (λ c. search needs) returns-3)

@@ -17,29 +17,8 @@ abbrev μ-loop : tie.MeasureT-loop
 loop-holds : tie.Need-loop-holds Inv-loop μ-loop
 loop-holds c = (omega arith, refl, hashed-none _ _ _)
 
-name-hash-requires : tie.Need-name-hash-requires Inv-loop μ-loop
-name-hash-requires c κs = search needs
-
-cast-hs : tie.Need-cast-hs Inv-loop μ-loop
-cast-hs c = search needs
-
-mul-hs : tie.Need-mul-hs Inv-loop μ-loop
-mul-hs c = search needs
-
-slice-write-hs : tie.Need-slice-write-hs Inv-loop μ-loop
-slice-write-hs c = search needs
-
-add-i : tie.Need-add-i Inv-loop μ-loop
-add-i c = search needs
-
-loop-less : tie.Need-loop-less Inv-loop μ-loop
-loop-less c = search needs
-
 loop-again : tie.Need-loop-again Inv-loop μ-loop
 loop-again c = (omega arith, simp length-set (c .before .before .loop .inv .1), hashed-more _ _ _ _ _ (omega arith) (c .name-hash .ensures) (c .before .before .loop .inv .2))
-
-same-length : tie.Need-same-length Inv-loop μ-loop
-same-length c = search needs
 
 returns : tie.Need-returns Inv-loop μ-loop
 returns c = hashed-less _ _ _ _ _ (omega arith) (c .before .loop .inv .2)
@@ -47,16 +26,5 @@ returns c = hashed-less _ _ _ _ _ (omega arith) (c .before .loop .inv .2)
 pub lay-hashes-spec : {M : Type 1} → statement M
 lay-hashes-spec =
     tie.close
-    (tie.spec
-    Inv-loop
-    μ-loop
-    loop-holds
-    name-hash-requires
-    cast-hs
-    mul-hs
-    slice-write-hs
-    add-i
-    loop-less
-    loop-again
-    same-length
-    returns)
+    (tie.spec Inv-loop μ-loop loop-holds (λ c κs. search needs) (λ c. search needs) (λ c. search needs) (λ c. search needs) (λ c. search needs)
+    (λ c. search needs) loop-again (λ c. search needs) returns)

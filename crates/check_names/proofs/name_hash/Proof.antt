@@ -4,18 +4,9 @@ use Rattle.check_names.proofs.name_hash.Statement.{statement}
 use Rattle.check_names.proofs.name_hash.Tie as tie
 use Rattle.check_names.specs.Names.{hashAt}
 
-name-requires : tie.Need-name-requires
-name-requires c κs = search needs
-
-stretch-requires : tie.Need-stretch-requires
-stretch-requires c κs = search needs
-
-hash-requires : tie.Need-hash-requires
-hash-requires c κs = search needs
-
 returns : tie.Need-returns
 unfolding hashAt
 returns c = cc
 
 pub name-hash-spec : {M : Type 1} → statement M
-name-hash-spec = tie.close (tie.spec name-requires stretch-requires hash-requires returns)
+name-hash-spec = tie.close (tie.spec (λ c κs. search needs) (λ c κs. search needs) (λ c κs. search needs) returns)

@@ -24,12 +24,6 @@ same-name-requires c κs = (omega arith, c .before .before .before .before .pre 
 returns : tie.Need-returns Inv-loop μ-loop
 returns c = sym (taken-from _ _ _ ∙ any-yes _ _ _ (omega arith) (c .before .before .before .loop .inv .1) (sym (c .before .same-name .ensures) ∙ c .if1 .taken))
 
-add-j : tie.Need-add-j Inv-loop μ-loop
-add-j c = search needs
-
-loop-less : tie.Need-loop-less Inv-loop μ-loop
-loop-less c = search needs
-
 loop-again : tie.Need-loop-again Inv-loop μ-loop
 loop-again c = (omega arith, c .before .before .before .loop .inv .1 ∙ passed _ _ _ (omega arith) (sym (c .before .same-name .ensures) ∙ c .if1 .left))
 
@@ -39,13 +33,4 @@ returns-2 c = sym (taken-from _ _ _ ∙ any-no _ _ _ (omega arith) (omega arith)
 pub name-taken-spec : {M : Type 1} → statement M
 name-taken-spec =
     tie.close
-    (tie.spec
-    Inv-loop
-    μ-loop
-    loop-holds
-    same-name-requires
-    returns
-    add-j
-    loop-less
-    loop-again
-    returns-2)
+    (tie.spec Inv-loop μ-loop loop-holds same-name-requires returns (λ c. search needs) (λ c. search needs) loop-again returns-2)

@@ -6,15 +6,9 @@ use Rattle.image_records.specs.Others.{assignmentMeans}
 use Rattle.check_reader.proofs.driven_name.Statement.{statement}
 use Rattle.check_reader.proofs.driven_name.Tie as tie
 
-assignment-of-requires : tie.Need-assignment-of-requires
-assignment-of-requires c κs = search needs
-
-signal-name-of-requires : tie.Need-signal-name-of-requires
-signal-name-of-requires c κs = search needs
-
 returns : tie.Need-returns
 unfolding assignmentMeans
 returns c = rw (ap (λ (x : Assign). x .signal) (c .before .assignment-of .ensures)) at (c .signal-name-of .ensures)
 
 pub driven-name-spec : {M : Type 1} → statement M
-driven-name-spec = tie.close (tie.spec assignment-of-requires signal-name-of-requires returns)
+driven-name-spec = tie.close (tie.spec (λ c κs. search needs) (λ c κs. search needs) returns)

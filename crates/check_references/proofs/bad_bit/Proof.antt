@@ -6,15 +6,9 @@ use borrow.Author.Needs.{needs}
 use Rattle.spec_tests.specs.Laws.{or-hit, or-skip, ne-same}
 use Rattle.spec_rules.specs.Checks.{badBit}
 
-no-signal-requires : tie.Need-no-signal-requires
-no-signal-requires c κs = search needs
-
 returns : tie.Need-returns
 unfolding badBit
 returns c = or-hit _ (sym (c .before .no-signal .ensures) ∙ c .if1 .taken)
-
-signal-width-requires : tie.Need-signal-width-requires
-signal-width-requires c κs = search needs
 
 returns-2 : tie.Need-returns-2
 unfolding badBit
@@ -23,4 +17,4 @@ returns-2 c =
     (ne-same (c .signal-width .ensures) refl)
 
 pub bad-bit-spec : {M : Type 1} → statement M
-bad-bit-spec = tie.close (tie.spec no-signal-requires returns signal-width-requires returns-2)
+bad-bit-spec = tie.close (tie.spec (λ c κs. search needs) returns (λ c κs. search needs) returns-2)

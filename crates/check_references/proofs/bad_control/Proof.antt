@@ -6,21 +6,9 @@ use borrow.Author.Needs.{needs}
 use Rattle.spec_tests.specs.Laws.{or-hit, or-skip, lt-same}
 use Rattle.spec_rules.specs.Checks.{badControl}
 
-record-field-requires : tie.Need-record-field-requires
-record-field-requires c κs = search needs
-
-bad-bit-requires : tie.Need-bad-bit-requires
-bad-bit-requires c κs = search needs
-
 returns : tie.Need-returns
 unfolding badControl
 returns c = or-hit _ (sym (rw (c .before .before .record-field .ensures) at (c .before .bad-bit .ensures)) ∙ c .if1 .taken)
-
-add-record-field : tie.Need-add-record-field
-add-record-field c = search needs
-
-record-field-requires-2 : tie.Need-record-field-requires-2
-record-field-requires-2 c κs = search needs
 
 returns-2 : tie.Need-returns-2
 unfolding badControl
@@ -29,12 +17,4 @@ returns-2 c =
     (lt-same refl (c .record-field2 .ensures))
 
 pub bad-control-spec : {M : Type 1} → statement M
-bad-control-spec =
-    tie.close
-    (tie.spec
-    record-field-requires
-    bad-bit-requires
-    returns
-    add-record-field
-    record-field-requires-2
-    returns-2)
+bad-control-spec = tie.close (tie.spec (λ c κs. search needs) (λ c κs. search needs) returns (λ c. search needs) (λ c κs. search needs) returns-2)

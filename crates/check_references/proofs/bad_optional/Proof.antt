@@ -6,33 +6,13 @@ use borrow.Author.Needs.{needs}
 use Rattle.spec_tests.specs.Laws.{pick-hit, pick-skip, eq-yes, eq-no}
 use Rattle.spec_rules.specs.Checks.{badOptional}
 
-record-field-requires : tie.Need-record-field-requires
-record-field-requires c κs = search needs
-
-add-not-zero : tie.Need-add-not-zero
-add-not-zero c = search needs
-
-not-zero-requires : tie.Need-not-zero-requires
-not-zero-requires c κs = search needs
-
 returns : tie.Need-returns
 unfolding badOptional
 returns c = pick-hit _ (eq-yes _ _ (sym (c .before .before .record-field .ensures) ∙ c .before .if1 .taken)) (c .not-zero .ensures)
-
-bad-control-requires : tie.Need-bad-control-requires
-bad-control-requires c κs = search needs
 
 returns-2 : tie.Need-returns-2
 unfolding badOptional
 returns-2 c = pick-skip _ (eq-no _ _ (λ e. c .before .if1 .left (c .before .before .record-field .ensures ∙ e))) (c .bad-control .ensures)
 
 pub bad-optional-spec : {M : Type 1} → statement M
-bad-optional-spec =
-    tie.close
-    (tie.spec
-    record-field-requires
-    add-not-zero
-    not-zero-requires
-    returns
-    bad-control-requires
-    returns-2)
+bad-optional-spec = tie.close (tie.spec (λ c κs. search needs) (λ c. search needs) (λ c κs. search needs) returns (λ c κs. search needs) returns-2)

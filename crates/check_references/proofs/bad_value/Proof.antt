@@ -6,15 +6,9 @@ use borrow.Author.Needs.{needs}
 use Rattle.spec_tests.specs.Laws.{or-hit, or-skip, ne-same}
 use Rattle.spec_rules.specs.Checks.{badValue}
 
-no-expr-requires : tie.Need-no-expr-requires
-no-expr-requires c κs = search needs
-
 returns : tie.Need-returns
 unfolding badValue
 returns c = or-hit _ (sym (c .before .no-expr .ensures) ∙ c .if1 .taken)
-
-expr-width-requires : tie.Need-expr-width-requires
-expr-width-requires c κs = search needs
 
 returns-2 : tie.Need-returns-2
 unfolding badValue
@@ -23,4 +17,4 @@ returns-2 c =
     (ne-same (c .expr-width .ensures) refl)
 
 pub bad-value-spec : {M : Type 1} → statement M
-bad-value-spec = tie.close (tie.spec no-expr-requires returns expr-width-requires returns-2)
+bad-value-spec = tie.close (tie.spec (λ c κs. search needs) returns (λ c κs. search needs) returns-2)

@@ -5,12 +5,9 @@ use mathlib.Core.Path.{refl}
 use borrow.Author.Needs.{needs}
 use Rattle.spec_tests.specs.Rules.{_<?_}
 
-add-result : tie.Need-add-result
-add-result c = search needs
-
 returns : tie.Need-returns
 unfolding _<?_
 returns c = refl
 
 pub below-sum-spec : {M : Type 1} → statement M
-below-sum-spec = tie.close (tie.spec add-result returns)
+below-sum-spec = tie.close (tie.spec (λ c. search needs) returns)

@@ -5,12 +5,9 @@ use borrow.Author.Needs.{needs}
 use Rattle.spec_rules.specs.Checks.{noExpr}
 use Rattle.check_references.specs.Tests.{le-not}
 
-count-requires : tie.Need-count-requires
-count-requires c κs = search needs
-
 returns : tie.Need-returns
 unfolding noExpr
 returns c = rw (c .count .ensures) (le-not _ _)
 
 pub no-expr-spec : {M : Type 1} → statement M
-no-expr-spec = tie.close (tie.spec count-requires returns)
+no-expr-spec = tie.close (tie.spec (λ c κs. search needs) returns)

@@ -5,12 +5,9 @@ use borrow.Author.Needs.{needs}
 use Rattle.spec_rules.specs.Checks.{noSignal}
 use Rattle.check_references.specs.Tests.{le-not}
 
-count-requires : tie.Need-count-requires
-count-requires c κs = search needs
-
 returns : tie.Need-returns
 unfolding noSignal
 returns c = rw (c .count .ensures) (le-not _ _)
 
 pub no-signal-spec : {M : Type 1} → statement M
-no-signal-spec = tie.close (tie.spec count-requires returns)
+no-signal-spec = tie.close (tie.spec (λ c κs. search needs) returns)

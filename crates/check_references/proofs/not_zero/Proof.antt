@@ -18,21 +18,12 @@ abbrev μ-loop : tie.MeasureT-loop
 loop-holds : tie.Need-loop-holds Inv-loop μ-loop
 loop-holds c = (omega arith, begins _ _)
 
-add-record-field : tie.Need-add-record-field Inv-loop μ-loop
-add-record-field c = omega arith
-
 record-field-requires : tie.Need-record-field-requires Inv-loop μ-loop
 record-field-requires c κs = tt
 
 returns : tie.Need-returns Inv-loop μ-loop
 unfolding notZero nonZero
 returns c = sym (any-yes _ _ _ (omega arith) (c .before .before .before .loop .inv .1) (ne-yes _ _ (λ e. c .if1 .taken (c .before .record-field .ensures ∙ e))))
-
-add-i : tie.Need-add-i Inv-loop μ-loop
-add-i c = omega arith
-
-loop-less : tie.Need-loop-less Inv-loop μ-loop
-loop-less c = omega arith
 
 loop-again : tie.Need-loop-again Inv-loop μ-loop
 unfolding nonZero
@@ -45,14 +36,4 @@ returns-2 c = sym (any-no _ _ _ (omega arith) (omega arith) (c .before .loop .in
 pub not-zero-spec : {M : Type 1} → statement M
 not-zero-spec =
     tie.close
-    (tie.spec
-    Inv-loop
-    μ-loop
-    loop-holds
-    add-record-field
-    record-field-requires
-    returns
-    add-i
-    loop-less
-    loop-again
-    returns-2)
+    (tie.spec Inv-loop μ-loop loop-holds (λ c. omega arith) record-field-requires returns (λ c. omega arith) (λ c. omega arith) loop-again returns-2)

@@ -6,18 +6,9 @@ use borrow.Author.Needs.{needs}
 use Rattle.spec_tests.specs.Laws.{pick-hit, pick-skip, or-hit, or-skip, lt-yes, lt-no, eq-yes, eq-no}
 use Rattle.spec_rules.specs.Checks.{badReset}
 
-record-field-requires : tie.Need-record-field-requires
-record-field-requires c κs = search needs
-
-not-zero-requires : tie.Need-not-zero-requires
-not-zero-requires c κs = search needs
-
 returns : tie.Need-returns
 unfolding badReset
 returns c = pick-hit _ (eq-yes _ _ (sym (c .before .before .record-field .ensures) ∙ c .before .if1 .taken)) (c .not-zero .ensures)
-
-bad-control-requires : tie.Need-bad-control-requires
-bad-control-requires c κs = search needs
 
 returns-2 : tie.Need-returns-2
 unfolding badReset
@@ -25,21 +16,12 @@ returns-2 c =
     pick-skip _ (eq-no _ _ (λ e. c .before .before .if1 .left (c .before .before .before .record-field .ensures ∙ e)))
     (or-hit _ (sym (c .before .bad-control .ensures) ∙ c .if2 .taken))
 
-record-field-requires-2 : tie.Need-record-field-requires-2
-record-field-requires-2 c κs = search needs
-
 returns-3 : tie.Need-returns-3
 unfolding badReset
 returns-3 c =
     pick-skip _ (eq-no _ _ (λ e. c .before .before .before .before .if1 .left (c .before .before .before .before .before .record-field .ensures ∙ e)))
     (or-skip (sym (c .before .before .before .bad-control .ensures) ∙ c .before .before .if2 .left)
     (or-hit _ (lt-yes _ _ (rw (c .before .record-field2 .ensures) at (c .if3 .taken)))))
-
-record-field-requires-3 : tie.Need-record-field-requires-3
-record-field-requires-3 c κs = search needs
-
-bad-value-requires : tie.Need-bad-value-requires
-bad-value-requires c κs = search needs
 
 returns-4 : tie.Need-returns-4
 unfolding badReset
@@ -52,14 +34,5 @@ returns-4 c =
 pub bad-reset-spec : {M : Type 1} → statement M
 bad-reset-spec =
     tie.close
-    (tie.spec
-    record-field-requires
-    not-zero-requires
-    returns
-    bad-control-requires
-    returns-2
-    record-field-requires-2
-    returns-3
-    record-field-requires-3
-    bad-value-requires
-    returns-4)
+    (tie.spec (λ c κs. search needs) (λ c κs. search needs) returns (λ c κs. search needs) returns-2 (λ c κs. search needs) returns-3
+    (λ c κs. search needs) (λ c κs. search needs) returns-4)

@@ -7,33 +7,15 @@ use Rattle.check_references.specs.Good.{is-signal}
 use Rattle.check_registers.specs.Register.{badRestOf}
 use borrow.Author.Needs.{needs}
 
-no-signal-requires : tie.Need-no-signal-requires
-no-signal-requires c κs = search needs
-
 returns : tie.Need-returns
 unfolding badRestOf
 returns c = or-hit _ (sym (c .before .no-signal .ensures) ∙ c .if1 .taken)
-
-signal-width-requires : tie.Need-signal-width-requires
-signal-width-requires c κs = search needs
-
-record-field-requires : tie.Need-record-field-requires
-record-field-requires c κs = search needs
-
-bad-value-requires : tie.Need-bad-value-requires
-bad-value-requires c κs = search needs
 
 returns-2 : tie.Need-returns-2
 unfolding badRestOf
 returns-2 c =
     or-skip (sym (c .before .before .before .before .before .no-signal .ensures) ∙ c .before .before .before .before .if1 .left)
     (or-hit _ (sym (rw (c .before .before .record-field .ensures, c .before .before .before .signal-width .ensures) at (c .before .bad-value .ensures)) ∙ c .if2 .taken))
-
-record-field-requires-2 : tie.Need-record-field-requires-2
-record-field-requires-2 c κs = search needs
-
-bad-bit-requires : tie.Need-bad-bit-requires
-bad-bit-requires c κs = search needs
 
 returns-3 : tie.Need-returns-3
 unfolding badRestOf
@@ -44,9 +26,6 @@ returns-3 c =
     (or-skip (sym (rw (c4 .before .record-field .ensures, c4 .before .before .signal-width .ensures) at (c4 .bad-value .ensures)) ∙ c .before .before .before .if2 .left)
     (or-hit _ (sym (rw (c .before .before .record-field2 .ensures) at (c .before .bad-bit .ensures)) ∙ c .if3 .taken)))
 
-record-field-requires-3 : tie.Need-record-field-requires-3
-record-field-requires-3 c κs = search needs
-
 returns-4 : tie.Need-returns-4
 unfolding badRestOf
 returns-4 c =
@@ -56,9 +35,6 @@ returns-4 c =
     (or-skip (sym (rw (c4 .before .before .before .record-field .ensures, c8 .signal-width .ensures) at (c4 .before .before .bad-value .ensures)) ∙ c4 .before .if2 .left)
     (or-skip (sym (rw (c4 .record-field2 .ensures) at (c .before .before .before .bad-bit .ensures)) ∙ c .before .before .if3 .left)
     (or-hit _ (lt-yes _ _ (rw (c .before .record-field3 .ensures) at (c .if4 .taken))))))
-
-bad-optional-requires : tie.Need-bad-optional-requires
-bad-optional-requires c κs = search needs
 
 returns-5 : tie.Need-returns-5
 unfolding badRestOf
@@ -71,9 +47,6 @@ returns-5 c =
     (or-skip (sym (rw (c4 .before .before .record-field2 .ensures) at (c4 .before .bad-bit .ensures)) ∙ c4 .if3 .left)
     (or-skip (lt-no _ _ (rw (c .before .before .before .record-field3 .ensures) at (c .before .before .if4 .left)))
     (or-hit _ (sym (c .before .bad-optional .ensures) ∙ c .if5 .taken)))))
-
-bad-reset-requires : tie.Need-bad-reset-requires
-bad-reset-requires c κs = search needs
 
 returns-6 : tie.Need-returns-6
 unfolding badRestOf
@@ -114,21 +87,6 @@ returns-7 c =
 pub bad-rest-of-spec : {M : Type 1} → statement M
 bad-rest-of-spec =
     tie.close
-    (tie.spec
-    no-signal-requires
-    returns
-    signal-width-requires
-    record-field-requires
-    bad-value-requires
-    returns-2
-    record-field-requires-2
-    bad-bit-requires
-    returns-3
-    record-field-requires-3
-    returns-4
-    bad-optional-requires
-    returns-5
-    bad-reset-requires
-    returns-6
-    is-driven-requires
-    returns-7)
+    (tie.spec (λ c κs. search needs) returns (λ c κs. search needs) (λ c κs. search needs) (λ c κs. search needs) returns-2 (λ c κs. search needs)
+    (λ c κs. search needs) returns-3 (λ c κs. search needs) returns-4 (λ c κs. search needs) returns-5 (λ c κs. search needs) returns-6
+    is-driven-requires returns-7)

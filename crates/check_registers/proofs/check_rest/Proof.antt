@@ -8,15 +8,6 @@ use Rattle.check_registers.specs.Register.{rest-of}
 use Rattle.check_registers.specs.Good.{good-of}
 use borrow.Author.Needs.{needs}
 
-record-field-requires : tie.Need-record-field-requires
-record-field-requires c κs = search needs
-
-bad-rest-of-requires : tie.Need-bad-rest-of-requires
-bad-rest-of-requires c κs = search needs
-
-same-length : tie.Need-same-length
-same-length c = search needs
-
 returns : tie.Need-returns
 returns c = (rest-of _ _ _ _ (c .before .before .before .record-field .ensures) (sym (c .if1 .taken) ∙ c .before .bad-rest-of .ensures), λ e. absurd (true≢false e))
 
@@ -25,9 +16,6 @@ mark-signal-requires c κs =
     let c4 = c .before .before .before .before in
     let c8 = c4 .before .before .before .before in
     (c8 .pre .0, c8 .pre .1 .holds .room, good-of _ _ _ (sym (c .before .before .bad-rest-of .ensures) ∙ c .before .if1 .left) .there)
-
-same-length-2 : tie.Need-same-length-2
-same-length-2 c = search needs
 
 returns-2 : tie.Need-returns-2
 returns-2 c =
@@ -40,11 +28,4 @@ returns-2 c =
 pub check-rest-spec : {M : Type 1} → statement M
 check-rest-spec =
     tie.close
-    (tie.spec
-    record-field-requires
-    bad-rest-of-requires
-    same-length
-    returns
-    mark-signal-requires
-    same-length-2
-    returns-2)
+    (tie.spec (λ c κs. search needs) (λ c κs. search needs) (λ c. search needs) returns mark-signal-requires (λ c. search needs) returns-2)

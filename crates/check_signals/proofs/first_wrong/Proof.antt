@@ -19,9 +19,6 @@ Inv-loop s n sum₀ r₀ sum r =
 abbrev μ-loop : tie.MeasureT-loop
 μ-loop s n sum₀ r₀ sum r = n - r
 
-count-requires : tie.Need-count-requires Inv-loop μ-loop
-count-requires c κs = search needs
-
 loop-holds : tie.Need-loop-holds Inv-loop μ-loop
 loop-holds c = (omega arith, begins _ _, sym (sum-none _), omega arith)
 
@@ -31,25 +28,16 @@ wrong-signal-requires c κs = (c .before .loop .inv .2, c .before .loop .inv .3)
 returns : tie.Need-returns Inv-loop μ-loop
 returns c = sym (found _ _ _ (omega arith) (c .before .before .before .loop .inv .1) (sym (c .before .wrong-signal .ensures) ∙ c .if1 .taken))
 
-signal-width-requires : tie.Need-signal-width-requires Inv-loop μ-loop
-signal-width-requires c κs = search needs
-
 add-sum : tie.Need-add-sum Inv-loop μ-loop
 add-sum c =
-    let s = now (c .before .before .before .before .before .before .before .args .s) in
+    let s = now (c .before .before .before .before .before .before .before .args .image) in
     let g = sum-good s (c .before .before .before .before .loop .r) (sym (c .before .before .wrong-signal .ensures) ∙ c .before .if1 .left) in
     let m = sum-more (signalWidth s) (c .before .before .before .before .loop .r) in
     omega arith
 
-add-r : tie.Need-add-r Inv-loop μ-loop
-add-r c = search needs
-
-loop-less : tie.Need-loop-less Inv-loop μ-loop
-loop-less c = search needs
-
 loop-again : tie.Need-loop-again Inv-loop μ-loop
 loop-again c =
-    let s = now (c .before .before .before .before .before .before .before .args .s) in
+    let s = now (c .before .before .before .before .before .before .before .args .image) in
     let g = sum-good s (c .before .before .before .before .loop .r) (sym (c .before .before .wrong-signal .ensures) ∙ c .before .if1 .left) in
     let m = sum-more (signalWidth s) (c .before .before .before .before .loop .r) in
     (omega arith, c .before .before .before .before .loop .inv .1 ∙ passed _ _ _ (omega arith) (sym (c .before .before .wrong-signal .ensures) ∙ c .before .if1 .left), omega arith, omega arith)
@@ -60,16 +48,5 @@ returns-2 c = c .before .before .count .ensures ∙ sym (ended _ _ _ (omega arit
 pub first-wrong-spec : {M : Type 1} → statement M
 first-wrong-spec =
     tie.close
-    (tie.spec
-    Inv-loop
-    μ-loop
-    count-requires
-    loop-holds
-    wrong-signal-requires
-    returns
-    signal-width-requires
-    add-sum
-    add-r
-    loop-less
-    loop-again
-    returns-2)
+    (tie.spec Inv-loop μ-loop (λ c κs. search needs) loop-holds wrong-signal-requires returns (λ c κs. search needs) add-sum (λ c. search needs)
+    (λ c. search needs) loop-again returns-2)

@@ -11,18 +11,9 @@ use Rattle.check_signals.specs.Signals.{wrongSignal}
 use Prim.Native.Nat.{_+_}
 use Rattle.spec_tests.specs.Rules.{sumTo}
 
-signal-width-requires : tie.Need-signal-width-requires
-signal-width-requires c κs = search needs
-
-is-outside-requires : tie.Need-is-outside-requires
-is-outside-requires c κs = search needs
-
 returns : tie.Need-returns
 unfolding wrongSignal
 returns c = or-hit _ (cc)
-
-record-field-requires : tie.Need-record-field-requires
-record-field-requires c κs = search needs
 
 returns-2 : tie.Need-returns-2
 unfolding wrongSignal
@@ -34,18 +25,9 @@ add-result c = omega (arith, inside _ _ _ (sym (c .before .before .before .is-ou
 returns-3 : tie.Need-returns-3
 unfolding wrongSignal
 returns-3 c =
-    let m = sum-more (signalWidth (now (c .before .before .before .before .before .before .args .s))) (c .before .before .before .before .before .before .args .r) in
-    let e : c .before .before .before .before .before .before .args .sum + c .before .before .before .before .signal-width .result ≡ sumTo (signalWidth (now (c .before .before .before .before .before .before .args .s))) (c .before .before .before .before .before .before .args .r + 1) = omega arith in
+    let m = sum-more (signalWidth (now (c .before .before .before .before .before .before .args .image))) (c .before .before .before .before .before .before .args .r) in
+    let e : c .before .before .before .before .before .before .args .sum + c .before .before .before .before .signal-width .result ≡ sumTo (signalWidth (now (c .before .before .before .before .before .before .args .image))) (c .before .before .before .before .before .before .args .r + 1) = omega arith in
     or-skip (cc) (or-skip (lt-no _ _ (omega arith)) (lt-same refl e))
 
 pub wrong-signal-spec : {M : Type 1} → statement M
-wrong-signal-spec =
-    tie.close
-    (tie.spec
-    signal-width-requires
-    is-outside-requires
-    returns
-    record-field-requires
-    returns-2
-    add-result
-    returns-3)
+wrong-signal-spec = tie.close (tie.spec (λ c κs. search needs) (λ c κs. search needs) returns (λ c κs. search needs) returns-2 add-result returns-3)

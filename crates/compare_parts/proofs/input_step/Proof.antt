@@ -1,25 +1,16 @@
 -- `compare_parts::input_step` meets its contract. Assumes nothing.
+use borrow.Author.Needs.{needs}
 use Rattle.compare_parts.proofs.input_step.Statement.{statement}
 use Rattle.compare_parts.proofs.input_step.Tie as tie
-use borrow.Author.Needs.{needs}
-use Rattle.compare_parts.proofs.Nots.{input-steps}
-use Rattle.compare_parts.proofs.Build.{steps-as, step-input}
-
-slice-read-signal : tie.Need-slice-read-signal
-slice-read-signal c = search needs
-
-add-input-port-requires : tie.Need-add-input-port-requires
-add-input-port-requires c κs = search needs
-
-same-length : tie.Need-same-length
-same-length c = search needs
+use Rattle.compare_parts.proofs.Laws.{runs, keeps-input}
 
 returns : tie.Need-returns
 returns c =
     let start = c .before .before .before .before .before .before .before in
-    let a = start .args in
-    steps-as (step-input (a .n) (a .net .now) (a .w) (start .pre .0 .built)) (input-steps (start .pre .3) _ _ (start .pre .1) (start .pre .0) (c .before .before .add-input-port .ensures))
+    let made = c .before .before .add-input-port .ensures in
+    runs _ (keeps-input _ _ _ (start .pre .1)) (made .held _ (start .pre .0)) (made .says)
 
 pub input-step-spec : {M : Type 1} → statement M
 input-step-spec =
-    tie.close (tie.spec slice-read-signal add-input-port-requires same-length returns)
+    tie.close
+    (tie.spec (λ c. search needs) (λ c κs. search needs) (λ c. search needs) returns)

@@ -76,7 +76,7 @@ is-zero-expression-loop-holds : (t : ℕ) → is-zero-expression-lts.Need-loop-h
     is-zero-expression.Post
     is-zero-expression-Inv-loop
     is-zero-expression-μ-loop
-is-zero-expression-loop-holds t c = (omega arith, zero-begins (c .before .before .before .before .before .args .s .now) (c .before .before .before .before .before .args .e) (c .before .test .given .0 .0) (c .before .test .given .0 .1 .0) (rw (c .before .test .given .1) at (c .before .before .before .zero-test .ensures)))
+is-zero-expression-loop-holds t c = (omega arith, zero-begins (c .before .before .before .before .before .args .image .now) (c .before .before .before .before .before .args .e) (c .before .test .given .0 .0) (c .before .test .given .0 .1 .0) (rw (c .before .test .given .1) at (c .before .before .before .zero-test .ensures)))
 
 is-zero-expression-add-list-word : (t : ℕ) → is-zero-expression-lts.Need-add-list-word (calls-is-zero-expression t)
     (is-zero-expression-at t)
@@ -106,7 +106,7 @@ is-zero-expression-returns : (t : ℕ) → is-zero-expression-lts.Need-returns (
     is-zero-expression.Post
     is-zero-expression-Inv-loop
     is-zero-expression-μ-loop
-is-zero-expression-returns t c = zero-stops (c .before .before .before .before .before .before .before .before .before .before .args .s .now) (c .before .before .before .before .before .before .before .before .before .before .args .e) (c .before .before .before .before .before .before .test .given .0 .0) (c .before .before .before .before .before .before .test .given .0 .1 .0) (c .before .before .before .before .loop .i) (omega arith) (c .before .before .before .before .loop .inv .1) (rw (← c .before .before .list-word .ensures) (sym (c .before .is-zero-expression .ensures) ∙ not-true (c .before .is-zero-expression .result) (c .if1 .taken)))
+is-zero-expression-returns t c = zero-stops (c .before .before .before .before .before .before .before .before .before .before .args .image .now) (c .before .before .before .before .before .before .before .before .before .before .args .e) (c .before .before .before .before .before .before .test .given .0 .0) (c .before .before .before .before .before .before .test .given .0 .1 .0) (c .before .before .before .before .loop .i) (omega arith) (c .before .before .before .before .loop .inv .1) (rw (← c .before .before .list-word .ensures) (sym (c .before .is-zero-expression .ensures) ∙ not-true (c .before .is-zero-expression .result) (c .if1 .taken)))
 
 is-zero-expression-add-i : (t : ℕ) → is-zero-expression-lts.Need-add-i (calls-is-zero-expression t)
     (is-zero-expression-at t)
@@ -127,7 +127,7 @@ is-zero-expression-loop-again : (t : ℕ) → is-zero-expression-lts.Need-loop-a
     is-zero-expression.Post
     is-zero-expression-Inv-loop
     is-zero-expression-μ-loop
-is-zero-expression-loop-again t c = (omega arith, zero-passes (c .before .before .before .before .before .before .before .before .before .before .args .s .now) (c .before .before .before .before .before .before .before .before .before .before .args .e) (c .before .before .before .before .before .before .test .given .0 .0) (c .before .before .before .before .before .before .test .given .0 .1 .0) (c .before .before .before .before .loop .i) (omega arith) (c .before .before .before .before .loop .inv .1) (rw (← c .before .before .list-word .ensures) (sym (c .before .is-zero-expression .ensures) ∙ not-false (c .before .is-zero-expression .result) (c .if1 .left))))
+is-zero-expression-loop-again t c = (omega arith, zero-passes (c .before .before .before .before .before .before .before .before .before .before .args .image .now) (c .before .before .before .before .before .before .before .before .before .before .args .e) (c .before .before .before .before .before .before .test .given .0 .0) (c .before .before .before .before .before .before .test .given .0 .1 .0) (c .before .before .before .before .loop .i) (omega arith) (c .before .before .before .before .loop .inv .1) (rw (← c .before .before .list-word .ensures) (sym (c .before .is-zero-expression .ensures) ∙ not-false (c .before .is-zero-expression .result) (c .if1 .left))))
 
 is-zero-expression-returns-2 : (t : ℕ) → is-zero-expression-lts.Need-returns-2 (calls-is-zero-expression t)
     (is-zero-expression-at t)
@@ -148,7 +148,7 @@ is-zero-expression-returns-4 : (t : ℕ) → is-zero-expression-lts.Need-returns
     is-zero-expression.Post
     is-zero-expression-Inv-loop
     is-zero-expression-μ-loop
-is-zero-expression-returns-4 t c = zero-ends (c .before .before .before .before .before .before .before .args .s .now) (c .before .before .before .before .before .before .before .args .e) (c .before .before .before .test .given .0 .0) (c .before .before .before .test .given .0 .1 .0) (c .before .loop .i) (omega arith) (c .before .loop .inv .1)
+is-zero-expression-returns-4 t c = zero-ends (c .before .before .before .before .before .before .before .args .image .now) (c .before .before .before .before .before .before .before .args .e) (c .before .before .before .test .given .0 .0) (c .before .before .before .test .given .0 .1 .0) (c .before .loop .i) (omega arith) (c .before .loop .inv .1)
 
 pub +is-zero-expression-spec : {M : Type 1} → statement M
 +is-zero-expression-spec = close μ-is-zero-expression λ t. is-zero-expression-lts.spec (calls-is-zero-expression t)

@@ -5,71 +5,29 @@ use Rattle.expr_fusion.proofs.add_operands.Tie as tie
 use mathlib.Core.Path.{_∙_}
 use Rattle.expr_fusion.specs.Fusion.{sum-binary, sum-other}
 
-expression-at-requires : tie.Need-expression-at-requires
-expression-at-requires c κs = search needs
-
-enum-known-kind : tie.Need-enum-known-kind
-enum-known-kind c = search needs
-
-sum-of-requires : tie.Need-sum-of-requires
-sum-of-requires c κs = search needs
-
-enum-told : tie.Need-enum-told
-enum-told c = search needs
-
-enum-told-2 : tie.Need-enum-told-2
-enum-told-2 c = search needs
-
-enum-told-3 : tie.Need-enum-told-3
-enum-told-3 c = search needs
-
-enum-told-4 : tie.Need-enum-told-4
-enum-told-4 c = search needs
-
-enum-told-5 : tie.Need-enum-told-5
-enum-told-5 c = search needs
-
-enum-told-6 : tie.Need-enum-told-6
-enum-told-6 c = search needs
-
 returns : tie.Need-returns
-returns c = c .sum-of .ensures ∙ sum-binary (c .before .before .before .before .before .before .args .s .now) (c .before .before .before .before .before .before .args .e) (c .before .before .before .before .before .before .pre) (c .before .before .before .before .expression-at .result) (c .before .before .before .before .expression-at .ensures) (c .before .before .kind .given .1)
+returns c = c .sum-of .ensures ∙ sum-binary (c .before .before .before .before .before .before .args .image .now) (c .before .before .before .before .before .before .args .e) (c .before .before .before .before .before .before .pre) (c .before .before .before .before .expression-at .result) (c .before .before .before .before .expression-at .ensures) (c .before .before .kind .given .1)
 
 returns-2 : tie.Need-returns-2
-returns-2 c = sum-other (c .before .before .before .before .args .s .now) (c .before .before .before .before .args .e) (c .before .before .before .before .pre) (c .before .before .expression-at .result) (c .before .before .expression-at .ensures) (c .enum-told .given .1) tt
+returns-2 c = sum-other (c .before .before .before .before .args .image .now) (c .before .before .before .before .args .e) (c .before .before .before .before .pre) (c .before .before .expression-at .result) (c .before .before .expression-at .ensures) (c .enum-told .given .1) tt
 
 returns-3 : tie.Need-returns-3
-returns-3 c = sum-other (c .before .before .before .before .args .s .now) (c .before .before .before .before .args .e) (c .before .before .before .before .pre) (c .before .before .expression-at .result) (c .before .before .expression-at .ensures) (c .enum-told2 .given .1) tt
+returns-3 c = sum-other (c .before .before .before .before .args .image .now) (c .before .before .before .before .args .e) (c .before .before .before .before .pre) (c .before .before .expression-at .result) (c .before .before .expression-at .ensures) (c .enum-told2 .given .1) tt
 
 returns-4 : tie.Need-returns-4
-returns-4 c = sum-other (c .before .before .before .before .args .s .now) (c .before .before .before .before .args .e) (c .before .before .before .before .pre) (c .before .before .expression-at .result) (c .before .before .expression-at .ensures) (c .enum-told3 .given .1) tt
+returns-4 c = sum-other (c .before .before .before .before .args .image .now) (c .before .before .before .before .args .e) (c .before .before .before .before .pre) (c .before .before .expression-at .result) (c .before .before .expression-at .ensures) (c .enum-told3 .given .1) tt
 
 returns-5 : tie.Need-returns-5
-returns-5 c = sum-other (c .before .before .before .before .args .s .now) (c .before .before .before .before .args .e) (c .before .before .before .before .pre) (c .before .before .expression-at .result) (c .before .before .expression-at .ensures) (c .enum-told4 .given .1) tt
+returns-5 c = sum-other (c .before .before .before .before .args .image .now) (c .before .before .before .before .args .e) (c .before .before .before .before .pre) (c .before .before .expression-at .result) (c .before .before .expression-at .ensures) (c .enum-told4 .given .1) tt
 
 returns-6 : tie.Need-returns-6
-returns-6 c = sum-other (c .before .before .before .before .args .s .now) (c .before .before .before .before .args .e) (c .before .before .before .before .pre) (c .before .before .expression-at .result) (c .before .before .expression-at .ensures) (c .enum-told5 .given .1) tt
+returns-6 c = sum-other (c .before .before .before .before .args .image .now) (c .before .before .before .before .args .e) (c .before .before .before .before .pre) (c .before .before .expression-at .result) (c .before .before .expression-at .ensures) (c .enum-told5 .given .1) tt
 
 returns-7 : tie.Need-returns-7
-returns-7 c = sum-other (c .before .before .before .before .args .s .now) (c .before .before .before .before .args .e) (c .before .before .before .before .pre) (c .before .before .expression-at .result) (c .before .before .expression-at .ensures) (c .enum-told6 .given .1) tt
+returns-7 c = sum-other (c .before .before .before .before .args .image .now) (c .before .before .before .before .args .e) (c .before .before .before .before .pre) (c .before .before .expression-at .result) (c .before .before .expression-at .ensures) (c .enum-told6 .given .1) tt
 
 pub add-operands-spec : {M : Type 1} → statement M
 add-operands-spec =
     tie.close
-    (tie.spec
-    expression-at-requires
-    enum-known-kind
-    sum-of-requires
-    enum-told
-    enum-told-2
-    enum-told-3
-    enum-told-4
-    enum-told-5
-    enum-told-6
-    returns
-    returns-2
-    returns-3
-    returns-4
-    returns-5
-    returns-6
-    returns-7)
+    (tie.spec (λ c κs. search needs) (λ c. search needs) (λ c κs. search needs) (λ c. search needs) (λ c. search needs) (λ c. search needs)
+    (λ c. search needs) (λ c. search needs) (λ c. search needs) returns returns-2 returns-3 returns-4 returns-5 returns-6 returns-7)

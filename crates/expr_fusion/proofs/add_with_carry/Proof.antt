@@ -5,21 +5,11 @@ use Rattle.expr_fusion.proofs.add_with_carry.Tie as tie
 use mathlib.Core.Path.{sym, ap, _∙_}
 use Rattle.expr_fusion.specs.Fusion.{fusionOf, operands-are}
 
-fusion-test-requires : tie.Need-fusion-test-requires
-fusion-test-requires c κs = search needs
-
-enum-known-answer : tie.Need-enum-known-answer
-enum-known-answer c = search needs
-
-enum-told : tie.Need-enum-told
-enum-told c = search needs
-
 returns : tie.Need-returns
-returns c = rw (sym (c .before .before .fusion-test .ensures) ∙ ap fusionOf (c .enum-told .given .1)) at (operands-are (c .before .before .before .before .args .s .now) (c .before .before .before .before .args .lhs) (c .before .before .before .before .args .rhs))
+returns c = rw (sym (c .before .before .fusion-test .ensures) ∙ ap fusionOf (c .enum-told .given .1)) at (operands-are (c .before .before .before .before .args .image .now) (c .before .before .before .before .args .lhs) (c .before .before .before .before .args .rhs))
 
 returns-2 : tie.Need-returns-2
-returns-2 c = rw (sym (c .before .before .before .fusion-test .ensures) ∙ ap fusionOf (c .before .answer .given .1)) at (operands-are (c .before .before .before .before .before .args .s .now) (c .before .before .before .before .before .args .lhs) (c .before .before .before .before .before .args .rhs))
+returns-2 c = rw (sym (c .before .before .before .fusion-test .ensures) ∙ ap fusionOf (c .before .answer .given .1)) at (operands-are (c .before .before .before .before .before .args .image .now) (c .before .before .before .before .before .args .lhs) (c .before .before .before .before .before .args .rhs))
 
 pub add-with-carry-spec : {M : Type 1} → statement M
-add-with-carry-spec =
-    tie.close (tie.spec fusion-test-requires enum-known-answer enum-told returns returns-2)
+add-with-carry-spec = tie.close (tie.spec (λ c κs. search needs) (λ c. search needs) (λ c. search needs) returns returns-2)

@@ -13,13 +13,10 @@ abbrev μ-loop : tie.MeasureT-loop
 μ-loop s start count last i₀ i = last - i
 
 returns : tie.Need-returns Inv-loop μ-loop
-returns c = carry-none (c .before .before .args .s .now) (c .before .before .args .start) (c .before .before .args .count) (c .if1 .taken)
-
-sub-last : tie.Need-sub-last Inv-loop μ-loop
-sub-last c = omega arith
+returns c = carry-none (c .before .before .args .image .now) (c .before .before .args .start) (c .before .before .args .count) (c .if1 .taken)
 
 loop-holds : tie.Need-loop-holds Inv-loop μ-loop
-loop-holds c = (omega arith, carry-begins (c .before .before .args .s .now) (c .before .before .args .start) (c .before .before .args .count))
+loop-holds c = (omega arith, carry-begins (c .before .before .args .image .now) (c .before .before .args .start) (c .before .before .args .count))
 
 add-list-word : tie.Need-add-list-word Inv-loop μ-loop
 add-list-word c = omega (arith, c .before .before .before .before .pre .room)
@@ -31,16 +28,10 @@ is-zero-expression-requires : tie.Need-is-zero-expression-requires Inv-loop μ-l
 is-zero-expression-requires c κs = record { readable = c .before .before .before .before .before .pre .readable; inside = let y = c .before .before .before .before .before .pre .inside (c .before .before .loop .i) (omega arith) in omega (arith, c .list-word .ensures) }
 
 returns-2 : tie.Need-returns-2 Inv-loop μ-loop
-returns-2 c = carry-stops (c .before .before .before .before .before .before .before .args .s .now) (c .before .before .before .before .before .before .before .args .start) (c .before .before .before .before .before .before .before .args .count) (c .before .before .before .before .loop .i) (omega arith) (c .before .before .before .before .loop .inv .1) (rw (← c .before .before .list-word .ensures) (sym (c .before .is-zero-expression .ensures) ∙ not-true (c .before .is-zero-expression .result) (c .if2 .taken)))
-
-add-i : tie.Need-add-i Inv-loop μ-loop
-add-i c = omega arith
-
-loop-less : tie.Need-loop-less Inv-loop μ-loop
-loop-less c = omega arith
+returns-2 c = carry-stops (c .before .before .before .before .before .before .before .args .image .now) (c .before .before .before .before .before .before .before .args .start) (c .before .before .before .before .before .before .before .args .count) (c .before .before .before .before .loop .i) (omega arith) (c .before .before .before .before .loop .inv .1) (rw (← c .before .before .list-word .ensures) (sym (c .before .is-zero-expression .ensures) ∙ not-true (c .before .is-zero-expression .result) (c .if2 .taken)))
 
 loop-again : tie.Need-loop-again Inv-loop μ-loop
-loop-again c = (omega arith, carry-passes (c .before .before .before .before .before .before .before .args .s .now) (c .before .before .before .before .before .before .before .args .start) (c .before .before .before .before .before .before .before .args .count) (c .before .before .before .before .loop .i) (omega arith) (c .before .before .before .before .loop .inv .1) (rw (← c .before .before .list-word .ensures) (sym (c .before .is-zero-expression .ensures) ∙ not-false (c .before .is-zero-expression .result) (c .if2 .left))))
+loop-again c = (omega arith, carry-passes (c .before .before .before .before .before .before .before .args .image .now) (c .before .before .before .before .before .before .before .args .start) (c .before .before .before .before .before .before .before .args .count) (c .before .before .before .before .loop .i) (omega arith) (c .before .before .before .before .loop .inv .1) (rw (← c .before .before .list-word .ensures) (sym (c .before .is-zero-expression .ensures) ∙ not-false (c .before .is-zero-expression .result) (c .if2 .left))))
 
 add-list-word-2 : tie.Need-add-list-word-2 Inv-loop μ-loop
 add-list-word-2 c = omega (arith, c .before .before .before .before .pre .room)
@@ -52,29 +43,13 @@ expr-width-requires : tie.Need-expr-width-requires Inv-loop μ-loop
 expr-width-requires c κs = tt
 
 returns-3 : tie.Need-returns-3 Inv-loop μ-loop
-returns-3 c = carry-last (c .before .before .before .before .before .before .before .args .s .now) (c .before .before .before .before .before .before .before .args .start) (c .before .before .before .before .before .before .before .args .count) (c .before .before .before .before .before .before .before .pre) (c .before .before .before .before .loop .i) (c .before .before .before .before .before .before .before .args .count - 1) (c .before .before .list-word2 .result) (omega arith) (omega arith) (c .before .before .before .before .loop .inv .1) (c .before .before .list-word2 .ensures) (sym (c .before .expr-width .ensures) ∙ c .if3 .taken)
+returns-3 c = carry-last (c .before .before .before .before .before .before .before .args .image .now) (c .before .before .before .before .before .before .before .args .start) (c .before .before .before .before .before .before .before .args .count) (c .before .before .before .before .before .before .before .pre) (c .before .before .before .before .loop .i) (c .before .before .before .before .before .before .before .args .count - 1) (c .before .before .list-word2 .result) (omega arith) (omega arith) (c .before .before .before .before .loop .inv .1) (c .before .before .list-word2 .ensures) (sym (c .before .expr-width .ensures) ∙ c .if3 .taken)
 
 returns-4 : tie.Need-returns-4 Inv-loop μ-loop
-returns-4 c = carry-wide (c .before .before .before .before .before .before .before .args .s .now) (c .before .before .before .before .before .before .before .args .start) (c .before .before .before .before .before .before .before .args .count) (c .before .before .before .before .before .before .before .pre) (c .before .before .before .before .loop .i) (c .before .before .before .before .before .before .before .args .count - 1) (c .before .before .list-word2 .result) (omega arith) (omega arith) (c .before .before .before .before .loop .inv .1) (c .before .before .list-word2 .ensures) (λ w. c .if3 .left (c .before .expr-width .ensures ∙ w))
+returns-4 c = carry-wide (c .before .before .before .before .before .before .before .args .image .now) (c .before .before .before .before .before .before .before .args .start) (c .before .before .before .before .before .before .before .args .count) (c .before .before .before .before .before .before .before .pre) (c .before .before .before .before .loop .i) (c .before .before .before .before .before .before .before .args .count - 1) (c .before .before .list-word2 .result) (omega arith) (omega arith) (c .before .before .before .before .loop .inv .1) (c .before .before .list-word2 .ensures) (λ w. c .if3 .left (c .before .expr-width .ensures ∙ w))
 
 pub carry-part-spec : {M : Type 1} → statement M
 carry-part-spec =
     tie.close
-    (tie.spec
-    Inv-loop
-    μ-loop
-    returns
-    sub-last
-    loop-holds
-    add-list-word
-    list-word-requires
-    is-zero-expression-requires
-    returns-2
-    add-i
-    loop-less
-    loop-again
-    add-list-word-2
-    list-word-requires-2
-    expr-width-requires
-    returns-3
-    returns-4)
+    (tie.spec Inv-loop μ-loop returns (λ c. omega arith) loop-holds add-list-word list-word-requires is-zero-expression-requires returns-2
+    (λ c. omega arith) (λ c. omega arith) loop-again add-list-word-2 list-word-requires-2 expr-width-requires returns-3 returns-4)

@@ -7,23 +7,8 @@ use Rattle.spec_model.specs.Ranges as model
 use Rattle.expr_range_rows.specs.Rows.{shown, add-constants, add-sums, add-full, sum-fits}
 use native.Mathlib.Omega.{arith}
 
-both-single-requires : tie.Need-both-single-requires
-both-single-requires c κs = search needs
-
-constant-sum-requires : tie.Need-constant-sum-requires
-constant-sum-requires c κs = search needs
-
-point-requires : tie.Need-point-requires
-point-requires c κs = search needs
-
 returns : tie.Need-returns
 returns c = c .point .ensures ∙ ap model.point (c .before .constant-sum .ensures) ∙ sym (add-constants (c .before .before .before .before .args .width) (shown (c .before .before .before .before .args .l)) (shown (c .before .before .before .before .args .r)) (sym (c .before .before .before .both-single .ensures) ∙ c .before .before .if1 .taken))
-
-mask-requires : tie.Need-mask-requires
-mask-requires c κs = search needs
-
-sum-fits-requires : tie.Need-sum-fits-requires
-sum-fits-requires c κs = search needs
 
 add-t8 : tie.Need-add-t8
 add-t8 c = omega (arith, sum-fits (c .before .before .before .before .before .before .before .args .l .max) (c .before .before .before .before .before .before .before .args .r .max) (c .before .before .before .before .mask .result) (sym (c .before .before .before .sum-fits .ensures) ∙ c .before .before .if2 .taken))
@@ -34,24 +19,11 @@ add-t9 c = omega (arith, sum-fits (c .before .before .before .before .before .be
 returns-2 : tie.Need-returns-2
 returns-2 c = sym (add-sums (c .before .before .before .before .before .before .before .before .before .args .width) (shown (c .before .before .before .before .before .before .before .before .before .args .l)) (shown (c .before .before .before .before .before .before .before .before .before .args .r)) (sym (c .before .before .before .before .before .before .before .before .both-single .ensures) ∙ c .before .before .before .before .before .before .before .if1 .left) (rw (c .before .before .before .before .before .before .mask .ensures) at (sym (c .before .before .before .before .before .sum-fits .ensures) ∙ c .before .before .before .before .if2 .taken)))
 
-full-requires : tie.Need-full-requires
-full-requires c κs = search needs
-
 returns-3 : tie.Need-returns-3
 returns-3 c = c .full .ensures ∙ sym (add-full (c .before .before .before .before .before .before .args .width) (shown (c .before .before .before .before .before .before .args .l)) (shown (c .before .before .before .before .before .before .args .r)) (sym (c .before .before .before .before .before .both-single .ensures) ∙ c .before .before .before .before .if1 .left) (rw (c .before .before .before .mask .ensures) at (sym (c .before .before .sum-fits .ensures) ∙ c .before .if2 .left)))
 
 pub add-range-spec : {M : Type 1} → statement M
 add-range-spec =
     tie.close
-    (tie.spec
-    both-single-requires
-    constant-sum-requires
-    point-requires
-    returns
-    mask-requires
-    sum-fits-requires
-    add-t8
-    add-t9
-    returns-2
-    full-requires
-    returns-3)
+    (tie.spec (λ c κs. search needs) (λ c κs. search needs) (λ c κs. search needs) returns (λ c κs. search needs) (λ c κs. search needs) add-t8 add-t9
+    returns-2 (λ c κs. search needs) returns-3)

@@ -3,11 +3,8 @@ use borrow.Author.Needs.{needs}
 use Rattle.expr_range_rows.proofs.and_range.Statement.{statement}
 use Rattle.expr_range_rows.proofs.and_range.Tie as tie
 
-lesser-requires : tie.Need-lesser-requires
-lesser-requires c κs = search needs
-
 returns : tie.Need-returns
-returns c = rw (c .lesser .ensures)
+returns c = rw (c .smaller-u64 .ensures)
 
 pub and-range-spec : {M : Type 1} → statement M
-and-range-spec = tie.close (tie.spec lesser-requires returns)
+and-range-spec = tie.close (tie.spec (λ c κs. search needs) returns)

@@ -7,14 +7,8 @@ use native.Mathlib.Omega.{arith}
 use lib.Bits.{bitAnd, and-mask}
 use Rattle.expr_range_rows.specs.Rows.{difference-law}
 
-wrapping-sub-u64-requires : tie.Need-wrapping-sub-u64-requires
-wrapping-sub-u64-requires c κs = search needs
-
-mask-requires : tie.Need-mask-requires
-mask-requires c κs = search needs
-
 returns : tie.Need-returns
 returns c = ap (bitAnd (c .before .wrapping-sub-u64 .result)) (c .mask .ensures) ∙ and-mask _ (c .before .before .args .width) ∙ difference-law (c .before .wrapping-sub-u64 .result) (c .before .before .args .a) (c .before .before .args .b) (c .before .before .args .width) (omega arith) (omega arith) (c .before .wrapping-sub-u64 .ensures)
 
 pub constant-difference-spec : {M : Type 1} → statement M
-constant-difference-spec = tie.close (tie.spec wrapping-sub-u64-requires mask-requires returns)
+constant-difference-spec = tie.close (tie.spec (λ c κs. search needs) (λ c κs. search needs) returns)

@@ -3,14 +3,8 @@ use borrow.Author.Needs.{needs}
 use Rattle.expr_range_rows.proofs.join_range.Statement.{statement}
 use Rattle.expr_range_rows.proofs.join_range.Tie as tie
 
-joined-requires : tie.Need-joined-requires
-joined-requires c κs = search needs
-
-joined-requires-2 : tie.Need-joined-requires-2
-joined-requires-2 c κs = search needs
-
 returns : tie.Need-returns
 returns c = rw (c .before .joined .ensures, c .joined2 .ensures)
 
 pub join-range-spec : {M : Type 1} → statement M
-join-range-spec = tie.close (tie.spec joined-requires joined-requires-2 returns)
+join-range-spec = tie.close (tie.spec (λ c κs. search needs) (λ c κs. search needs) returns)

@@ -5,9 +5,6 @@ use Rattle.expr_range_rows.proofs.narrowed.Tie as tie
 use Rattle.expr_range_rows.specs.Rows.{shown, narrow-yes, narrow-no}
 use native.Mathlib.Omega.{arith}
 
-bit-width-requires : tie.Need-bit-width-requires
-bit-width-requires c κs = search needs
-
 returns : tie.Need-returns
 returns c = narrow-yes (c .before .before .before .args .width) (shown (c .before .before .before .args .r)) 1 (omega (arith, c .before .before .bit-width .ensures)) (omega arith)
 
@@ -21,4 +18,4 @@ returns-4 : tie.Need-returns-4
 returns-4 c = narrow-no (c .before .before .before .args .width) (shown (c .before .before .before .args .r)) (c .before .before .bit-width .result) (omega (arith, c .before .before .bit-width .ensures)) (omega arith)
 
 pub narrowed-spec : {M : Type 1} → statement M
-narrowed-spec = tie.close (tie.spec bit-width-requires returns returns-2 returns-3 returns-4)
+narrowed-spec = tie.close (tie.spec (λ c κs. search needs) returns returns-2 returns-3 returns-4)

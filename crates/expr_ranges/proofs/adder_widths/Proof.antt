@@ -25,12 +25,6 @@ loop-holds c = (omega arith, refl)
 fill-row-requires : tie.Need-fill-row-requires Inv-loop μ-loop
 fill-row-requires c κs = rows-filled (c .before .before .before .before .before .before .args .image .now) (c .before .before .before .before .before .before .args .table .now) (c .before .before .loop .e) (c .before .before .before .before .before .before .pre .0) (c .before .before .before .before .before .before .pre .1) (omega (arith, c .before .before .before .count .ensures)) _ (c .before .before .loop .inv .1)
 
-add-e : tie.Need-add-e Inv-loop μ-loop
-add-e c = omega arith
-
-loop-less : tie.Need-loop-less Inv-loop μ-loop
-loop-less c = omega arith
-
 loop-again : tie.Need-loop-again Inv-loop μ-loop
 loop-again c = (omega arith, c .before .before .fill-row .ensures ∙ filled-more (c .before .before .before .before .before .before .before .before .before .args .image .now) (c .before .before .before .before .before .before .before .before .before .args .table .now) (c .before .before .before .before .before .loop .e) _ (c .before .before .before .before .before .loop .inv .1))
 
@@ -43,14 +37,4 @@ returns c = let z : c .before .loop .e ≡ countAt (c .before .before .before .b
 pub adder-widths-spec : {M : Type 1} → statement M
 adder-widths-spec =
     tie.close
-    (tie.spec
-    Inv-loop
-    μ-loop
-    count-requires
-    loop-holds
-    fill-row-requires
-    add-e
-    loop-less
-    loop-again
-    same-length
-    returns)
+    (tie.spec Inv-loop μ-loop count-requires loop-holds fill-row-requires (λ c. omega arith) (λ c. omega arith) loop-again same-length returns)

@@ -5,40 +5,7 @@ use Rattle.expr_ranges.proofs.binary_range.Tie as tie
 use mathlib.Core.Path.{sym, _∙_}
 use Rattle.expr_ranges.specs.Steps.{by-class, and-class}
 use Rattle.expr_range_rows.specs.Rows.{shown}
-use Rattle.image_operators.specs.declared.OpClass.the-variants.{Ands, Ors, Adds, Subtracts, Other}
-
-op-class-requires : tie.Need-op-class-requires
-op-class-requires c κs = search needs
-
-enum-told : tie.Need-enum-told
-enum-told c = search needs
-
-and-range-requires : tie.Need-and-range-requires
-and-range-requires c κs = search needs
-
-enum-told-2 : tie.Need-enum-told-2
-enum-told-2 c = search needs
-
-or-range-requires : tie.Need-or-range-requires
-or-range-requires c κs = search needs
-
-enum-told-3 : tie.Need-enum-told-3
-enum-told-3 c = search needs
-
-add-range-requires : tie.Need-add-range-requires
-add-range-requires c κs = search needs
-
-enum-told-4 : tie.Need-enum-told-4
-enum-told-4 c = search needs
-
-sub-range-requires : tie.Need-sub-range-requires
-sub-range-requires c κs = search needs
-
-enum-told-5 : tie.Need-enum-told-5
-enum-told-5 c = search needs
-
-full-requires : tie.Need-full-requires
-full-requires c κs = search needs
+use Rattle.image_records.specs.declared.OpClass.the-variants.{Ands, Ors, Adds, Subtracts, Other}
 
 returns : tie.Need-returns
 returns c = c .and-range .ensures ∙ and-class (c .before .before .before .before .args .width) (shown (c .before .before .before .before .args .l)) (shown (c .before .before .before .before .args .r)) ∙ by-class (c .before .before .before .before .args .op) (c .before .before .before .before .args .width) (shown (c .before .before .before .before .args .l)) (shown (c .before .before .before .before .args .r)) Ands (sym (c .before .before .before .op-class .ensures) ∙ c .before .enum-told .given .1)
@@ -58,20 +25,6 @@ returns-5 c = c .full .ensures ∙ by-class (c .before .before .before .before .
 pub binary-range-spec : {M : Type 1} → statement M
 binary-range-spec =
     tie.close
-    (tie.spec
-    op-class-requires
-    enum-told
-    and-range-requires
-    enum-told-2
-    or-range-requires
-    enum-told-3
-    add-range-requires
-    enum-told-4
-    sub-range-requires
-    enum-told-5
-    full-requires
-    returns
-    returns-2
-    returns-3
-    returns-4
+    (tie.spec (λ c κs. search needs) (λ c. search needs) (λ c κs. search needs) (λ c. search needs) (λ c κs. search needs) (λ c. search needs)
+    (λ c κs. search needs) (λ c. search needs) (λ c κs. search needs) (λ c. search needs) (λ c κs. search needs) returns returns-2 returns-3 returns-4
     returns-5)

@@ -6,50 +6,23 @@ use mathlib.Core.Path.{ap, _∙_}
 use Rattle.spec_model.specs.Ranges as model
 use Rattle.expr_ranges.specs.Steps.{width-asked, constant-asked, constant-range, binary-asked, binary-range, mux-asked, mux-range, slice-asked, slice-range, concat-asked, concat-range, signal-range, unary-range}
 
-expression-at-requires : tie.Need-expression-at-requires
-expression-at-requires c κs = search needs
-
-enum-known-kind : tie.Need-enum-known-kind
-enum-known-kind c = search needs
-
 constant-value-requires : tie.Need-constant-value-requires
 constant-value-requires c κs = constant-asked (c .before .before .before .before .before .before .args .image .now) (c .before .before .before .before .before .before .args .table .now) (c .before .before .before .before .before .before .args .e) (c .before .before .before .before .before .before .pre .0) (c .before .before .before .before .before .before .pre .1) (c .before .before .before .expression-at .result) (c .before .before .before .expression-at .ensures) (c .before .kind .given .1)
-
-point-requires : tie.Need-point-requires
-point-requires c κs = search needs
-
-enum-known-kind-2 : tie.Need-enum-known-kind-2
-enum-known-kind-2 c = search needs
 
 range-of-binary-requires : tie.Need-range-of-binary-requires
 range-of-binary-requires c κs = binary-asked (c .before .before .before .before .before .before .args .image .now) (c .before .before .before .before .before .before .args .table .now) (c .before .before .before .before .before .before .args .e) (c .before .before .before .before .before .before .pre .0) (c .before .before .before .before .before .before .pre .1) (c .before .before .before .expression-at .result) (c .before .before .before .expression-at .ensures) (c .before .kind2 .given .1)
 
-enum-known-kind-3 : tie.Need-enum-known-kind-3
-enum-known-kind-3 c = search needs
-
 range-of-mux-requires : tie.Need-range-of-mux-requires
 range-of-mux-requires c κs = mux-asked (c .before .before .before .before .before .before .args .image .now) (c .before .before .before .before .before .before .args .table .now) (c .before .before .before .before .before .before .args .e) (c .before .before .before .before .before .before .pre .0) (c .before .before .before .before .before .before .pre .1) (c .before .before .before .expression-at .result) (c .before .before .before .expression-at .ensures) (c .before .kind3 .given .1)
-
-enum-known-kind-4 : tie.Need-enum-known-kind-4
-enum-known-kind-4 c = search needs
 
 range-of-slice-requires : tie.Need-range-of-slice-requires
 range-of-slice-requires c κs = slice-asked (c .before .before .before .before .before .before .args .image .now) (c .before .before .before .before .before .before .args .table .now) (c .before .before .before .before .before .before .args .e) (c .before .before .before .before .before .before .pre .0) (c .before .before .before .before .before .before .pre .1) (c .before .before .before .expression-at .result) (c .before .before .before .expression-at .ensures) (c .before .kind4 .given .1)
 
-enum-known-kind-5 : tie.Need-enum-known-kind-5
-enum-known-kind-5 c = search needs
-
 range-of-concat-requires : tie.Need-range-of-concat-requires
 range-of-concat-requires c κs = concat-asked (c .before .before .before .before .before .before .args .image .now) (c .before .before .before .before .before .before .args .table .now) (c .before .before .before .before .before .before .args .e) (c .before .before .before .before .before .before .pre .0) (c .before .before .before .before .before .before .pre .1) (c .before .before .before .expression-at .result) (c .before .before .before .expression-at .ensures) (c .before .kind5 .given .1)
 
-enum-told : tie.Need-enum-told
-enum-told c = search needs
-
 full-requires : tie.Need-full-requires
 full-requires c κs = width-asked (c .before .before .before .before .before .args .image .now) (c .before .before .before .before .before .args .table .now) (c .before .before .before .before .before .args .e) (c .before .before .before .before .before .pre .0) (c .before .before .before .before .before .pre .1) (c .before .before .expression-at .result) (c .before .before .expression-at .ensures)
-
-enum-told-2 : tie.Need-enum-told-2
-enum-told-2 c = search needs
 
 full-requires-2 : tie.Need-full-requires-2
 full-requires-2 c κs = width-asked (c .before .before .before .before .before .args .image .now) (c .before .before .before .before .before .args .table .now) (c .before .before .before .before .before .args .e) (c .before .before .before .before .before .pre .0) (c .before .before .before .before .before .pre .1) (c .before .before .expression-at .result) (c .before .before .expression-at .ensures)
@@ -78,27 +51,6 @@ returns-7 c = c .full2 .ensures ∙ unary-range (c .before .before .before .befo
 pub expression-range-spec : {M : Type 1} → statement M
 expression-range-spec =
     tie.close
-    (tie.spec
-    expression-at-requires
-    enum-known-kind
-    constant-value-requires
-    point-requires
-    enum-known-kind-2
-    range-of-binary-requires
-    enum-known-kind-3
-    range-of-mux-requires
-    enum-known-kind-4
-    range-of-slice-requires
-    enum-known-kind-5
-    range-of-concat-requires
-    enum-told
-    full-requires
-    enum-told-2
-    full-requires-2
-    returns
-    returns-2
-    returns-3
-    returns-4
-    returns-5
-    returns-6
-    returns-7)
+    (tie.spec (λ c κs. search needs) (λ c. search needs) constant-value-requires (λ c κs. search needs) (λ c. search needs) range-of-binary-requires
+    (λ c. search needs) range-of-mux-requires (λ c. search needs) range-of-slice-requires (λ c. search needs) range-of-concat-requires
+    (λ c. search needs) full-requires (λ c. search needs) full-requires-2 returns returns-2 returns-3 returns-4 returns-5 returns-6 returns-7)

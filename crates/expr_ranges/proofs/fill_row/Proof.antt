@@ -9,32 +9,8 @@ use Rattle.expr_ranges.specs.Steps.{row-wide, row-small}
 use Rattle.expr_ranges.specs.Table.{putRow}
 use Rattle.expr_range_rows.specs.Rows.{shown}
 
-expr-width-requires : tie.Need-expr-width-requires
-expr-width-requires c κs = search needs
-
-point-requires : tie.Need-point-requires
-point-requires c κs = search needs
-
-store-row-requires : tie.Need-store-row-requires
-store-row-requires c κs = search needs
-
-same-length : tie.Need-same-length
-same-length c = search needs
-
 returns : tie.Need-returns
 returns c = c .before .before .store-row .ensures ∙ ap (λ (r : model.Range). putRow (c .before .before .before .before .before .before .before .before .before .args .table .now) (c .before .before .before .before .before .before .before .before .before .args .e) r 0) (c .before .before .before .point .ensures) ∙ row-wide (c .before .before .before .before .before .before .before .before .before .args .image .now) (c .before .before .before .before .before .before .before .before .before .args .table .now) (c .before .before .before .before .before .before .before .before .before .args .e) (c .before .before .before .before .before .before .before .before .before .pre) (omega (arith, c .before .before .before .before .before .before .expr-width .ensures))
-
-expression-range-requires : tie.Need-expression-range-requires
-expression-range-requires c κs = search needs
-
-narrowed-requires : tie.Need-narrowed-requires
-narrowed-requires c κs = search needs
-
-store-row-requires-2 : tie.Need-store-row-requires-2
-store-row-requires-2 c κs = search needs
-
-same-length-2 : tie.Need-same-length-2
-same-length-2 c = search needs
 
 returns-2 : tie.Need-returns-2
 returns-2 c = c .before .before .store-row2 .ensures ∙ row-small (c .before .before .before .before .before .before .before .before .before .before .before .args .image .now) (c .before .before .before .before .before .before .before .before .before .before .before .args .table .now) (c .before .before .before .before .before .before .before .before .before .before .before .args .e) (c .before .before .before .before .before .before .before .before .before .before .before .pre) (shown (c .before .before .before .before .before .expression-range .result)) (c .before .before .before .before .narrowed .result) (omega (arith, c .before .before .before .before .before .before .before .before .expr-width .ensures)) (c .before .before .before .before .before .expression-range .ensures) (rw (c .before .before .before .before .before .before .before .before .expr-width .ensures) at (c .before .before .before .before .narrowed .ensures))
@@ -42,14 +18,5 @@ returns-2 c = c .before .before .store-row2 .ensures ∙ row-small (c .before .b
 pub fill-row-spec : {M : Type 1} → statement M
 fill-row-spec =
     tie.close
-    (tie.spec
-    expr-width-requires
-    point-requires
-    store-row-requires
-    same-length
-    returns
-    expression-range-requires
-    narrowed-requires
-    store-row-requires-2
-    same-length-2
-    returns-2)
+    (tie.spec (λ c κs. search needs) (λ c κs. search needs) (λ c κs. search needs) (λ c. search needs) returns (λ c κs. search needs)
+    (λ c κs. search needs) (λ c κs. search needs) (λ c. search needs) returns-2)

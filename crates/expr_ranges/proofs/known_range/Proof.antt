@@ -6,17 +6,11 @@ use native.Mathlib.Omega.{arith}
 use Rattle.expr_ranges.specs.Steps.{known-wide, known-of}
 use Rattle.expr_range_rows.specs.Rows.{shown}
 
-expr-width-requires : tie.Need-expr-width-requires
-expr-width-requires c κs = search needs
-
 returns : tie.Need-returns
 returns c = known-wide (c .before .before .before .before .args .image .now) (c .before .before .before .before .args .table .now) (c .before .before .before .before .args .e) (c .before .before .before .before .pre) (omega (arith, c .before .expr-width .ensures))
-
-load-range-requires : tie.Need-load-range-requires
-load-range-requires c κs = search needs
 
 returns-2 : tie.Need-returns-2
 returns-2 c = known-of (c .before .before .before .before .before .args .image .now) (c .before .before .before .before .before .args .table .now) (c .before .before .before .before .before .args .e) (c .before .before .before .before .before .pre) (shown (c .load-range .result)) (omega (arith, c .before .before .expr-width .ensures)) (c .load-range .ensures)
 
 pub known-range-spec : {M : Type 1} → statement M
-known-range-spec = tie.close (tie.spec expr-width-requires returns load-range-requires returns-2)
+known-range-spec = tie.close (tie.spec (λ c κs. search needs) returns (λ c κs. search needs) returns-2)

@@ -9,32 +9,8 @@ use Rattle.image_records.specs.Expr.{binaryMeans}
 use Rattle.expr_ranges.specs.Steps.{two-none, two-second, two-both, ordered}
 use Rattle.expr_range_rows.specs.Rows.{shown, known}
 
-known-range-requires : tie.Need-known-range-requires
-known-range-requires c κs = search needs
-
-enum-known-left : tie.Need-enum-known-left
-enum-known-left c = search needs
-
-enum-told : tie.Need-enum-told
-enum-told c = search needs
-
-full-requires : tie.Need-full-requires
-full-requires c κs = search needs
-
 returns : tie.Need-returns
 returns c = c .full .ensures ∙ two-none (c .before .before .before .before .before .before .args .width) (model.binaryRange (model.classOf (binaryMeans (c .before .before .before .before .before .before .args .op))) (c .before .before .before .before .before .before .args .width)) (model.rangeAt (exprsOf (c .before .before .before .before .before .before .args .image .now)) (c .before .before .before .before .before .before .args .rhs)) (sym (c .before .before .before .known-range .ensures) ∙ ap known (c .before .enum-told .given .1))
-
-known-range-requires-2 : tie.Need-known-range-requires-2
-known-range-requires-2 c κs = search needs
-
-enum-known-right : tie.Need-enum-known-right
-enum-known-right c = search needs
-
-enum-told-2 : tie.Need-enum-told-2
-enum-told-2 c = search needs
-
-full-requires-2 : tie.Need-full-requires-2
-full-requires-2 c κs = search needs
 
 returns-2 : tie.Need-returns-2
 returns-2 c = c .full2 .ensures ∙ two-second (c .before .before .before .before .before .before .before .before .before .before .args .width) (model.binaryRange (model.classOf (binaryMeans (c .before .before .before .before .before .before .before .before .before .before .args .op))) (c .before .before .before .before .before .before .before .before .before .before .args .width)) (sym (c .before .before .before .before .before .before .before .known-range .ensures) ∙ ap known (c .before .before .before .before .before .left .given .1)) (sym (c .before .before .before .known-range2 .ensures) ∙ ap known (c .before .enum-told2 .given .1))
@@ -48,16 +24,5 @@ returns-3 c = c .binary-range .ensures ∙ two-both (c .before .before .before .
 pub range-of-binary-spec : {M : Type 1} → statement M
 range-of-binary-spec =
     tie.close
-    (tie.spec
-    known-range-requires
-    enum-known-left
-    enum-told
-    full-requires
-    returns
-    known-range-requires-2
-    enum-known-right
-    enum-told-2
-    full-requires-2
-    returns-2
-    binary-range-requires
-    returns-3)
+    (tie.spec (λ c κs. search needs) (λ c. search needs) (λ c. search needs) (λ c κs. search needs) returns (λ c κs. search needs) (λ c. search needs)
+    (λ c. search needs) (λ c κs. search needs) returns-2 binary-range-requires returns-3)

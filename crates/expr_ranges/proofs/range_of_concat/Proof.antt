@@ -26,12 +26,6 @@ list-word-requires c κs = tt
 known-range-requires : tie.Need-known-range-requires Inv-loop μ-loop
 known-range-requires c κs = rw (c .list-word .ensures) (c .before .before .before .before .before .pre .rows (c .before .before .loop .i) (omega arith))
 
-enum-known-known : tie.Need-enum-known-known Inv-loop μ-loop
-enum-known-known c = search needs
-
-enum-told : tie.Need-enum-told Inv-loop μ-loop
-enum-told c = search needs
-
 full-requires : tie.Need-full-requires Inv-loop μ-loop
 full-requires c κs = (c .before .before .before .before .before .before .before .before .pre .least, c .before .before .before .before .before .before .before .before .pre .most)
 
@@ -46,12 +40,6 @@ join-range-requires c κs =
     let j = join-asked (c .before .before .before .before .before .before .before .before .before .before .args .image .now) (c .before .before .before .before .before .before .before .before .before .before .args .table .now) (c .before .before .before .before .before .before .before .before .before .before .args .start) (c .before .before .before .before .before .before .before .before .before .before .args .count) (c .before .before .before .before .before .before .before .before .before .before .args .width) (c .before .before .before .before .before .before .before .before .before .before .pre) (c .before .before .before .before .before .before .before .loop .i) (shown (c .before .before .before .before .before .before .before .loop .result)) (omega arith) (c .before .before .before .before .before .before .before .loop .inv .1) (c .before .before .before .before .before .list-word .result) (c .before .before .before .before .before .list-word .ensures) (shown (c .before .before .known .given .0 .0)) (sym (sym (c .before .before .before .before .known-range .ensures) ∙ ap known (c .before .before .known .given .1))) in
     record { most = omega (arith, j .2, c .expr-width .ensures); lower = rw (c .expr-width .ensures) (j .0); upper = rw (c .expr-width .ensures) (j .1) }
 
-add-i : tie.Need-add-i Inv-loop μ-loop
-add-i c = omega arith
-
-loop-less : tie.Need-loop-less Inv-loop μ-loop
-loop-less c = omega arith
-
 loop-again : tie.Need-loop-again Inv-loop μ-loop
 loop-again c = (omega arith, rw (c .join-range .ensures, c .before .expr-width .ensures) (join-passes (c .before .before .before .before .before .before .before .before .before .before .before .args .image .now) (c .before .before .before .before .before .before .before .before .before .before .before .args .table .now) (c .before .before .before .before .before .before .before .before .before .before .before .args .start) (c .before .before .before .before .before .before .before .before .before .before .before .args .count) (c .before .before .before .before .before .before .before .before .before .before .before .args .width) (c .before .before .before .before .before .before .before .before .before .before .before .pre) (c .before .before .before .before .before .before .before .before .loop .i) (shown (c .before .before .before .before .before .before .before .before .loop .result)) (omega arith) (c .before .before .before .before .before .before .before .before .loop .inv .1) (c .before .before .before .before .before .before .list-word .result) (c .before .before .before .before .before .before .list-word .ensures) (shown (c .before .before .before .known .given .0 .0)) (sym (sym (c .before .before .before .before .before .known-range .ensures) ∙ ap known (c .before .before .before .known .given .1)))))
 
@@ -61,20 +49,5 @@ returns-2 c = join-ends (c .before .before .before .before .args .image .now) (c
 pub range-of-concat-spec : {M : Type 1} → statement M
 range-of-concat-spec =
     tie.close
-    (tie.spec
-    Inv-loop
-    μ-loop
-    loop-holds
-    add-list-word
-    list-word-requires
-    known-range-requires
-    enum-known-known
-    enum-told
-    full-requires
-    returns
-    expr-width-requires
-    join-range-requires
-    add-i
-    loop-less
-    loop-again
-    returns-2)
+    (tie.spec Inv-loop μ-loop loop-holds add-list-word list-word-requires known-range-requires (λ c. search needs) (λ c. search needs) full-requires
+    returns expr-width-requires join-range-requires (λ c. omega arith) (λ c. omega arith) loop-again returns-2)

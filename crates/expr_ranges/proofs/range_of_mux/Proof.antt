@@ -9,41 +9,11 @@ use Rattle.expr_laws.specs.Exprs.{exprsOf}
 use Rattle.expr_ranges.specs.Steps.{two-none, two-second, two-both}
 use Rattle.expr_range_rows.specs.Rows.{shown, known}
 
-known-range-requires : tie.Need-known-range-requires
-known-range-requires c κs = search needs
-
-enum-known-left : tie.Need-enum-known-left
-enum-known-left c = search needs
-
-enum-told : tie.Need-enum-told
-enum-told c = search needs
-
-full-requires : tie.Need-full-requires
-full-requires c κs = search needs
-
 returns : tie.Need-returns
 returns c = c .full .ensures ∙ two-none (c .before .before .before .before .before .before .args .width) (model.muxRange (model.rangeAt (exprsOf (c .before .before .before .before .before .before .args .image .now)) (c .before .before .before .before .before .before .args .condition))) (model.rangeAt (exprsOf (c .before .before .before .before .before .before .args .image .now)) (c .before .before .before .before .before .before .args .no)) (sym (c .before .before .before .known-range .ensures) ∙ ap known (c .before .enum-told .given .1))
 
-known-range-requires-2 : tie.Need-known-range-requires-2
-known-range-requires-2 c κs = search needs
-
-enum-known-right : tie.Need-enum-known-right
-enum-known-right c = search needs
-
-enum-told-2 : tie.Need-enum-told-2
-enum-told-2 c = search needs
-
-full-requires-2 : tie.Need-full-requires-2
-full-requires-2 c κs = search needs
-
 returns-2 : tie.Need-returns-2
 returns-2 c = c .full2 .ensures ∙ two-second (c .before .before .before .before .before .before .before .before .before .before .args .width) (model.muxRange (model.rangeAt (exprsOf (c .before .before .before .before .before .before .before .before .before .before .args .image .now)) (c .before .before .before .before .before .before .before .before .before .before .args .condition))) (sym (c .before .before .before .before .before .before .before .known-range .ensures) ∙ ap known (c .before .before .before .before .before .left .given .1)) (sym (c .before .before .before .known-range2 .ensures) ∙ ap known (c .before .enum-told2 .given .1))
-
-known-range-requires-3 : tie.Need-known-range-requires-3
-known-range-requires-3 c κs = search needs
-
-mux-range-requires : tie.Need-mux-range-requires
-mux-range-requires c κs = search needs
 
 returns-3 : tie.Need-returns-3
 returns-3 c = c .mux-range .ensures ∙ ap (λ (o : Option model.Range). model.muxRange o (shown (c .before .before .before .before .before .before .before .left .given .0 .0)) (shown (c .before .before .before .right .given .0 .0))) (c .before .known-range3 .ensures) ∙ two-both (c .before .before .before .before .before .before .before .before .before .before .before .before .args .width) (model.muxRange (model.rangeAt (exprsOf (c .before .before .before .before .before .before .before .before .before .before .before .before .args .image .now)) (c .before .before .before .before .before .before .before .before .before .before .before .before .args .condition))) (sym (c .before .before .before .before .before .before .before .before .before .known-range .ensures) ∙ ap known (c .before .before .before .before .before .before .before .left .given .1)) (sym (c .before .before .before .before .before .known-range2 .ensures) ∙ ap known (c .before .before .before .right .given .1))
@@ -51,17 +21,5 @@ returns-3 c = c .mux-range .ensures ∙ ap (λ (o : Option model.Range). model.m
 pub range-of-mux-spec : {M : Type 1} → statement M
 range-of-mux-spec =
     tie.close
-    (tie.spec
-    known-range-requires
-    enum-known-left
-    enum-told
-    full-requires
-    returns
-    known-range-requires-2
-    enum-known-right
-    enum-told-2
-    full-requires-2
-    returns-2
-    known-range-requires-3
-    mux-range-requires
-    returns-3)
+    (tie.spec (λ c κs. search needs) (λ c. search needs) (λ c. search needs) (λ c κs. search needs) returns (λ c κs. search needs) (λ c. search needs)
+    (λ c. search needs) (λ c κs. search needs) returns-2 (λ c κs. search needs) (λ c κs. search needs) returns-3)

@@ -8,18 +8,6 @@ use Rattle.spec_model.specs.Ranges as model
 use Rattle.expr_ranges.specs.Steps.{one-none, one-some, range-small}
 use Rattle.expr_range_rows.specs.Rows.{shown, known}
 
-known-range-requires : tie.Need-known-range-requires
-known-range-requires c κs = search needs
-
-enum-known-known : tie.Need-enum-known-known
-enum-known-known c = search needs
-
-enum-told : tie.Need-enum-told
-enum-told c = search needs
-
-full-requires : tie.Need-full-requires
-full-requires c κs = search needs
-
 returns : tie.Need-returns
 returns c = c .full .ensures ∙ one-none (c .before .before .before .before .before .before .args .width) (model.sliceRange (c .before .before .before .before .before .before .args .lsb) (c .before .before .before .before .before .before .args .width)) (sym (c .before .before .before .known-range .ensures) ∙ ap known (c .before .enum-told .given .1))
 
@@ -32,11 +20,4 @@ returns-2 c = c .slice-range .ensures ∙ one-some (c .before .before .before .b
 pub range-of-slice-spec : {M : Type 1} → statement M
 range-of-slice-spec =
     tie.close
-    (tie.spec
-    known-range-requires
-    enum-known-known
-    enum-told
-    full-requires
-    returns
-    slice-range-requires
-    returns-2)
+    (tie.spec (λ c κs. search needs) (λ c. search needs) (λ c. search needs) (λ c κs. search needs) returns slice-range-requires returns-2)

@@ -5,14 +5,8 @@ use Rattle.image_fields.proofs.field.Tie as tie
 use native.Mathlib.Omega.{arith}
 use Rattle.image_fields.specs.Fields.{fieldIn, scaled}
 
-size-requires : tie.Need-size-requires
-size-requires c κs = search needs
-
 mul-word : tie.Need-mul-word
 mul-word c = omega (arith, scaled (c .before .before .args .r) (c .size .result) (omega arith) (c .size .ensures .1))
-
-mul-word-2 : tie.Need-mul-word-2
-mul-word-2 c = search needs
 
 add-word : tie.Need-add-word
 add-word c = omega (arith, scaled (c .before .before .args .r) (c .size .result) (omega arith) (c .size .ensures .1))
@@ -25,4 +19,4 @@ unfolding fieldIn
 returns c = cc
 
 pub field-spec : {M : Type 1} → statement M
-field-spec = tie.close (tie.spec size-requires mul-word mul-word-2 add-word word-requires returns)
+field-spec = tie.close (tie.spec (λ c κs. search needs) mul-word (λ c. search needs) add-word word-requires returns)

@@ -4,18 +4,9 @@ use Rattle.image_fields.proofs.offset.Statement.{statement}
 use Rattle.image_fields.proofs.offset.Tie as tie
 use Rattle.spec_rules.specs.Image.{offsetAt}
 
-mul-word : tie.Need-mul-word
-mul-word c = search needs
-
-add-word : tie.Need-add-word
-add-word c = search needs
-
-word-requires : tie.Need-word-requires
-word-requires c κs = search needs
-
 returns : tie.Need-returns
 unfolding offsetAt
 returns c = c .word .ensures
 
 pub offset-spec : {M : Type 1} → statement M
-offset-spec = tie.close (tie.spec mul-word add-word word-requires returns)
+offset-spec = tie.close (tie.spec (λ c. search needs) (λ c. search needs) (λ c κs. search needs) returns)

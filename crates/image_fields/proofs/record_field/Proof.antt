@@ -5,15 +5,9 @@ use Rattle.image_fields.proofs.record_field.Tie as tie
 use Rattle.spec_rules.specs.Image.{field}
 use Rattle.image_fields.specs.Fields.{fieldIn}
 
-section-requires : tie.Need-section-requires
-section-requires c κs = search needs
-
-field-requires : tie.Need-field-requires
-field-requires c κs = search needs
-
 returns : tie.Need-returns
 unfolding field fieldIn
 returns c = cc
 
 pub record-field-spec : {M : Type 1} → statement M
-record-field-spec = tie.close (tie.spec section-requires field-requires returns)
+record-field-spec = tie.close (tie.spec (λ c κs. search needs) (λ c κs. search needs) returns)

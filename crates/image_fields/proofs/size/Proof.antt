@@ -8,9 +8,6 @@ use lib.Dec.{lit≤}
 use Rattle.spec_rules.specs.Image.{sizeOf}
 use Rattle.image_fields.specs.Fields.{size-most, size-none}
 
-array-read-result : tie.Need-array-read-result
-array-read-result c = search needs
-
 cast-result : tie.Need-cast-result
 unfolding sizeOf
 cast-result c = omega (arith, size-most (c .before .args .k))
@@ -23,4 +20,4 @@ returns-2 : tie.Need-returns-2
 returns-2 c = (sym (size-none _ (c .if1 .left)), lit≤ tt)
 
 pub size-spec : {M : Type 1} → statement M
-size-spec = tie.close (tie.spec array-read-result cast-result returns returns-2)
+size-spec = tie.close (tie.spec (λ c. search needs) cast-result returns returns-2)

@@ -10,70 +10,24 @@ use lib.ListN.{length, take, drop, length-drop, drop-of-length-le}
 use lib.Seq.{take-all, drop-length, take-nil}
 use denote.Ref.{now}
 
-sub-if2 : tie.Need-sub-if2
-sub-if2 c = search needs
-
-add-result : tie.Need-add-result
-add-result c = search needs
-
-sub-result : tie.Need-sub-result
-sub-result c = search needs
-
-part-result-start : tie.Need-part-result-start
-part-result-start c = search needs
-
-part-result-end : tie.Need-part-result-end
-part-result-end c = search needs
-
-sub-result-2 : tie.Need-sub-result-2
-sub-result-2 c = search needs
-
-part-result-start-2 : tie.Need-part-result-start-2
-part-result-start-2 c = search needs
-
-part-result-end-2 : tie.Need-part-result-end-2
-part-result-end-2 c = search needs
-
-sub-result-3 : tie.Need-sub-result-3
-sub-result-3 c = search needs
-
-part-result-start-3 : tie.Need-part-result-start-3
-part-result-start-3 c = search needs
-
-part-result-end-3 : tie.Need-part-result-end-3
-part-result-end-3 c = search needs
-
 returns : tie.Need-returns
 returns c =
     let a = c .before .before .before .args in
-    ap (λ (k : ℕ). take k (drop (a .at) (now (a .s)))) (add-sub-cancel-left (a .at) (a .n))
+    ap (λ (k : ℕ). take k (drop (a .at) (now (a .image)))) (add-sub-cancel-left (a .at) (a .n))
 
 returns-2 : tie.Need-returns-2
 returns-2 c =
     let a = c .before .before .before .args in
-    let l = length-drop (a .at) (now (a .s)) in
-    take-all (length (now (a .s)) - a .at) (drop (a .at) (now (a .s))) (omega arith) ∙ sym (take-all (a .n) (drop (a .at) (now (a .s))) (omega arith))
+    let l = length-drop (a .at) (now (a .image)) in
+    take-all (length (now (a .image)) - a .at) (drop (a .at) (now (a .image))) (omega arith) ∙ sym (take-all (a .n) (drop (a .at) (now (a .image))) (omega arith))
 
 returns-3 : tie.Need-returns-3
 returns-3 c =
-    let e = drop-of-length-le (now (c .before .before .args .s)) (le-of-lt (c .before .if1 .left)) in
+    let e = drop-of-length-le (now (c .before .before .args .image)) (le-of-lt (c .before .if1 .left)) in
     simp (drop-length, take-nil, e) (sym (take-nil (c .before .before .args .n)))
 
 pub stretch-spec : {M : Type 1} → statement M
 stretch-spec =
     tie.close
-    (tie.spec
-    sub-if2
-    add-result
-    sub-result
-    part-result-start
-    part-result-end
-    sub-result-2
-    part-result-start-2
-    part-result-end-2
-    sub-result-3
-    part-result-start-3
-    part-result-end-3
-    returns
-    returns-2
-    returns-3)
+    (tie.spec (λ c. search needs) (λ c. search needs) (λ c. search needs) (λ c. search needs) (λ c. search needs) (λ c. search needs)
+    (λ c. search needs) (λ c. search needs) (λ c. search needs) (λ c. search needs) (λ c. search needs) returns returns-2 returns-3)

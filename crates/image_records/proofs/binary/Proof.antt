@@ -7,9 +7,6 @@ use lib.ListN.{List·getD-eq-default}
 use Rattle.image_records.specs.Expr.{binaryOf, binaries}
 use Rattle.image_records.specs.declared.BinaryOp.the-variants.{And}
 
-array-copy-out-result : tie.Need-array-copy-out-result
-array-copy-out-result c = search needs
-
 returns : tie.Need-returns
 unfolding binaryOf
 returns c = refl
@@ -19,4 +16,4 @@ unfolding binaryOf
 returns-2 c = sym (List·getD-eq-default binaries And (c .if1 .left))
 
 pub binary-spec : {M : Type 1} → statement M
-binary-spec = tie.close (tie.spec array-copy-out-result returns returns-2)
+binary-spec = tie.close (tie.spec (λ c. search needs) returns returns-2)

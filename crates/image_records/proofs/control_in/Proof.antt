@@ -6,18 +6,9 @@ use Rattle.spec_tests.specs.Rules.{_≡?_}
 use Rattle.spec_rules.specs.Image.{controlOf}
 use Rattle.image_records.specs.Others.{controlMeans, controlIn}
 
-field-requires : tie.Need-field-requires
-field-requires c κs = search needs
-
-add-field : tie.Need-add-field
-add-field c = search needs
-
-field-requires-2 : tie.Need-field-requires-2
-field-requires-2 c κs = search needs
-
 returns : tie.Need-returns
 unfolding controlMeans controlIn controlOf _≡?_
 returns c = cc
 
 pub control-in-spec : {M : Type 1} → statement M
-control-in-spec = tie.close (tie.spec field-requires add-field field-requires-2 returns)
+control-in-spec = tie.close (tie.spec (λ c κs. search needs) (λ c. search needs) (λ c κs. search needs) returns)

@@ -9,19 +9,13 @@ use Rattle.spec_rules.specs.Image.{optional}
 use Rattle.image_records.specs.Others.{enableMeans, enableIn}
 use mathlib.Core.Option.{some}
 
-field-requires : tie.Need-field-requires
-field-requires c κs = search needs
-
 returns : tie.Need-returns
 unfolding enableMeans enableIn optional
 returns c = pick-hit _ (eq-yes _ _ (omega arith)) refl
-
-control-in-requires : tie.Need-control-in-requires
-control-in-requires c κs = search needs
 
 returns-2 : tie.Need-returns-2
 unfolding enableMeans enableIn optional
 returns-2 c = pick-skip _ (eq-no _ _ (λ e. c .before .if1 .left (c .before .before .field .ensures ∙ e))) (ap some (c .control-in .ensures))
 
 pub enable-in-spec : {M : Type 1} → statement M
-enable-in-spec = tie.close (tie.spec field-requires returns control-in-requires returns-2)
+enable-in-spec = tie.close (tie.spec (λ c κs. search needs) returns (λ c κs. search needs) returns-2)

@@ -4,15 +4,9 @@ use Rattle.image_records.proofs.expression_at.Statement.{statement}
 use Rattle.image_records.proofs.expression_at.Tie as tie
 use Rattle.image_records.specs.Expr.{expressionOf, decoded}
 
-section-requires : tie.Need-section-requires
-section-requires c κs = search needs
-
-expression-in-requires : tie.Need-expression-in-requires
-expression-in-requires c κs = search needs
-
 returns : tie.Need-returns
 unfolding expressionOf
 returns c = decoded _ _ _ (cc)
 
 pub expression-at-spec : {M : Type 1} → statement M
-expression-at-spec = tie.close (tie.spec section-requires expression-in-requires returns)
+expression-at-spec = tie.close (tie.spec (λ c κs. search needs) (λ c κs. search needs) returns)

@@ -6,12 +6,6 @@ use borrow.Author.Tests.{ne-eqb}
 use Rattle.spec_tests.specs.Rules.{pick, _≡?_}
 use Rattle.image_records.specs.Expr.{kindOf}
 
-unary-requires : tie.Need-unary-requires
-unary-requires c κs = search needs
-
-binary-requires : tie.Need-binary-requires
-binary-requires c κs = search needs
-
 returns : tie.Need-returns
 unfolding kindOf pick _≡?_
 returns c = rw (c .match .keys1)
@@ -41,15 +35,4 @@ unfolding kindOf pick _≡?_
 returns-7 c = simp (ne-eqb _ _ (c .match .rest .0 .0 .0 .0 .0 .1), ne-eqb _ _ (c .match .rest .0 .0 .0 .0 .1), ne-eqb _ _ (c .match .rest .0 .0 .0 .1), ne-eqb _ _ (c .match .rest .0 .0 .1), ne-eqb _ _ (c .match .rest .0 .1), ne-eqb _ _ (c .match .rest .1))
 
 pub kind-spec : {M : Type 1} → statement M
-kind-spec =
-    tie.close
-    (tie.spec
-    unary-requires
-    binary-requires
-    returns
-    returns-2
-    returns-3
-    returns-4
-    returns-5
-    returns-6
-    returns-7)
+kind-spec = tie.close (tie.spec (λ c κs. search needs) (λ c κs. search needs) returns returns-2 returns-3 returns-4 returns-5 returns-6 returns-7)

@@ -8,33 +8,13 @@ use Rattle.spec_tests.specs.Laws.{pick-hit, pick-skip, eq-yes, eq-no}
 use Rattle.spec_rules.specs.Image.{optional}
 use Rattle.image_records.specs.Others.{resetMeans, resetIn, reset-way}
 
-field-requires : tie.Need-field-requires
-field-requires c κs = search needs
-
 returns : tie.Need-returns
 unfolding resetMeans resetIn optional
 returns c = pick-hit _ (eq-yes _ _ (omega arith)) refl
-
-control-in-requires : tie.Need-control-in-requires
-control-in-requires c κs = search needs
-
-field-requires-2 : tie.Need-field-requires-2
-field-requires-2 c κs = search needs
-
-field-requires-3 : tie.Need-field-requires-3
-field-requires-3 c κs = search needs
 
 returns-2 : tie.Need-returns-2
 unfolding resetIn optional
 returns-2 c = pick-skip _ (eq-no _ _ (λ e. c .before .before .before .if1 .left (c .before .before .before .before .field .ensures ∙ e))) (reset-way _ _ _ _ _ (c .before .before .control-in .ensures) (c .before .field2 .ensures) (c .field3 .ensures))
 
 pub reset-in-spec : {M : Type 1} → statement M
-reset-in-spec =
-    tie.close
-    (tie.spec
-    field-requires
-    returns
-    control-in-requires
-    field-requires-2
-    field-requires-3
-    returns-2)
+reset-in-spec = tie.close (tie.spec (λ c κs. search needs) returns (λ c κs. search needs) (λ c κs. search needs) (λ c κs. search needs) returns-2)

@@ -7,19 +7,13 @@ use mathlib.Core.Option.{some}
 use Rattle.spec_tests.specs.Laws.{pick-hit, pick-skip, eq-yes, eq-no}
 use Rattle.image_records.specs.Others.{secondMeans, secondIn}
 
-field-requires : tie.Need-field-requires
-field-requires c κs = search needs
-
 returns : tie.Need-returns
 unfolding secondMeans secondIn
 returns c = pick-hit _ (eq-yes _ _ (sym (c .before .field .ensures) ∙ c .if1 .taken)) refl
-
-port-in-requires : tie.Need-port-in-requires
-port-in-requires c κs = search needs
 
 returns-2 : tie.Need-returns-2
 unfolding secondMeans secondIn
 returns-2 c = pick-skip _ (eq-no _ _ (λ e. c .before .if1 .left (c .before .before .field .ensures ∙ e))) (ap some (c .port-in .ensures))
 
 pub second-in-spec : {M : Type 1} → statement M
-second-in-spec = tie.close (tie.spec field-requires returns port-in-requires returns-2)
+second-in-spec = tie.close (tie.spec (λ c κs. search needs) returns (λ c κs. search needs) returns-2)

@@ -7,9 +7,6 @@ use lib.ListN.{List·getD-eq-default}
 use Rattle.image_records.specs.Expr.{unaryOf, unaries}
 use Rattle.image_records.specs.declared.UnaryOp.the-variants.{BitNot}
 
-array-copy-out-result : tie.Need-array-copy-out-result
-array-copy-out-result c = search needs
-
 returns : tie.Need-returns
 unfolding unaryOf
 returns c = refl
@@ -19,4 +16,4 @@ unfolding unaryOf
 returns-2 c = sym (List·getD-eq-default unaries BitNot (c .if1 .left))
 
 pub unary-spec : {M : Type 1} → statement M
-unary-spec = tie.close (tie.spec array-copy-out-result returns returns-2)
+unary-spec = tie.close (tie.spec (λ c. search needs) returns returns-2)

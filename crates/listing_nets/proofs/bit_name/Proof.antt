@@ -8,19 +8,10 @@ use borrow.Author.Needs.{needs}
 use Rattle.listing_nets.specs.Pieces.{bit-name}
 use Rattle.listing_text.specs.Text.{wrote-more, wrote-same}
 
-put-word-requires : tie.Need-put-word-requires
-put-word-requires c κs = search needs
-
-bit-suffix-requires : tie.Need-bit-suffix-requires
-bit-suffix-requires c κs = search needs
-
-same-length : tie.Need-same-length
-same-length c = search needs
-
 returns : tie.Need-returns
 returns c =
     let c4 = c .before .before .before .before in
     wrote-same (ap (λ (l : List ℕ). 32 ∷ l) (bit-name _ _ _)) (wrote-more (c4 .before .before .put-word .ensures) (c .before .before .bit-suffix .ensures))
 
 pub bit-name-spec : {M : Type 1} → statement M
-bit-name-spec = tie.close (tie.spec put-word-requires bit-suffix-requires same-length returns)
+bit-name-spec = tie.close (tie.spec (λ c κs. search needs) (λ c κs. search needs) (λ c. search needs) returns)

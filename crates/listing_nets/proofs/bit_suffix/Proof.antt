@@ -8,18 +8,6 @@ use Rattle.listing_text.specs.Text.{wrote-none, wrote-more, wrote-same}
 returns : tie.Need-returns
 returns c = wrote-same (suffix-none _ _ (c .if1 .taken)) (wrote-none _ _ (c .before .before .pre))
 
-put-byte-requires : tie.Need-put-byte-requires
-put-byte-requires c κs = search needs
-
-decimal-requires : tie.Need-decimal-requires
-decimal-requires c κs = search needs
-
-put-byte-requires-2 : tie.Need-put-byte-requires-2
-put-byte-requires-2 c κs = search needs
-
-same-length : tie.Need-same-length
-same-length c = search needs
-
 returns-2 : tie.Need-returns-2
 returns-2 c =
     let c4 = c .before .before .before .before in
@@ -28,6 +16,4 @@ returns-2 c =
     wrote-same (suffix-number _ _ (c12 .if1 .left)) (wrote-more (c8 .before .before .put-byte .ensures) (wrote-more (c4 .before .before .decimal .ensures) (c .before .before .put-byte2 .ensures)))
 
 pub bit-suffix-spec : {M : Type 1} → statement M
-bit-suffix-spec =
-    tie.close
-    (tie.spec returns put-byte-requires decimal-requires put-byte-requires-2 same-length returns-2)
+bit-suffix-spec = tie.close (tie.spec returns (λ c κs. search needs) (λ c κs. search needs) (λ c κs. search needs) (λ c. search needs) returns-2)

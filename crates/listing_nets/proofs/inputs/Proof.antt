@@ -8,20 +8,8 @@ use Rattle.listing_text.specs.Text.{wrote-none, wrote-more, wrote-same}
 returns : tie.Need-returns
 returns c = wrote-same (input-none _ _ (c .if1 .taken)) (wrote-none _ _ (c .before .before .pre))
 
-put-number-requires : tie.Need-put-number-requires
-put-number-requires c κs = search needs
-
-same-length : tie.Need-same-length
-same-length c = search needs
-
 returns-2 : tie.Need-returns-2
 returns-2 c = wrote-same (input-more _ _ (c .before .before .before .before .before .if1 .left)) (wrote-more (c .before .before .before .put-number .ensures) (wrote-same (input-none _ _ (c .if2 .taken)) (wrote-none _ _ (c .before .before .before .put-number .ensures .upto))))
-
-put-number-requires-2 : tie.Need-put-number-requires-2
-put-number-requires-2 c κs = search needs
-
-same-length-2 : tie.Need-same-length-2
-same-length-2 c = search needs
 
 returns-3 : tie.Need-returns-3
 returns-3 c =
@@ -29,12 +17,6 @@ returns-3 c =
     let c8 = c4 .before .before .before .before in
     wrote-same (input-more _ _ (c8 .before .before .if1 .left)) (wrote-more (c8 .put-number .ensures)
     (wrote-same (input-more _ _ (c4 .before .if2 .left)) (wrote-more (c .before .before .before .put-number2 .ensures) (wrote-same (input-none _ _ (c .if3 .taken)) (wrote-none _ _ (c .before .before .before .put-number2 .ensures .upto))))))
-
-put-number-requires-3 : tie.Need-put-number-requires-3
-put-number-requires-3 c κs = search needs
-
-same-length-3 : tie.Need-same-length-3
-same-length-3 c = search needs
 
 returns-4 : tie.Need-returns-4
 returns-4 c =
@@ -47,14 +29,5 @@ returns-4 c =
 pub inputs-spec : {M : Type 1} → statement M
 inputs-spec =
     tie.close
-    (tie.spec
-    returns
-    put-number-requires
-    same-length
-    returns-2
-    put-number-requires-2
-    same-length-2
-    returns-3
-    put-number-requires-3
-    same-length-3
-    returns-4)
+    (tie.spec returns (λ c κs. search needs) (λ c. search needs) returns-2 (λ c κs. search needs) (λ c. search needs) returns-3 (λ c κs. search needs)
+    (λ c. search needs) returns-4)

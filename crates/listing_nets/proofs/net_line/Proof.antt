@@ -5,42 +5,6 @@ use borrow.Author.Needs.{needs}
 use Rattle.listing_nets.specs.Pieces.{net-line-wrote}
 use Rattle.listing_text.specs.Text.{wrote-more}
 
-node-word-requires : tie.Need-node-word-requires
-node-word-requires c κs = search needs
-
-decimal-requires : tie.Need-decimal-requires
-decimal-requires c κs = search needs
-
-kind-word-requires : tie.Need-kind-word-requires
-kind-word-requires c κs = search needs
-
-node-word-requires-2 : tie.Need-node-word-requires-2
-node-word-requires-2 c κs = search needs
-
-node-word-requires-3 : tie.Need-node-word-requires-3
-node-word-requires-3 c κs = search needs
-
-owned-requires : tie.Need-owned-requires
-owned-requires c κs = search needs
-
-node-word-requires-4 : tie.Need-node-word-requires-4
-node-word-requires-4 c κs = search needs
-
-node-word-requires-5 : tie.Need-node-word-requires-5
-node-word-requires-5 c κs = search needs
-
-node-word-requires-6 : tie.Need-node-word-requires-6
-node-word-requires-6 c κs = search needs
-
-inputs-requires : tie.Need-inputs-requires
-inputs-requires c κs = search needs
-
-put-byte-requires : tie.Need-put-byte-requires
-put-byte-requires c κs = search needs
-
-same-length : tie.Need-same-length
-same-length c = search needs
-
 returns : tie.Need-returns
 returns c =
     let c4 = c .before .before .before .before in
@@ -55,17 +19,6 @@ returns c =
 pub net-line-spec : {M : Type 1} → statement M
 net-line-spec =
     tie.close
-    (tie.spec
-    node-word-requires
-    decimal-requires
-    kind-word-requires
-    node-word-requires-2
-    node-word-requires-3
-    owned-requires
-    node-word-requires-4
-    node-word-requires-5
-    node-word-requires-6
-    inputs-requires
-    put-byte-requires
-    same-length
-    returns)
+    (tie.spec (λ c κs. search needs) (λ c κs. search needs) (λ c κs. search needs) (λ c κs. search needs) (λ c κs. search needs)
+    (λ c κs. search needs) (λ c κs. search needs) (λ c κs. search needs) (λ c κs. search needs) (λ c κs. search needs) (λ c κs. search needs)
+    (λ c. search needs) returns)

@@ -14,20 +14,11 @@ Inv-loop s net out₀ at count to₀ n₀ out to n = Lines (netLine s net) count
 abbrev μ-loop : tie.MeasureT-loop
 μ-loop s net out₀ at count to₀ n₀ out to n = count - n
 
-word-at-requires : tie.Need-word-at-requires Inv-loop μ-loop
-word-at-requires c κs = search needs
-
 loop-holds : tie.Need-loop-holds Inv-loop μ-loop
 loop-holds c = lines-start _ _ _ _ (c .before .before .before .before .pre)
 
 net-line-requires : tie.Need-net-line-requires Inv-loop μ-loop
 net-line-requires c κs = c .before .before .loop .inv .writing .upto
-
-add-n : tie.Need-add-n Inv-loop μ-loop
-add-n c = omega arith
-
-loop-less : tie.Need-loop-less Inv-loop μ-loop
-loop-less c = omega arith
 
 loop-again : tie.Need-loop-again Inv-loop μ-loop
 loop-again c = lines-more _ _ (c .before .before .before .before .loop-test .taken) (c .before .before .before .before .before .loop .inv) (c .before .before .net-line .ensures)
@@ -41,14 +32,4 @@ returns c = rw (c .before .before .word-at .ensures) at (lines-end _ _ (c .loop-
 pub net-lines-spec : {M : Type 1} → statement M
 net-lines-spec =
     tie.close
-    (tie.spec
-    Inv-loop
-    μ-loop
-    word-at-requires
-    loop-holds
-    net-line-requires
-    add-n
-    loop-less
-    loop-again
-    same-length
-    returns)
+    (tie.spec Inv-loop μ-loop (λ c κs. search needs) loop-holds net-line-requires (λ c. omega arith) (λ c. omega arith) loop-again same-length returns)

@@ -6,63 +6,24 @@ use borrow.Author.Needs.{needs}
 use Rattle.listing_nets.specs.Pieces.{owned-port, owned-constant, owned-register, owned-memory, owned-cell, owned-none}
 use Rattle.listing_text.specs.Text.{wrote-none, wrote-more, wrote-same}
 
-is-port-requires : tie.Need-is-port-requires
-is-port-requires c κs = search needs
-
-signal-name-requires : tie.Need-signal-name-requires
-signal-name-requires c κs = search needs
-
-same-length : tie.Need-same-length
-same-length c = search needs
-
 returns : tie.Need-returns
 returns c = wrote-same (owned-port _ _ _ _ (sym (c .before .before .before .before .before .is-port .ensures) ∙ c .before .before .before .before .if1 .taken)) (c .before .before .signal-name .ensures)
-
-put-number-requires : tie.Need-put-number-requires
-put-number-requires c κs = search needs
-
-same-length-2 : tie.Need-same-length-2
-same-length-2 c = search needs
 
 returns-2 : tie.Need-returns-2
 returns-2 c =
     let c4 = c .before .before .before .before in
     wrote-same (owned-constant _ _ _ _ (sym (c4 .before .before .is-port .ensures) ∙ c4 .before .if1 .left) (c4 .if2 .taken)) (c .before .before .put-number .ensures)
 
-register-name-requires : tie.Need-register-name-requires
-register-name-requires c κs = search needs
-
-same-length-3 : tie.Need-same-length-3
-same-length-3 c = search needs
-
 returns-3 : tie.Need-returns-3
 returns-3 c =
     let c4 = c .before .before .before .before in
     wrote-same (owned-register _ _ _ _ (sym (c4 .before .before .before .is-port .ensures) ∙ c4 .before .before .if1 .left) (c4 .before .if2 .left) (c4 .if3 .taken)) (c .before .before .register-name .ensures)
-
-memory-name-requires : tie.Need-memory-name-requires
-memory-name-requires c κs = search needs
-
-same-length-4 : tie.Need-same-length-4
-same-length-4 c = search needs
 
 returns-4 : tie.Need-returns-4
 returns-4 c =
     let c4 = c .before .before .before .before in
     let c8 = c4 .before .before .before .before in
     wrote-same (owned-memory _ _ _ _ (sym (c8 .is-port .ensures) ∙ c4 .before .before .before .if1 .left) (c4 .before .before .if2 .left) (c4 .before .if3 .left) (c4 .if4 .taken)) (c .before .before .memory-name .ensures)
-
-is-cell-requires : tie.Need-is-cell-requires
-is-cell-requires c κs = search needs
-
-put-number-requires-2 : tie.Need-put-number-requires-2
-put-number-requires-2 c κs = search needs
-
-put-number-requires-3 : tie.Need-put-number-requires-3
-put-number-requires-3 c κs = search needs
-
-same-length-5 : tie.Need-same-length-5
-same-length-5 c = search needs
 
 returns-5 : tie.Need-returns-5
 returns-5 c =
@@ -82,23 +43,6 @@ returns-6 c =
 pub owned-spec : {M : Type 1} → statement M
 owned-spec =
     tie.close
-    (tie.spec
-    is-port-requires
-    signal-name-requires
-    same-length
-    returns
-    put-number-requires
-    same-length-2
-    returns-2
-    register-name-requires
-    same-length-3
-    returns-3
-    memory-name-requires
-    same-length-4
-    returns-4
-    is-cell-requires
-    put-number-requires-2
-    put-number-requires-3
-    same-length-5
-    returns-5
-    returns-6)
+    (tie.spec (λ c κs. search needs) (λ c κs. search needs) (λ c. search needs) returns (λ c κs. search needs) (λ c. search needs) returns-2
+    (λ c κs. search needs) (λ c. search needs) returns-3 (λ c κs. search needs) (λ c. search needs) returns-4 (λ c κs. search needs)
+    (λ c κs. search needs) (λ c κs. search needs) (λ c. search needs) returns-5 returns-6)

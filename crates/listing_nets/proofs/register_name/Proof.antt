@@ -4,21 +4,6 @@ use Rattle.listing_nets.proofs.register_name.Tie as tie
 use borrow.Author.Needs.{needs}
 use Rattle.listing_nets.specs.Pieces.{register-wrote}
 
-record-field-requires : tie.Need-record-field-requires
-record-field-requires c κs = search needs
-
-signal-width-requires : tie.Need-signal-width-requires
-signal-width-requires c κs = search needs
-
-name-requires : tie.Need-name-requires
-name-requires c κs = search needs
-
-bit-name-requires : tie.Need-bit-name-requires
-bit-name-requires c κs = search needs
-
-same-length : tie.Need-same-length
-same-length c = search needs
-
 returns : tie.Need-returns
 returns c =
     let c4 = c .before .before .before .before in
@@ -27,10 +12,4 @@ returns c =
 pub register-name-spec : {M : Type 1} → statement M
 register-name-spec =
     tie.close
-    (tie.spec
-    record-field-requires
-    signal-width-requires
-    name-requires
-    bit-name-requires
-    same-length
-    returns)
+    (tie.spec (λ c κs. search needs) (λ c κs. search needs) (λ c κs. search needs) (λ c κs. search needs) (λ c. search needs) returns)

@@ -8,21 +8,6 @@ use borrow.Author.Needs.{needs}
 use Rattle.listing_nets.specs.Pieces.{second-name}
 use Rattle.listing_text.specs.Text.{wrote-more, wrote-same}
 
-put-word-requires : tie.Need-put-word-requires
-put-word-requires c κs = search needs
-
-slice-aggregate-put : tie.Need-slice-aggregate-put
-slice-aggregate-put c = search needs
-
-put-requires : tie.Need-put-requires
-put-requires c κs = search needs
-
-bit-suffix-requires : tie.Need-bit-suffix-requires
-bit-suffix-requires c κs = search needs
-
-same-length : tie.Need-same-length
-same-length c = search needs
-
 returns : tie.Need-returns
 returns c =
     let c4 = c .before .before .before .before in
@@ -32,10 +17,4 @@ returns c =
 pub second-name-spec : {M : Type 1} → statement M
 second-name-spec =
     tie.close
-    (tie.spec
-    put-word-requires
-    slice-aggregate-put
-    put-requires
-    bit-suffix-requires
-    same-length
-    returns)
+    (tie.spec (λ c κs. search needs) (λ c. search needs) (λ c κs. search needs) (λ c κs. search needs) (λ c. search needs) returns)

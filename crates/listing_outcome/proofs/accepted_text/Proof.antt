@@ -6,12 +6,6 @@ use mathlib.Core.Path.{refl}
 use native.Mathlib.Omega.{arith}
 use Rattle.listing_outcome.specs.Written.{written}
 
-listing-requires : tie.Need-listing-requires
-listing-requires c κs = search needs
-
-same-length : tie.Need-same-length
-same-length c = search needs
-
 returns : tie.Need-returns
 returns c =
     let netlist = c .before .before .before .before .before in
@@ -20,4 +14,4 @@ returns c =
     (omega (arith, start .pre .room, start .pre .short refl (λ i. omega (arith, netlist .shared-slice-known2 .given i))))
 
 pub accepted-text-spec : {M : Type 1} → statement M
-accepted-text-spec = tie.close (tie.spec listing-requires same-length returns)
+accepted-text-spec = tie.close (tie.spec (λ c κs. search needs) (λ c. search needs) returns)

@@ -6,12 +6,6 @@ use native.Mathlib.Omega.{arith}
 use Rattle.listing_whole.specs.Length.{refusal-short}
 use Rattle.listing_outcome.specs.Written.{written}
 
-refused-requires : tie.Need-refused-requires
-refused-requires c κs = search needs
-
-same-length : tie.Need-same-length
-same-length c = search needs
-
 returns : tie.Need-returns
 returns c =
     let start = c .before .before .before .before .before in
@@ -20,4 +14,4 @@ returns c =
     (omega (arith, start .pre, refusal-short (a .n) (a .a) (a .b) s ws (search needs) (search needs) (search needs)))
 
 pub refused-text-spec : {M : Type 1} → statement M
-refused-text-spec = tie.close (tie.spec refused-requires same-length returns)
+refused-text-spec = tie.close (tie.spec (λ c κs. search needs) (λ c. search needs) returns)

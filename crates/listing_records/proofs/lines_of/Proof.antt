@@ -22,9 +22,6 @@ record-end-requires c κs = c .loop-test .taken
 sub-stretch : tie.Need-sub-stretch Inv-loop μ-loop
 sub-stretch c = omega (arith, c .record-end .ensures .after)
 
-stretch-requires : tie.Need-stretch-requires Inv-loop μ-loop
-stretch-requires c κs = search needs
-
 record-line-requires : tie.Need-record-line-requires Inv-loop μ-loop
 record-line-requires c κs = c .before .before .before .before .loop .inv .writing .upto
 
@@ -45,15 +42,5 @@ returns c = lines-end _ _ (c .loop-test .left) (c .before .loop .inv)
 pub lines-of-spec : {M : Type 1} → statement M
 lines-of-spec =
     tie.close
-    (tie.spec
-    Inv-loop
-    μ-loop
-    loop-holds
-    record-end-requires
-    sub-stretch
-    stretch-requires
-    record-line-requires
-    loop-less
-    loop-again
-    same-length
+    (tie.spec Inv-loop μ-loop loop-holds record-end-requires sub-stretch (λ c κs. search needs) record-line-requires loop-less loop-again same-length
     returns)

@@ -4,15 +4,6 @@ use Rattle.listing_records.proofs.record_end.Tie as tie
 use borrow.Author.Needs.{needs}
 use Rattle.listing_records.specs.Split.{ends-inside, ends-last}
 
-part-requires : tie.Need-part-requires
-part-requires c κs = search needs
-
-record-length-requires : tie.Need-record-length-requires
-record-length-requires c κs = search needs
-
-add-result : tie.Need-add-result
-add-result c = search needs
-
 returns : tie.Need-returns
 returns c = ends-inside _ _ (c .before .before .before .before .pre) (c .before .before .part .ensures) (c .before .record-length .ensures) (c .if1 .taken)
 
@@ -20,5 +11,4 @@ returns-2 : tie.Need-returns-2
 returns-2 c = ends-last _ _ (c .before .before .before .before .pre) (c .before .before .part .ensures) (c .before .record-length .ensures) (c .if1 .left)
 
 pub record-end-spec : {M : Type 1} → statement M
-record-end-spec =
-    tie.close (tie.spec part-requires record-length-requires add-result returns returns-2)
+record-end-spec = tie.close (tie.spec (λ c κs. search needs) (λ c κs. search needs) (λ c. search needs) returns returns-2)

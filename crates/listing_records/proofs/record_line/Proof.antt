@@ -6,23 +6,8 @@ use borrow.Author.Needs.{needs}
 use Rattle.listing_records.specs.Pieces.{record-port, record-cell}
 use Rattle.listing_text.specs.Text.{wrote-same}
 
-word-at-requires : tie.Need-word-at-requires
-word-at-requires c κs = search needs
-
-port-line-requires : tie.Need-port-line-requires
-port-line-requires c κs = search needs
-
-same-length : tie.Need-same-length
-same-length c = search needs
-
 returns : tie.Need-returns
 returns c = wrote-same (record-port _ _ (sym (c .before .before .before .before .before .word-at .ensures) ∙ c .before .before .before .before .if1 .taken)) (c .before .before .port-line .ensures)
-
-cell-line-requires : tie.Need-cell-line-requires
-cell-line-requires c κs = search needs
-
-same-length-2 : tie.Need-same-length-2
-same-length-2 c = search needs
 
 returns-2 : tie.Need-returns-2
 returns-2 c = wrote-same (record-cell _ _ (λ e. c .before .before .before .before .if1 .left (c .before .before .before .before .before .word-at .ensures ∙ e))) (c .before .before .cell-line .ensures)
@@ -30,11 +15,4 @@ returns-2 c = wrote-same (record-cell _ _ (λ e. c .before .before .before .befo
 pub record-line-spec : {M : Type 1} → statement M
 record-line-spec =
     tie.close
-    (tie.spec
-    word-at-requires
-    port-line-requires
-    same-length
-    returns
-    cell-line-requires
-    same-length-2
-    returns-2)
+    (tie.spec (λ c κs. search needs) (λ c κs. search needs) (λ c. search needs) returns (λ c κs. search needs) (λ c. search needs) returns-2)

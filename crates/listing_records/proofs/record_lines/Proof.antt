@@ -4,27 +4,6 @@ use Rattle.listing_records.proofs.record_lines.Tie as tie
 use borrow.Author.Needs.{needs}
 use Rattle.listing_records.specs.Split.{records-wrote}
 
-word-at-requires : tie.Need-word-at-requires
-word-at-requires c κs = search needs
-
-cast-words : tie.Need-cast-words
-cast-words c = search needs
-
-word-at-requires-2 : tie.Need-word-at-requires-2
-word-at-requires-2 c κs = search needs
-
-cast-start : tie.Need-cast-start
-cast-start c = search needs
-
-stretch-requires : tie.Need-stretch-requires
-stretch-requires c κs = search needs
-
-lines-of-requires : tie.Need-lines-of-requires
-lines-of-requires c κs = search needs
-
-same-length : tie.Need-same-length
-same-length c = search needs
-
 returns : tie.Need-returns
 returns c =
     let c4 = c .before .before .before .before in
@@ -33,12 +12,5 @@ returns c =
 pub record-lines-spec : {M : Type 1} → statement M
 record-lines-spec =
     tie.close
-    (tie.spec
-    word-at-requires
-    cast-words
-    word-at-requires-2
-    cast-start
-    stretch-requires
-    lines-of-requires
-    same-length
-    returns)
+    (tie.spec (λ c κs. search needs) (λ c. search needs) (λ c κs. search needs) (λ c. search needs) (λ c κs. search needs) (λ c κs. search needs)
+    (λ c. search needs) returns)

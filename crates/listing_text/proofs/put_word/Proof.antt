@@ -4,17 +4,8 @@ use Rattle.listing_text.proofs.put_word.Statement.{statement}
 use Rattle.listing_text.proofs.put_word.Tie as tie
 use Rattle.listing_text.specs.Text.{wrote-more}
 
-put-byte-requires : tie.Need-put-byte-requires
-put-byte-requires c κs = search needs
-
-put-requires : tie.Need-put-requires
-put-requires c κs = search needs
-
-same-length : tie.Need-same-length
-same-length c = search needs
-
 returns : tie.Need-returns
 returns c = wrote-more (c .before .before .before .before .before .before .put-byte .ensures) (c .before .before .put .ensures)
 
 pub put-word-spec : {M : Type 1} → statement M
-put-word-spec = tie.close (tie.spec put-byte-requires put-requires same-length returns)
+put-word-spec = tie.close (tie.spec (λ c κs. search needs) (λ c κs. search needs) (λ c. search needs) returns)

@@ -4,18 +4,6 @@ use Rattle.listing_whole.proofs.listing.Tie as tie
 use borrow.Author.Needs.{needs}
 use Rattle.listing_whole.specs.Whole.{listing-wrote}
 
-first-line-requires : tie.Need-first-line-requires
-first-line-requires c κs = search needs
-
-net-lines-requires : tie.Need-net-lines-requires
-net-lines-requires c κs = search needs
-
-record-lines-requires : tie.Need-record-lines-requires
-record-lines-requires c κs = search needs
-
-same-length : tie.Need-same-length
-same-length c = search needs
-
 returns : tie.Need-returns
 returns c =
     let c4 = c .before .before .before .before in
@@ -23,6 +11,4 @@ returns c =
     listing-wrote _ _ (c8 .before .before .first-line .ensures) (c4 .before .before .net-lines .ensures) (c .before .before .record-lines .ensures)
 
 pub listing-spec : {M : Type 1} → statement M
-listing-spec =
-    tie.close
-    (tie.spec first-line-requires net-lines-requires record-lines-requires same-length returns)
+listing-spec = tie.close (tie.spec (λ c κs. search needs) (λ c κs. search needs) (λ c κs. search needs) (λ c. search needs) returns)

@@ -6,29 +6,11 @@ use mathlib.Core.Path.{refl, sym}
 use lib.Seq.{length-take-le}
 use Rattle.lower.proofs.Ends.{not-fine, passed, refused-way, good, netlist-fits, scratch-fits, lent, room-is, lowered-way}
 
-check-requires : tie.Need-check-requires
-check-requires c κs = search needs
-
-enum-told : tie.Need-enum-told
-enum-told c = search needs
-
-of-check-requires : tie.Need-of-check-requires
-of-check-requires c κs = search needs
-
 returns : tie.Need-returns
 returns c =
     let a = c .before .before .before .before .before .before .args in
     let x = c .before .before .check in
     refused-way (a .image .now) (a .n) (a .p) (a .netlist .now) (a .scratch .now) _ _ (x .ensures) (not-fine (x .result) (c .before .match .keys2)) (c .of-check .ensures)
-
-mul-words : tie.Need-mul-words
-mul-words c = search needs
-
-add-words : tie.Need-add-words
-add-words c = search needs
-
-add-words-2 : tie.Need-add-words-2
-add-words-2 c = search needs
 
 scratch-need-requires : tie.Need-scratch-need-requires
 scratch-need-requires c κs =
@@ -70,15 +52,6 @@ lower-accepted-requires c κs =
     let x = c .before .before .before .before .before .check in
     lent (a .image .now) (a .n) (a .p) (a .netlist .now) (a .scratch .now) (passed (x .ensures) (c .before .before .before .enum-told .given .1)) _ _ refl (c .before .before .scratch-need .ensures)
 
-of-walk-requires : tie.Need-of-walk-requires
-of-walk-requires c κs = search needs
-
-same-length : tie.Need-same-length
-same-length c = search needs
-
-same-length-2 : tie.Need-same-length-2
-same-length-2 c = search needs
-
 returns-2 : tie.Need-returns-2
 returns-2 c =
     let c8 = c .before .before .before .before .before .before .before .before in
@@ -92,21 +65,6 @@ returns-2 c =
 pub lower-spec : {M : Type 1} → statement M
 lower-spec =
     tie.close
-    (tie.spec
-    check-requires
-    enum-told
-    of-check-requires
-    returns
-    mul-words
-    add-words
-    add-words-2
-    scratch-need-requires
-    slice-relend-prefix-lower-accepted
-    slice-aggregate-lower-accepted
-    slice-relend-prefix-lower-accepted-2
-    slice-aggregate-lower-accepted-2
-    lower-accepted-requires
-    of-walk-requires
-    same-length
-    same-length-2
-    returns-2)
+    (tie.spec (λ c κs. search needs) (λ c. search needs) (λ c κs. search needs) returns (λ c. search needs) (λ c. search needs) (λ c. search needs)
+    scratch-need-requires slice-relend-prefix-lower-accepted slice-aggregate-lower-accepted slice-relend-prefix-lower-accepted-2
+    slice-aggregate-lower-accepted-2 lower-accepted-requires (λ c κs. search needs) (λ c. search needs) (λ c. search needs) returns-2)

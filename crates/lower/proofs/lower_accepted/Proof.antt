@@ -5,24 +5,6 @@ use Rattle.lower.proofs.lower_accepted.Tie as tie
 use native.Mathlib.Omega.{arith}
 use Rattle.lower.proofs.Ends.{ended-way}
 
-prepare-requires : tie.Need-prepare-requires
-prepare-requires c κs = search needs
-
-phases-requires : tie.Need-phases-requires
-phases-requires c κs = search needs
-
-clear-refused-requires : tie.Need-clear-refused-requires
-clear-refused-requires c κs = search needs
-
-clear-requires : tie.Need-clear-requires
-clear-requires c κs = search needs
-
-same-length : tie.Need-same-length
-same-length c = search needs
-
-same-length-2 : tie.Need-same-length-2
-same-length-2 c = search needs
-
 returns : tie.Need-returns
 returns c =
     let c8 = c .before .before .before .before .before .before .before .before in
@@ -39,11 +21,5 @@ returns c =
 pub lower-accepted-spec : {M : Type 1} → statement M
 lower-accepted-spec =
     tie.close
-    (tie.spec
-    prepare-requires
-    phases-requires
-    clear-refused-requires
-    clear-requires
-    same-length
-    same-length-2
+    (tie.spec (λ c κs. search needs) (λ c κs. search needs) (λ c κs. search needs) (λ c κs. search needs) (λ c. search needs) (λ c. search needs)
     returns)

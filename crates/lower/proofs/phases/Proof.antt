@@ -6,18 +6,6 @@ use mathlib.Core.Path.{_∙_}
 use Rattle.walk_view.proofs.Answers.{not-done-tag}
 use Rattle.lower.proofs.Stages.{done-phase, sure-1, sure-2, sure-3, refused-1, refused-2, refused-3, ended}
 
-reserve-sources-requires : tie.Need-reserve-sources-requires
-reserve-sources-requires c κs = search needs
-
-enum-told : tie.Need-enum-told
-enum-told c = search needs
-
-same-length : tie.Need-same-length
-same-length c = search needs
-
-same-length-2 : tie.Need-same-length-2
-same-length-2 c = search needs
-
 returns : tie.Need-returns
 returns c =
     let c8 = c .before .before .before .before .before .before .before .before in
@@ -33,15 +21,6 @@ connect-memories-requires c κs =
     let a = s .args in
     let x = c8 .reserve-sources in
     (x .ensures .ready, sure-1 (a .image .now) (a .net .now) (a .scr .now) (s .pre) _ _ (done-phase (x .result) (c .before .before .enum-told .given .1) (x .ensures)))
-
-enum-told-2 : tie.Need-enum-told-2
-enum-told-2 c = search needs
-
-same-length-3 : tie.Need-same-length-3
-same-length-3 c = search needs
-
-same-length-4 : tie.Need-same-length-4
-same-length-4 c = search needs
 
 returns-2 : tie.Need-returns-2
 returns-2 c =
@@ -66,15 +45,6 @@ connect-registers-requires c κs =
       sure-2 (a .image .now) (a .net .now) (a .scr .now) (s .pre) _ _ (done-phase (x .result) (c8 .before .before .before .enum-told .given .1) (x .ensures))
           _ _ (done-phase (y .result) (c .before .before .enum-told2 .given .1) (y .ensures)),
     )
-
-enum-told-3 : tie.Need-enum-told-3
-enum-told-3 c = search needs
-
-same-length-5 : tie.Need-same-length-5
-same-length-5 c = search needs
-
-same-length-6 : tie.Need-same-length-6
-same-length-6 c = search needs
 
 returns-3 : tie.Need-returns-3
 returns-3 c =
@@ -137,23 +107,6 @@ returns-4 c =
 pub phases-spec : {M : Type 1} → statement M
 phases-spec =
     tie.close
-    (tie.spec
-    reserve-sources-requires
-    enum-told
-    same-length
-    same-length-2
-    returns
-    connect-memories-requires
-    enum-told-2
-    same-length-3
-    same-length-4
-    returns-2
-    connect-registers-requires
-    enum-told-3
-    same-length-5
-    same-length-6
-    returns-3
-    connect-outputs-requires
-    same-length-7
-    same-length-8
-    returns-4)
+    (tie.spec (λ c κs. search needs) (λ c. search needs) (λ c. search needs) (λ c. search needs) returns connect-memories-requires (λ c. search needs)
+    (λ c. search needs) (λ c. search needs) returns-2 connect-registers-requires (λ c. search needs) (λ c. search needs) (λ c. search needs) returns-3
+    connect-outputs-requires same-length-7 same-length-8 returns-4)

@@ -10,24 +10,6 @@ use Rattle.lower.proofs.Start.{rows-fit, prepared}
 lay-requires : tie.Need-lay-requires
 lay-requires c κs = let p = c .before .before .before .before .pre in (sized (c .before .before .before .before .args .image .now) (p .accepted), p .nets, p .long)
 
-slice-read-at : tie.Need-slice-read-at
-slice-read-at c = search needs
-
-cast-at : tie.Need-cast-at
-cast-at c = search needs
-
-mul-adder-widths : tie.Need-mul-adder-widths
-mul-adder-widths c = search needs
-
-sub-adder-widths : tie.Need-sub-adder-widths
-sub-adder-widths c = search needs
-
-part-adder-widths-start : tie.Need-part-adder-widths-start
-part-adder-widths-start c = search needs
-
-part-adder-widths-end : tie.Need-part-adder-widths-end
-part-adder-widths-end c = search needs
-
 adder-widths-requires : tie.Need-adder-widths-requires
 adder-widths-requires c κs =
     let c8 = c .before .before .before .before .before .before .before .before in
@@ -35,15 +17,6 @@ adder-widths-requires c κs =
     let a = s .args in
     let l = c .before .before .before .before .lay in
     (readable (a .image .now) (s .pre .accepted), rows-fit (a .image .now) (a .n) (l .last .1 .1 .1 .0) (l .ensures) _ refl)
-
-start-requires : tie.Need-start-requires
-start-requires c κs = search needs
-
-same-length : tie.Need-same-length
-same-length c = search needs
-
-same-length-2 : tie.Need-same-length-2
-same-length-2 c = search needs
 
 returns : tie.Need-returns
 returns c =
@@ -59,16 +32,5 @@ returns c =
 pub prepare-spec : {M : Type 1} → statement M
 prepare-spec =
     tie.close
-    (tie.spec
-    lay-requires
-    slice-read-at
-    cast-at
-    mul-adder-widths
-    sub-adder-widths
-    part-adder-widths-start
-    part-adder-widths-end
-    adder-widths-requires
-    start-requires
-    same-length
-    same-length-2
-    returns)
+    (tie.spec lay-requires (λ c. search needs) (λ c. search needs) (λ c. search needs) (λ c. search needs) (λ c. search needs) (λ c. search needs)
+    adder-widths-requires (λ c κs. search needs) (λ c. search needs) (λ c. search needs) returns)

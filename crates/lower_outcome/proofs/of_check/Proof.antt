@@ -5,24 +5,6 @@ use Rattle.lower_outcome.proofs.of_check.Tie as tie
 use Rattle.lower_outcome.specs.Answer.{answerOf}
 use Rattle.check_image.specs.Checked as checked
 
-enum-told : tie.Need-enum-told
-enum-told c = search needs
-
-enum-told-2 : tie.Need-enum-told-2
-enum-told-2 c = search needs
-
-enum-told-3 : tie.Need-enum-told-3
-enum-told-3 c = search needs
-
-enum-known-c : tie.Need-enum-known-c
-enum-known-c c = search needs
-
-enum-known-c-2 : tie.Need-enum-known-c-2
-enum-known-c-2 c = search needs
-
-enum-told-4 : tie.Need-enum-told-4
-enum-told-4 c = search needs
-
 returns : tie.Need-returns
 unfolding answerOf checked.answerOf
 returns c = rw (c .enum-told .given .1)
@@ -50,16 +32,5 @@ returns-6 c = rw (c .enum-told4 .given .1)
 pub of-check-spec : {M : Type 1} → statement M
 of-check-spec =
     tie.close
-    (tie.spec
-    enum-told
-    enum-told-2
-    enum-told-3
-    enum-known-c
-    enum-known-c-2
-    enum-told-4
-    returns
-    returns-2
-    returns-3
-    returns-4
-    returns-5
-    returns-6)
+    (tie.spec (λ c. search needs) (λ c. search needs) (λ c. search needs) (λ c. search needs) (λ c. search needs) (λ c. search needs) returns
+    returns-2 returns-3 returns-4 returns-5 returns-6)

@@ -4,24 +4,6 @@ use Rattle.lower_outcome.proofs.of_walk.Statement.{statement}
 use Rattle.lower_outcome.proofs.of_walk.Tie as tie
 use Rattle.lower_outcome.specs.Answer.{answerOf, endOf}
 
-enum-told : tie.Need-enum-told
-enum-told c = search needs
-
-enum-known-r : tie.Need-enum-known-r
-enum-known-r c = search needs
-
-enum-known-r-2 : tie.Need-enum-known-r-2
-enum-known-r-2 c = search needs
-
-enum-known-r-3 : tie.Need-enum-known-r-3
-enum-known-r-3 c = search needs
-
-enum-told-2 : tie.Need-enum-told-2
-enum-told-2 c = search needs
-
-enum-told-3 : tie.Need-enum-told-3
-enum-told-3 c = search needs
-
 returns : tie.Need-returns
 unfolding answerOf endOf
 returns c = rw (c .enum-told .given .1)
@@ -49,16 +31,5 @@ returns-6 c = rw (c .enum-told3 .given .1)
 pub of-walk-spec : {M : Type 1} → statement M
 of-walk-spec =
     tie.close
-    (tie.spec
-    enum-told
-    enum-known-r
-    enum-known-r-2
-    enum-known-r-3
-    enum-told-2
-    enum-told-3
-    returns
-    returns-2
-    returns-3
-    returns-4
-    returns-5
-    returns-6)
+    (tie.spec (λ c. search needs) (λ c. search needs) (λ c. search needs) (λ c. search needs) (λ c. search needs) (λ c. search needs) returns
+    returns-2 returns-3 returns-4 returns-5 returns-6)

@@ -16,24 +16,6 @@ Inv-loop net idx n h key list p₀ p = CellAt n h key (reverse (netlistOf n net 
 abbrev μ-loop : tie.MeasureT-loop
 μ-loop net idx n h key list p₀ p = p
 
-mul-list : tie.Need-mul-list Inv-loop μ-loop
-mul-list c = omega arith
-
-add-list : tie.Need-add-list Inv-loop μ-loop
-add-list c = omega arith
-
-mul-p : tie.Need-mul-p Inv-loop μ-loop
-mul-p c = omega arith
-
-add-p : tie.Need-add-p Inv-loop μ-loop
-add-p c = omega arith
-
-mul-p-2 : tie.Need-mul-p-2 Inv-loop μ-loop
-mul-p-2 c = omega arith
-
-shared-slice-read-p : tie.Need-shared-slice-read-p Inv-loop μ-loop
-shared-slice-read-p c = omega arith
-
 loop-holds : tie.Need-loop-holds Inv-loop μ-loop
 loop-holds c =
     let s = c .before .before .before .before .args in
@@ -44,9 +26,6 @@ cast-at : tie.Need-cast-at Inv-loop μ-loop
 cast-at c =
     let s = c .before .before .before .before .before .before .args in
     omega (arith, here (s .n) (s .h) (s .key .now) (s .net .now) (s .idx .now) (c .before .loop .p) (c .before .before .before .before .before .before .pre .0) (c .before .before .before .before .before .before .pre .1) (c .before .before .before .before .before .before .pre .2) (c .before .loop .inv) (c .loop-test .taken) .width)
-
-sub-at : tie.Need-sub-at Inv-loop μ-loop
-sub-at c = omega arith
 
 add-at : tie.Need-add-at Inv-loop μ-loop
 add-at c =
@@ -98,23 +77,5 @@ returns-2 c =
 pub find-cell-spec : {M : Type 1} → statement M
 find-cell-spec =
     tie.close
-    (tie.spec
-    Inv-loop
-    μ-loop
-    mul-list
-    add-list
-    mul-p
-    add-p
-    mul-p-2
-    shared-slice-read-p
-    loop-holds
-    cast-at
-    sub-at
-    add-at
-    begins-with-requires
-    add-t21
-    returns
-    next-cell-requires
-    loop-less
-    loop-again
-    returns-2)
+    (tie.spec Inv-loop μ-loop (λ c. omega arith) (λ c. omega arith) (λ c. omega arith) (λ c. omega arith) (λ c. omega arith) (λ c. omega arith)
+    loop-holds cast-at (λ c. omega arith) add-at begins-with-requires add-t21 returns next-cell-requires loop-less loop-again returns-2)

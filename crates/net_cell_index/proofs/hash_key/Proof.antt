@@ -18,21 +18,6 @@ abbrev μ-loop : tie.MeasureT-loop
 loop-holds : tie.Need-loop-holds Inv-loop μ-loop
 loop-holds c = (omega arith, refl)
 
-mul-mix : tie.Need-mul-mix Inv-loop μ-loop
-mul-mix c = omega arith
-
-shared-slice-read-mix : tie.Need-shared-slice-read-mix Inv-loop μ-loop
-shared-slice-read-mix c = omega arith
-
-mix-requires : tie.Need-mix-requires Inv-loop μ-loop
-mix-requires c κs = search needs
-
-add-i : tie.Need-add-i Inv-loop μ-loop
-add-i c = omega arith
-
-loop-less : tie.Need-loop-less Inv-loop μ-loop
-loop-less c = omega arith
-
 loop-again : tie.Need-loop-again Inv-loop μ-loop
 loop-again c = (omega arith, hash-turn (c .before .before .before .before .before .args .key .now) (c .before .before .before .loop .h) (c .mix .result) (c .before .before .before .loop .i) (omega arith) (c .before .before .before .loop .inv .1) (c .mix .ensures))
 
@@ -52,15 +37,5 @@ returns c =
 pub hash-key-spec : {M : Type 1} → statement M
 hash-key-spec =
     tie.close
-    (tie.spec
-    Inv-loop
-    μ-loop
-    loop-holds
-    mul-mix
-    shared-slice-read-mix
-    mix-requires
-    add-i
-    loop-less
-    loop-again
-    bucket-requires
-    returns)
+    (tie.spec Inv-loop μ-loop loop-holds (λ c. omega arith) (λ c. omega arith) (λ c κs. search needs) (λ c. omega arith) (λ c. omega arith) loop-again
+    bucket-requires returns)

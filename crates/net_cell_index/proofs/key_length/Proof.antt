@@ -6,23 +6,8 @@ use native.Mathlib.Omega.{arith}
 use Prim.Native.Nat.{_+_}
 use Rattle.net_cell_index.proofs.Laws.{key-arithmetic, key-comparison}
 
-add-w : tie.Need-add-w
-add-w c = search needs
-
-mul-w : tie.Need-mul-w
-mul-w c = search needs
-
-shared-slice-read-w : tie.Need-shared-slice-read-w
-shared-slice-read-w c = search needs
-
 cast-w : tie.Need-cast-w
 cast-w c = omega (arith, c .shared-slice-known .given (c .before .args .at + 2))
-
-mul-if1 : tie.Need-mul-if1
-mul-if1 c = search needs
-
-shared-slice-read-if1 : tie.Need-shared-slice-read-if1
-shared-slice-read-if1 c = search needs
 
 mul-result : tie.Need-mul-result
 mul-result c = omega (arith, c .before .before .shared-slice-known .given (c .before .before .before .args .at + 2))
@@ -45,16 +30,5 @@ returns-2 c = key-comparison (c .before .before .before .args .net .now) (c .bef
 pub key-length-spec : {M : Type 1} → statement M
 key-length-spec =
     tie.close
-    (tie.spec
-    add-w
-    mul-w
-    shared-slice-read-w
-    cast-w
-    mul-if1
-    shared-slice-read-if1
-    mul-result
-    add-result
-    mul-result-2
-    add-result-2
-    returns
-    returns-2)
+    (tie.spec (λ c. search needs) (λ c. search needs) (λ c. search needs) cast-w (λ c. search needs) (λ c. search needs) mul-result add-result
+    mul-result-2 add-result-2 returns returns-2)

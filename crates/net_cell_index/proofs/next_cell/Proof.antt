@@ -8,23 +8,8 @@ use Prim.Native.Nat.{ℕ, _+_, _*_}
 use lib.ListN.{getD}
 use Rattle.net_cell_index.proofs.Laws.{first-at, next-at}
 
-key-length-requires : tie.Need-key-length-requires
-key-length-requires c κs = search needs
-
-add-o : tie.Need-add-o
-add-o c = search needs
-
-mul-o : tie.Need-mul-o
-mul-o c = search needs
-
-shared-slice-read-o : tie.Need-shared-slice-read-o
-shared-slice-read-o c = search needs
-
 cast-o : tie.Need-cast-o
 cast-o c = omega (arith, first-at (c .before .before .before .before .args .net .now) (c .before .before .before .before .args .at) (c .before .key-length .result) (c .before .key-length .ensures))
-
-mul-result : tie.Need-mul-result
-mul-result c = search needs
 
 add-result : tie.Need-add-result
 add-result c = omega (arith, first-at (c .before .before .before .before .args .net .now) (c .before .before .before .before .args .at) (c .before .key-length .result) (c .before .key-length .ensures))
@@ -43,14 +28,5 @@ returns c =
 pub next-cell-spec : {M : Type 1} → statement M
 next-cell-spec =
     tie.close
-    (tie.spec
-    key-length-requires
-    add-o
-    mul-o
-    shared-slice-read-o
-    cast-o
-    mul-result
-    add-result
-    mul-result-2
-    shared-slice-read-result
-    returns)
+    (tie.spec (λ c κs. search needs) (λ c. search needs) (λ c. search needs) (λ c. search needs) cast-o (λ c. search needs) add-result mul-result-2
+    shared-slice-read-result returns)

@@ -9,28 +9,20 @@ use native.Mathlib.Omega.{arith}
 use lib.ListN.{length, take, length-append}
 use lib.Seq.{length-take-le}
 use Rattle.spec_model.specs.Words.{source}
+use Rattle.word_laws.specs.Runs.{length-from}
 use Rattle.net_view.specs.View.{netlistOf, Formed}
 use Rattle.net_view.specs.Laws.{used-is}
-use Rattle.net_ports.proofs.Laws.{not-net, nodes-ran, length-from}
+use Rattle.net_ports.proofs.Laws.{not-net, nodes-ran}
 use Rattle.net_cell_index.specs.Found.{Links}
 use Rattle.net_cells.proofs.Laws.{buffer-record, cell-made, cell-full, cell-refused}
 
 add-nodes-requires : tie.Need-add-nodes-requires
 add-nodes-requires c κs = let s = c .before .before .before .before .args in (c .before .before .before .before .pre .1 .held .built, c .before .before .before .before .pre .1 .node (s .owner), omega (arith, c .before .before .before .before .pre .1 .few))
 
-enum-known-x : tie.Need-enum-known-x
-enum-known-x c = search needs
-
-same-length : tie.Need-same-length
-same-length c = search needs
-
 returns : tie.Need-returns
 returns c =
     let s = c .before .before .before .before .before .before .before .before .args in
     cell-refused (s .n) (s .b) (take (s .k) (s .buffer .now)) (s .net .now) (s .idx .now) _ _ (c .before .before .before .add-nodes .result) (not-net (c .before .before .before .add-nodes .result) (c .match .keys2)) (c .before .before .before .before .before .before .before .before .pre .1 .held) (c .before .before .before .add-nodes .ensures)
-
-slice-read-used : tie.Need-slice-read-used
-slice-read-used c = search needs
 
 put-run-requires : tie.Need-put-run-requires
 put-run-requires c κs =
@@ -41,9 +33,6 @@ put-run-requires c κs =
     let below = c .before .before .before .before .before .before .before .add-nodes .ensures .below first (c .before .before .before .x .given .1) in
     let kl : length (take (s .k) (s .buffer .now)) ≡ s .k = length-take-le (s .k) (s .buffer .now) (c .before .before .before .before .before .before .before .before .before .before .before .before .pre .0) in
     (omega (arith, r .room), omega (arith, below, r .held .built .nets))
-
-add-len : tie.Need-add-len
-add-len c = search needs
 
 slice-reshare-prefix-push-record : tie.Need-slice-reshare-prefix-push-record
 slice-reshare-prefix-push-record c =
@@ -75,9 +64,6 @@ push-record-requires c κs =
     let kl : length (take (s .k) (s .buffer .now)) ≡ s .k = length-take-le (s .k) (s .buffer .now) (c .before .before .before .before .before .before .before .before .before .before .before .before .before .before .before .before .before .pre .0) in let rec = buffer-record (s .buffer .now) (s .k) first (s .b) (omega (arith, r .room)) in
     (c .before .before .before .before .before .before .before .before .before .before .before .before .add-nodes .ensures .built, subst Formed (sym (ap (take (s .k + s .b)) (c .before .before .before .before .put-run .ensures) ∙ rec)) (r .formed first))
 
-enum-told : tie.Need-enum-told
-enum-told c = search needs
-
 link-cell-requires : tie.Need-link-cell-requires
 link-cell-requires c κs =
     let s = c .before .before .before .before .before .before .before .before .before .before .before .before .before .before .before .before .before .before .before .before .before .before .before .args in
@@ -87,18 +73,6 @@ link-cell-requires c κs =
     let below = c .before .before .before .before .before .before .before .before .before .before .before .before .before .before .before .before .before .before .add-nodes .ensures .below first (c .before .before .before .before .before .before .before .before .before .before .before .before .before .before .x .given .1) in
     let kl : length (take (s .k) (s .buffer .now)) ≡ s .k = length-take-le (s .k) (s .buffer .now) (c .before .before .before .before .before .before .before .before .before .before .before .before .before .before .before .before .before .before .before .before .before .before .before .pre .0) in
     (r .held .sized, r .held .built .nets, omega (arith, below, r .some), r .less, omega (arith, c .before .before .before .before .before .before .before .before .before .before .before .before .before .before .before .before .before .before .add-nodes .ensures .built .used, c .before .before .before .before .before .before .before .before .before .before .before .before .before .before .before .before .before .before .add-nodes .ensures .built .list))
-
-enum-told-2 : tie.Need-enum-told-2
-enum-told-2 c = search needs
-
-same-length-2 : tie.Need-same-length-2
-same-length-2 c = search needs
-
-same-length-3 : tie.Need-same-length-3
-same-length-3 c = search needs
-
-same-length-4 : tie.Need-same-length-4
-same-length-4 c = search needs
 
 returns-2 : tie.Need-returns-2
 returns-2 c =
@@ -114,12 +88,6 @@ returns-2 c =
     (rw (c .before .before .before .before .before .before .before .before .before .before .before .before .before .put-run .ensures, rec, c .before .before .before .before .enum-told .given .1) at (c .before .before .before .before .before .before .before .before .push-record .ensures))
     (subst (λ (p : ℕ). Links (s .n) first (s .h) p (s .idx .now) (c .before .before .link-cell .last .0)) (sym (used-is (s .n) (c .before .before .before .before .before .before .before .before .before .before .before .before .before .before .before .before .before .before .before .before .before .add-nodes .last .0) (run .built))) (c .before .before .link-cell .ensures))
     (c .before .before .link-cell .kept .0)
-
-same-length-5 : tie.Need-same-length-5
-same-length-5 c = search needs
-
-same-length-6 : tie.Need-same-length-6
-same-length-6 c = search needs
 
 returns-3 : tie.Need-returns-3
 returns-3 c =
@@ -137,24 +105,6 @@ returns-3 c =
 pub add-cell-spec : {M : Type 1} → statement M
 add-cell-spec =
     tie.close
-    (tie.spec
-    add-nodes-requires
-    enum-known-x
-    same-length
-    returns
-    slice-read-used
-    put-run-requires
-    add-len
-    slice-reshare-prefix-push-record
-    slice-aggregate-push-record
-    push-record-requires
-    enum-told
-    link-cell-requires
-    enum-told-2
-    same-length-2
-    same-length-3
-    same-length-4
-    returns-2
-    same-length-5
-    same-length-6
-    returns-3)
+    (tie.spec add-nodes-requires (λ c. search needs) (λ c. search needs) returns (λ c. search needs) put-run-requires (λ c. search needs)
+    slice-reshare-prefix-push-record slice-aggregate-push-record push-record-requires (λ c. search needs) link-cell-requires (λ c. search needs)
+    (λ c. search needs) (λ c. search needs) (λ c. search needs) returns-2 (λ c. search needs) (λ c. search needs) returns-3)

@@ -13,20 +13,11 @@ use Rattle.net_view.specs.View.{netlistOf}
 use Rattle.net_view.specs.Laws.{records-count}
 use Rattle.net_cell_index.specs.Found.{Finds}
 use Rattle.net_cell_index.specs.declared.Found.{Found}
-use Rattle.net_cells.specs.Cells.{Makes}
+use Rattle.net_cells.specs.Cells.{GivesRun}
 use Rattle.net_cells.proofs.Laws.{ready, made-new, made-shared}
-
-slice-reshare-prefix-hash-key : tie.Need-slice-reshare-prefix-hash-key
-slice-reshare-prefix-hash-key c = search needs
 
 slice-aggregate-hash-key : tie.Need-slice-aggregate-hash-key
 slice-aggregate-hash-key c = let s = c .before .before .before .before .args in sym (length-take-le (s .k) (s .buffer .now) (omega arith))
-
-hash-key-requires : tie.Need-hash-key-requires
-hash-key-requires c κs = search needs
-
-slice-reshare-prefix-find-cell : tie.Need-slice-reshare-prefix-find-cell
-slice-reshare-prefix-find-cell c = search needs
 
 slice-aggregate-find-cell : tie.Need-slice-aggregate-find-cell
 slice-aggregate-find-cell c = let s = c .before .before .before .before .before .before .before .before .args in sym (length-take-le (s .k) (s .buffer .now) (omega arith))
@@ -34,48 +25,21 @@ slice-aggregate-find-cell c = let s = c .before .before .before .before .before 
 find-cell-requires : tie.Need-find-cell-requires
 find-cell-requires c κs = (c .before .before .before .before .before .before .before .before .pre .0, c .before .before .before .before .before .before .before .before .pre .2 .whole, c .before .before .before .hash-key .ensures .0, c .before .before .before .hash-key .ensures .1)
 
-enum-known-p : tie.Need-enum-known-p
-enum-known-p c = search needs
-
 mul-t19 : tie.Need-mul-t19
 mul-t19 c = let s = c .before .before .before .before .before .before .before .before .before .before .before .before .args in omega (arith, (subst (λ (f : Found). Finds (s .n) (take (s .k) (s .buffer .now)) (s .net .now) f) (c .before .p .given .1) (c .before .before .before .find-cell .ensures)) .within, c .before .before .before .before .before .before .before .before .before .before .before .before .pre .2 .outs)
 
 slice-read-t21 : tie.Need-slice-read-t21
 slice-read-t21 c = let s = c .before .before .before .before .before .before .before .before .before .before .before .before .before .args in omega (arith, (subst (λ (f : Found). Finds (s .n) (take (s .k) (s .buffer .now)) (s .net .now) f) (c .before .before .p .given .1) (c .before .before .before .before .find-cell .ensures)) .within, c .before .before .before .before .before .before .before .before .before .before .before .before .before .pre .2 .outs)
 
-enum-told : tie.Need-enum-told
-enum-told c = search needs
-
-slice-read-owner : tie.Need-slice-read-owner
-slice-read-owner c = search needs
-
 add-cell-requires : tie.Need-add-cell-requires
 add-cell-requires c κs =
     let s = c .before .before .before .before .before .before .before .before .before .before .before .before .before .before .before .args in
     (omega arith, ready (s .n) (c .before .before .before .before .before .before .before .before .before .before .hash-key .result) 11 1 (s .net .now) (s .idx .now) (s .buffer .now) (s .k) (c .before .before .before .before .before .before .before .before .before .before .before .before .before .before .before .pre .0) (c .before .before .before .before .before .before .before .before .before .before .before .before .before .before .before .pre .2) (c .before .before .before .before .before .before .before .before .before .before .hash-key .ensures .0) (c .before .before .before .before .before .before .before .before .before .before .hash-key .ensures .1) (subst (λ (f : Found). Finds (s .n) (take (s .k) (s .buffer .now)) (s .net .now) f) (c .before .before .before .before .enum-told .given .1) (c .before .before .before .before .before .before .find-cell .ensures)) (omega arith))
 
-same-length : tie.Need-same-length
-same-length c = search needs
-
-same-length-2 : tie.Need-same-length-2
-same-length-2 c = search needs
-
-same-length-3 : tie.Need-same-length-3
-same-length-3 c = search needs
-
 returns : tie.Need-returns
 returns c =
     let s = c .before .before .before .before .before .before .before .before .before .before .before .before .before .args in
     made-shared _ (s .n) (take (s .k) (s .buffer .now)) (s .net .now) (s .idx .now) _ (c .before .before .before .before .before .before .before .before .before .before .before .before .before .pre .0) (c .before .before .before .before .before .before .before .before .before .before .before .before .before .pre .2 .outs) (subst (λ (f : Found). Finds (s .n) (take (s .k) (s .buffer .now)) (s .net .now) f) (c .before .before .p .given .1) (c .before .before .before .before .find-cell .ensures))
-
-same-length-4 : tie.Need-same-length-4
-same-length-4 c = search needs
-
-same-length-5 : tie.Need-same-length-5
-same-length-5 c = search needs
-
-same-length-6 : tie.Need-same-length-6
-same-length-6 c = search needs
 
 returns-2 : tie.Need-returns-2
 returns-2 c =
@@ -84,29 +48,11 @@ returns-2 c =
     let o : getD w 9 0 ≡ count 4 (netlistOf (s .n) w .records) = records-count (s .n) w (c .before .before .before .before .before .before .before .before .before .before .before .before .before .before .before .before .before .before .before .before .before .before .pre .0 .built) 4 (omega arith) in
     let key = take (s .k) (s .buffer .now) in
     made-new _ (s .n) 1 key _ _ (netlistOf (s .n) w) (c .before .before .before .before .before .before .add-cell .result) (subst (λ (f : Found). Finds (s .n) (take (s .k) (s .buffer .now)) (s .net .now) f) (c .before .before .before .before .before .before .before .before .before .before .before .enum-told .given .1) (c .before .before .before .before .before .before .before .before .before .before .before .before .before .find-cell .ensures))
-    (subst (λ (j : ℕ). Makes (addRecorded key (addNodes (source 11 j) 0 1 (netlistOf (s .n) w))) (s .n) 1 (c .before .before .before .before .before .before .add-cell .result) (c .before .before .before .before .before .before .add-cell .last .0) (c .before .before .before .before .before .before .add-cell .last .1 .0)) o (c .before .before .before .before .before .before .add-cell .ensures))
+    (subst (λ (j : ℕ). GivesRun (addRecorded key (addNodes (source 11 j) 0 1 (netlistOf (s .n) w))) (s .n) 1 (c .before .before .before .before .before .before .add-cell .result) (c .before .before .before .before .before .before .add-cell .last .0) (c .before .before .before .before .before .before .add-cell .last .1 .0)) o (c .before .before .before .before .before .before .add-cell .ensures))
 
 pub compare-spec : {M : Type 1} → statement M
 compare-spec =
     tie.close
-    (tie.spec
-    slice-reshare-prefix-hash-key
-    slice-aggregate-hash-key
-    hash-key-requires
-    slice-reshare-prefix-find-cell
-    slice-aggregate-find-cell
-    find-cell-requires
-    enum-known-p
-    mul-t19
-    slice-read-t21
-    enum-told
-    slice-read-owner
-    add-cell-requires
-    same-length
-    same-length-2
-    same-length-3
-    returns
-    same-length-4
-    same-length-5
-    same-length-6
-    returns-2)
+    (tie.spec (λ c. search needs) slice-aggregate-hash-key (λ c κs. search needs) (λ c. search needs) slice-aggregate-find-cell find-cell-requires
+    (λ c. search needs) mul-t19 slice-read-t21 (λ c. search needs) (λ c. search needs) add-cell-requires (λ c. search needs) (λ c. search needs)
+    (λ c. search needs) returns (λ c. search needs) (λ c. search needs) (λ c. search needs) returns-2)

@@ -9,33 +9,12 @@ use Rattle.spec_model.specs.WordCells as W
 use Rattle.net_cells.specs.Cells.{CellKey}
 use Rattle.net_cells.proofs.Laws.{comparison-key}
 
-comparison-word-requires : tie.Need-comparison-word-requires
-comparison-word-requires c κs = search needs
-
-put-comparison-requires : tie.Need-put-comparison-requires
-put-comparison-requires c κs = search needs
-
-mul-k : tie.Need-mul-k
-mul-k c = search needs
-
-add-k : tie.Need-add-k
-add-k c = search needs
-
 compare-requires : tie.Need-compare-requires
 compare-requires c κs =
     let put = c .before .before .before .before .before in
     let start = put .before .before .before .before .before .before .before .before in
     let key = comparison-key (put .before .before .comparison-word .result) (start .args .lhs .now) (start .args .rhs .now) (start .pre .1) (start .pre .2) in
     (start .pre .0, omega (arith, put .put-comparison .kept .0, start .pre .4), subst (CellKey 11 1) (sym (put .put-comparison .ensures)) key)
-
-same-length : tie.Need-same-length
-same-length c = search needs
-
-same-length-2 : tie.Need-same-length-2
-same-length-2 c = search needs
-
-same-length-3 : tie.Need-same-length-3
-same-length-3 c = search needs
 
 returns : tie.Need-returns
 unfolding W.comparison addComparison
@@ -46,13 +25,5 @@ returns c =
 pub comparison-in-spec : {M : Type 1} → statement M
 comparison-in-spec =
     tie.close
-    (tie.spec
-    comparison-word-requires
-    put-comparison-requires
-    mul-k
-    add-k
-    compare-requires
-    same-length
-    same-length-2
-    same-length-3
-    returns)
+    (tie.spec (λ c κs. search needs) (λ c κs. search needs) (λ c. search needs) (λ c. search needs) compare-requires (λ c. search needs)
+    (λ c. search needs) (λ c. search needs) returns)

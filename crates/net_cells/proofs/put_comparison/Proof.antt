@@ -7,23 +7,14 @@ use native.Mathlib.Omega.{arith}
 use lib.ListN.{length, set, length-set}
 use Rattle.net_cells.proofs.Laws.{comparison-put}
 
-slice-write-buffer : tie.Need-slice-write-buffer
-slice-write-buffer c = search needs
-
 slice-write-buffer-2 : tie.Need-slice-write-buffer-2
 slice-write-buffer-2 c = simp length-set (omega arith)
-
-cast-buffer : tie.Need-cast-buffer
-cast-buffer c = search needs
 
 slice-write-buffer-3 : tie.Need-slice-write-buffer-3
 slice-write-buffer-3 c = simp length-set (omega arith)
 
 put-words-requires : tie.Need-put-words-requires
 put-words-requires c κs = simp length-set (omega arith)
-
-add-at : tie.Need-add-at
-add-at c = search needs
 
 put-words-requires-2 : tie.Need-put-words-requires-2
 put-words-requires-2 c κs = omega (arith, c .before .before .before .put-words .kept .0, length-set (set (set (c .before .before .before .before .before .before .before .before .args .buffer .now) 0 4) 1 (c .before .before .before .before .before .before .before .before .args .op)) 2 (length (c .before .before .before .before .before .before .before .before .args .lhs .now)), length-set (set (c .before .before .before .before .before .before .before .before .args .buffer .now) 0 4) 1 (c .before .before .before .before .before .before .before .before .args .op), length-set (c .before .before .before .before .before .before .before .before .args .buffer .now) 0 4)
@@ -39,13 +30,5 @@ returns c =
 pub put-comparison-spec : {M : Type 1} → statement M
 put-comparison-spec =
     tie.close
-    (tie.spec
-    slice-write-buffer
-    slice-write-buffer-2
-    cast-buffer
-    slice-write-buffer-3
-    put-words-requires
-    add-at
-    put-words-requires-2
-    same-length
-    returns)
+    (tie.spec (λ c. search needs) slice-write-buffer-2 (λ c. search needs) slice-write-buffer-3 put-words-requires (λ c. search needs)
+    put-words-requires-2 same-length returns)

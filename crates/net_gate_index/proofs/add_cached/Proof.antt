@@ -10,44 +10,11 @@ use lib.ListN.{getD}
 use Rattle.net_gate_index.specs.Found.{foundOf}
 use Rattle.net_gate_index.proofs.Ways.{gate-is, cached-found, cached-new, cached-full}
 
-hash-requires : tie.Need-hash-requires
-hash-requires c κs = search needs
-
-find-gate-requires : tie.Need-find-gate-requires
-find-gate-requires c κs = search needs
-
-enum-known-k : tie.Need-enum-known-k
-enum-known-k c = search needs
-
-enum-told : tie.Need-enum-told
-enum-told c = search needs
-
-slice-read-count : tie.Need-slice-read-count
-slice-read-count c = search needs
-
-link-requires : tie.Need-link-requires
-link-requires c κs = search needs
-
-push-node-requires : tie.Need-push-node-requires
-push-node-requires c κs = search needs
-
-same-length : tie.Need-same-length
-same-length c = search needs
-
-same-length-2 : tie.Need-same-length-2
-same-length-2 c = search needs
-
 returns : tie.Need-returns
 returns c =
     let s = c .before .before .before .before .before .before .before .before .before .args in
     let x = node (s .kind) (s .owner) absent (s .a) (s .b) (s .c) in
     cached-found (s .n) (s .net .now) (s .idx .now) x (c .before .before .before .before .before .before .before .before .before .pre .0) _ (c .before .before .before .find-gate .ensures ∙ ap foundOf (c .before .k .given .1))
-
-same-length-3 : tie.Need-same-length-3
-same-length-3 c = search needs
-
-same-length-4 : tie.Need-same-length-4
-same-length-4 c = search needs
 
 returns-2 : tie.Need-returns-2
 returns-2 c =
@@ -58,12 +25,6 @@ returns-2 c =
     (c .before .before .push-node .ensures (s .n) (c .before .before .before .before .before .before .before .before .before .before .before .before .before .before .before .before .before .before .pre .0 .built) (c .before .before .before .before .before .before .before .before .if1 .taken))
     (c .before .before .before .before .before .before .link .ensures ∙ ap (λ (h : ℕ). linked (s .n) (getD w 1 0) h (s .idx .now)) (c .before .before .before .before .before .before .before .before .before .before .before .before .before .before .before .hash .ensures .0))
 
-same-length-5 : tie.Need-same-length-5
-same-length-5 c = search needs
-
-same-length-6 : tie.Need-same-length-6
-same-length-6 c = search needs
-
 returns-3 : tie.Need-returns-3
 returns-3 c =
     let s = c .before .before .before .before .before .before .before .before .before .before .args in
@@ -73,20 +34,6 @@ returns-3 c =
 pub add-cached-spec : {M : Type 1} → statement M
 add-cached-spec =
     tie.close
-    (tie.spec
-    hash-requires
-    find-gate-requires
-    enum-known-k
-    enum-told
-    slice-read-count
-    link-requires
-    push-node-requires
-    same-length
-    same-length-2
-    returns
-    same-length-3
-    same-length-4
-    returns-2
-    same-length-5
-    same-length-6
-    returns-3)
+    (tie.spec (λ c κs. search needs) (λ c κs. search needs) (λ c. search needs) (λ c. search needs) (λ c. search needs) (λ c κs. search needs)
+    (λ c κs. search needs) (λ c. search needs) (λ c. search needs) returns (λ c. search needs) (λ c. search needs) returns-2 (λ c. search needs)
+    (λ c. search needs) returns-3)

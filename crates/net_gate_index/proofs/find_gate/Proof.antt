@@ -14,41 +14,17 @@ Inv-loop net idx n h kind owner a b c p₀ p = At n (node kind owner absent a b 
 abbrev μ-loop : tie.MeasureT-loop
 μ-loop net idx n h kind owner a b c p₀ p = p
 
-mul-p : tie.Need-mul-p Inv-loop μ-loop
-mul-p c = omega arith
-
-shared-slice-read-p : tie.Need-shared-slice-read-p Inv-loop μ-loop
-shared-slice-read-p c = omega arith
-
 loop-holds : tie.Need-loop-holds Inv-loop μ-loop
 loop-holds c =
     let s = c .before .before .before .args in
     let x = node (s .kind) (s .owner) absent (s .a) (s .b) (s .c) in
     at-start (s .n) x (s .net .now) (s .idx .now) (getD (s .net .now) 1 0) (s .h) (gate-is _ _ _ _ _ _ (c .before .before .before .pre .3) (c .before .before .before .pre .4)) (c .before .before .before .pre .0 .gates) (c .before .before .before .pre .1) (c .before .before .before .pre .2)
 
-sub-k : tie.Need-sub-k Inv-loop μ-loop
-sub-k c = omega arith
-
-is-node-requires : tie.Need-is-node-requires Inv-loop μ-loop
-is-node-requires c κs = omega arith
-
 returns : tie.Need-returns Inv-loop μ-loop
 returns c =
     let s = c .before .before .before .before .before .before .before .args in
     let x = node (s .kind) (s .owner) absent (s .a) (s .b) (s .c) in
     at-found (s .n) x (s .net .now) (s .idx .now) (getD (s .net .now) 1 0) (c .before .before .before .loop .p) (gate-is _ _ _ _ _ _ (c .before .before .before .before .before .before .before .pre .3) (c .before .before .before .before .before .before .before .pre .4)) (c .before .before .before .before .before .before .before .pre .0 .gates) (c .before .before .before .loop .inv) (c .before .before .loop-test .taken) (sym (c .before .is-node .ensures) ∙ c .if1 .taken)
-
-cast-p : tie.Need-cast-p Inv-loop μ-loop
-cast-p c = omega arith
-
-add-p : tie.Need-add-p Inv-loop μ-loop
-add-p c = omega arith
-
-mul-p-2 : tie.Need-mul-p-2 Inv-loop μ-loop
-mul-p-2 c = omega arith
-
-shared-slice-read-p-2 : tie.Need-shared-slice-read-p-2 Inv-loop μ-loop
-shared-slice-read-p-2 c = omega arith
 
 loop-less : tie.Need-loop-less Inv-loop μ-loop
 loop-less c =
@@ -71,19 +47,5 @@ returns-2 c =
 pub find-gate-spec : {M : Type 1} → statement M
 find-gate-spec =
     tie.close
-    (tie.spec
-    Inv-loop
-    μ-loop
-    mul-p
-    shared-slice-read-p
-    loop-holds
-    sub-k
-    is-node-requires
-    returns
-    cast-p
-    add-p
-    mul-p-2
-    shared-slice-read-p-2
-    loop-less
-    loop-again
-    returns-2)
+    (tie.spec Inv-loop μ-loop (λ c. omega arith) (λ c. omega arith) loop-holds (λ c. omega arith) (λ c κs. omega arith) returns (λ c. omega arith)
+    (λ c. omega arith) (λ c. omega arith) (λ c. omega arith) loop-less loop-again returns-2)

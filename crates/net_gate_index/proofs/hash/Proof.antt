@@ -7,21 +7,6 @@ use Rattle.net_index.specs.Index.{bucketOf, hashNode, hashWords}
 use Prim.Native.Nat.{ℕ}
 use Rattle.net_gate_index.proofs.Ways.{mixed-five}
 
-mix-requires : tie.Need-mix-requires
-mix-requires c κs = search needs
-
-mix-requires-2 : tie.Need-mix-requires-2
-mix-requires-2 c κs = search needs
-
-mix-requires-3 : tie.Need-mix-requires-3
-mix-requires-3 c κs = search needs
-
-mix-requires-4 : tie.Need-mix-requires-4
-mix-requires-4 c κs = search needs
-
-mix-requires-5 : tie.Need-mix-requires-5
-mix-requires-5 c κs = search needs
-
 bucket-requires : tie.Need-bucket-requires
 bucket-requires c κs = c .before .before .before .before .before .pre
 
@@ -38,11 +23,5 @@ returns c =
 pub hash-spec : {M : Type 1} → statement M
 hash-spec =
     tie.close
-    (tie.spec
-    mix-requires
-    mix-requires-2
-    mix-requires-3
-    mix-requires-4
-    mix-requires-5
-    bucket-requires
+    (tie.spec (λ c κs. search needs) (λ c κs. search needs) (λ c κs. search needs) (λ c κs. search needs) (λ c κs. search needs) bucket-requires
     returns)

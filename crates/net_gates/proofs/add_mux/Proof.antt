@@ -14,54 +14,27 @@ returns : tie.Need-returns
 returns c =
     let start = c .before .before .before in
     let s = start .args in
-    gives-net _ _ _ _ _ (start .pre .0) (mux-same (netlistOf (s .n) (s .net .now)) (s .c) (s .t) (s .e) (c .if1 .taken))
-
-constant-value-requires : tie.Need-constant-value-requires
-constant-value-requires c κs = search needs
-
-enum-told : tie.Need-enum-told
-enum-told c = search needs
-
-same-length : tie.Need-same-length
-same-length c = search needs
+    gives-net _ _ _ _ _ (start .pre .0) (mux-same (netlistOf (s .n) (s .net .now)) (s .condition) (s .then-net) (s .else-net) (c .if1 .taken))
 
 returns-2 : tie.Need-returns-2
 returns-2 c =
     let value = c .before .before in
     let start = value .before .before .before .before .before in
     let s = start .args in
-    gives-net _ _ _ _ _ (start .pre .0) (mux-zero (netlistOf (s .n) (s .net .now)) (s .c) (s .t) (s .e) (value .before .before .if1 .left) (value .constant-value .ensures (s .n) ∙ ap valueOf (c .enum-told .given .1)))
-
-enum-told-2 : tie.Need-enum-told-2
-enum-told-2 c = search needs
-
-same-length-2 : tie.Need-same-length-2
-same-length-2 c = search needs
+    gives-net _ _ _ _ _ (start .pre .0) (mux-zero (netlistOf (s .n) (s .net .now)) (s .condition) (s .then-net) (s .else-net) (value .before .before .if1 .left) (value .constant-value .ensures (s .n) ∙ ap valueOf (c .enum-told .given .1)))
 
 returns-3 : tie.Need-returns-3
 returns-3 c =
     let value = c .before .before in
     let start = value .before .before .before .before .before in
     let s = start .args in
-    gives-net _ _ _ _ _ (start .pre .0) (mux-one (netlistOf (s .n) (s .net .now)) (s .c) (s .t) (s .e) (value .before .before .if1 .left) (value .constant-value .ensures (s .n) ∙ ap valueOf (c .enum-told2 .given .1)))
-
-enum-told-3 : tie.Need-enum-told-3
-enum-told-3 c = search needs
+    gives-net _ _ _ _ _ (start .pre .0) (mux-one (netlistOf (s .n) (s .net .now)) (s .condition) (s .then-net) (s .else-net) (value .before .before .if1 .left) (value .constant-value .ensures (s .n) ∙ ap valueOf (c .enum-told2 .given .1)))
 
 plain-mux-requires : tie.Need-plain-mux-requires
 plain-mux-requires c κs =
     let start = c .before .before .before .before .before .before .before .before in
     let s = start .args in
     (search needs, λ k. nots-any (s .n) k (s .net .now) (start .pre .1))
-
-add-cached-requires : tie.Need-add-cached-requires
-add-cached-requires c κs = search needs
-
-same-length-3 : tie.Need-same-length-3
-same-length-3 c = search needs
-
-same-length-4 : tie.Need-same-length-4
-same-length-4 c = search needs
 
 returns-4 : tie.Need-returns-4
 returns-4 c =
@@ -73,9 +46,12 @@ returns-4 c =
     let s = start .args in
     let l = netlistOf (s .n) (s .net .now) in
     gives-by _ _ _ _ _ _
-    (mux-node l (s .c) (s .t) (s .e) (value .before .before .if1 .left) (value .constant-value .ensures (s .n) ∙ ap valueOf (told .enum-told3 .given .1))
+    (mux-node l (s .condition) (s .then-net) (s .else-net) (value .before .before .if1 .left) (value .constant-value .ensures (s .n) ∙ ap valueOf (told .enum-told3 .given .1))
     ∙ ap (λ (x : Node). addCached x l) (sym (mux .plain-mux .ensures (s .n))))
     (made .add-cached .ensures)
 
 pub add-mux-spec : {M : Type 1} → statement M
-add-mux-spec = tie.close (tie.spec returns constant-value-requires enum-told same-length returns-2 enum-told-2 same-length-2 returns-3 enum-told-3 plain-mux-requires add-cached-requires same-length-3 same-length-4 returns-4)
+add-mux-spec =
+    tie.close
+    (tie.spec returns (λ c κs. search needs) (λ c. search needs) (λ c. search needs) returns-2 (λ c. search needs) (λ c. search needs) returns-3
+    (λ c. search needs) plain-mux-requires (λ c κs. search needs) (λ c. search needs) (λ c. search needs) returns-4)

@@ -7,18 +7,6 @@ use Rattle.spec_model.specs.Builder.{isValue}
 use Rattle.net_nodes.specs.Gives.{valueOf}
 use Rattle.net_gates.proofs.Ways.{is-one, is-zero}
 
-constant-value-requires : tie.Need-constant-value-requires
-constant-value-requires c κs = search needs
-
-enum-told : tie.Need-enum-told
-enum-told c = search needs
-
-enum-told-2 : tie.Need-enum-told-2
-enum-told-2 c = search needs
-
-enum-told-3 : tie.Need-enum-told-3
-enum-told-3 c = search needs
-
 returns : tie.Need-returns
 returns c = λ n. ap (isValue (c .before .before .before .before .args .v)) (c .before .before .constant-value .ensures n ∙ ap valueOf (c .enum-told .given .1)) ∙ is-zero (c .before .before .before .before .args .v)
 
@@ -29,13 +17,4 @@ returns-3 : tie.Need-returns-3
 returns-3 c = λ n. ap (isValue (c .before .before .before .before .args .v)) (c .before .before .constant-value .ensures n ∙ ap valueOf (c .enum-told3 .given .1))
 
 pub is-constant-spec : {M : Type 1} → statement M
-is-constant-spec =
-    tie.close
-    (tie.spec
-    constant-value-requires
-    enum-told
-    enum-told-2
-    enum-told-3
-    returns
-    returns-2
-    returns-3)
+is-constant-spec = tie.close (tie.spec (λ c κs. search needs) (λ c. search needs) (λ c. search needs) (λ c. search needs) returns returns-2 returns-3)

@@ -8,19 +8,13 @@ use Rattle.net_gates.proofs.plain_mux.Statement.{statement}
 use Rattle.net_gates.proofs.plain_mux.Tie as tie
 
 abbrev Inv-loop : tie.InvT-loop
-Inv-loop net c t e m₀ m = (n : ℕ) → muxNode (netlistOf n net) (m .condition) (m .«then_net») (m .«else_net») ≡ muxNode (netlistOf n net) c t e
+Inv-loop net condition then else m₀ m = (n : ℕ) → muxNode (netlistOf n net) (m .condition) (m .«then_net») (m .«else_net») ≡ muxNode (netlistOf n net) condition then else
 
 abbrev μ-loop : tie.MeasureT-loop
-μ-loop net c t e m₀ m = turnsLeft (netlistOf 0 net) (m .condition)
+μ-loop net condition then else m₀ m = turnsLeft (netlistOf 0 net) (m .condition)
 
 loop-holds : tie.Need-loop-holds Inv-loop μ-loop
 loop-holds c = λ n. refl
-
-kind-of-requires : tie.Need-kind-of-requires Inv-loop μ-loop
-kind-of-requires c κs = search needs
-
-exchanged-requires : tie.Need-exchanged-requires Inv-loop μ-loop
-exchanged-requires c κs = search needs
 
 loop-less : tie.Need-loop-less Inv-loop μ-loop
 loop-less c =
@@ -45,4 +39,4 @@ returns c = λ n.
     no-turn (netlistOf n (start .args .net .now)) (loop .loop .m .condition) _ _ (λ q. c .if1 .left (c .before .kind-of .ensures n ∙ q)) ∙ loop .loop .inv n
 
 pub plain-mux-spec : {M : Type 1} → statement M
-plain-mux-spec = tie.close (tie.spec Inv-loop μ-loop loop-holds kind-of-requires exchanged-requires loop-less loop-again returns)
+plain-mux-spec = tie.close (tie.spec Inv-loop μ-loop loop-holds (λ c κs. search needs) (λ c κs. search needs) loop-less loop-again returns)

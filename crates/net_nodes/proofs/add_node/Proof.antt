@@ -5,15 +5,6 @@ use Rattle.net_nodes.proofs.add_node.Tie as tie
 use Rattle.spec_model.specs.Words.{absent, node}
 use Rattle.net_nodes.proofs.Laws.{node-added, node-refused}
 
-slice-read-count : tie.Need-slice-read-count
-slice-read-count c = search needs
-
-push-node-requires : tie.Need-push-node-requires
-push-node-requires c κs = search needs
-
-same-length : tie.Need-same-length
-same-length c = search needs
-
 returns : tie.Need-returns
 returns c =
     let a = c .before .before .before .before .before .before .before .args in
@@ -26,5 +17,4 @@ returns-2 c =
     node-refused (a .net .now) (a .n) (node (a .kind) (a .owner) (a .bit) (a .a) absent absent) (c .before .before .before .pre .0) (c .if1 .left)
 
 pub add-node-spec : {M : Type 1} → statement M
-add-node-spec =
-    tie.close (tie.spec slice-read-count push-node-requires same-length returns returns-2)
+add-node-spec = tie.close (tie.spec (λ c. search needs) (λ c κs. search needs) (λ c. search needs) returns returns-2)

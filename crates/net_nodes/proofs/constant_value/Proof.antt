@@ -6,30 +6,6 @@ use borrow.Author.Tests.{eq-eqb, ne-eqb}
 use mathlib.Core.Bool.{true, false}
 use Rattle.net_nodes.proofs.Laws.{value-there, value-none, value-past}
 
-shared-slice-read-if1 : tie.Need-shared-slice-read-if1
-shared-slice-read-if1 c = search needs
-
-mul-p : tie.Need-mul-p
-mul-p c = search needs
-
-add-p : tie.Need-add-p
-add-p c = search needs
-
-mul-if2 : tie.Need-mul-if2
-mul-if2 c = search needs
-
-shared-slice-read-if2 : tie.Need-shared-slice-read-if2
-shared-slice-read-if2 c = search needs
-
-add-if3 : tie.Need-add-if3
-add-if3 c = search needs
-
-mul-if3 : tie.Need-mul-if3
-mul-if3 c = search needs
-
-shared-slice-read-if3 : tie.Need-shared-slice-read-if3
-shared-slice-read-if3 c = search needs
-
 returns : tie.Need-returns
 returns c = value-there (c .before .before .before .before .before .before .args .net .now) (c .before .before .before .before .before .before .args .k) (c .before .before .before .before .if1 .taken) (c .before .before .if2 .taken) true (eq-eqb _ _ (c .if3 .taken))
 
@@ -45,16 +21,5 @@ returns-4 c = value-past (c .before .before .args .net .now) (c .before .before 
 pub constant-value-spec : {M : Type 1} → statement M
 constant-value-spec =
     tie.close
-    (tie.spec
-    shared-slice-read-if1
-    mul-p
-    add-p
-    mul-if2
-    shared-slice-read-if2
-    add-if3
-    mul-if3
-    shared-slice-read-if3
-    returns
-    returns-2
-    returns-3
-    returns-4)
+    (tie.spec (λ c. search needs) (λ c. search needs) (λ c. search needs) (λ c. search needs) (λ c. search needs) (λ c. search needs)
+    (λ c. search needs) (λ c. search needs) returns returns-2 returns-3 returns-4)

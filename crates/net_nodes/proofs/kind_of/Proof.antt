@@ -4,21 +4,6 @@ use Rattle.net_nodes.proofs.kind_of.Statement.{statement}
 use Rattle.net_nodes.proofs.kind_of.Tie as tie
 use Rattle.net_nodes.proofs.Laws.{kind-there, kind-past}
 
-shared-slice-read-if1 : tie.Need-shared-slice-read-if1
-shared-slice-read-if1 c = search needs
-
-mul-p : tie.Need-mul-p
-mul-p c = search needs
-
-add-p : tie.Need-add-p
-add-p c = search needs
-
-mul-result : tie.Need-mul-result
-mul-result c = search needs
-
-shared-slice-read-result : tie.Need-shared-slice-read-result
-shared-slice-read-result c = search needs
-
 returns : tie.Need-returns
 returns c = kind-there (c .before .before .before .args .net .now) (c .before .before .before .args .k) (c .before .if1 .taken)
 
@@ -28,11 +13,4 @@ returns-2 c = kind-past (c .before .before .args .net .now) (c .before .before .
 pub kind-of-spec : {M : Type 1} → statement M
 kind-of-spec =
     tie.close
-    (tie.spec
-    shared-slice-read-if1
-    mul-p
-    add-p
-    mul-result
-    shared-slice-read-result
-    returns
-    returns-2)
+    (tie.spec (λ c. search needs) (λ c. search needs) (λ c. search needs) (λ c. search needs) (λ c. search needs) returns returns-2)

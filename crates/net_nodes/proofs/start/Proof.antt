@@ -6,26 +6,11 @@ use native.Mathlib.Omega.{arith}
 use lib.ListN.{length-set}
 use Rattle.net_view.specs.Laws.{started}
 
-clear-requires : tie.Need-clear-requires
-clear-requires c κs = search needs
-
-slice-write-net : tie.Need-slice-write-net
-slice-write-net c = search needs
-
 slice-write-net-2 : tie.Need-slice-write-net-2
 slice-write-net-2 c = simp length-set (omega arith)
 
-mul-net : tie.Need-mul-net
-mul-net c = search needs
-
-add-net : tie.Need-add-net
-add-net c = search needs
-
 slice-write-net-3 : tie.Need-slice-write-net-3
 slice-write-net-3 c = simp length-set (omega arith)
-
-same-length : tie.Need-same-length
-same-length c = search needs
 
 returns : tie.Need-returns
 returns c =
@@ -36,12 +21,5 @@ returns c =
 pub start-spec : {M : Type 1} → statement M
 start-spec =
     tie.close
-    (tie.spec
-    clear-requires
-    slice-write-net
-    slice-write-net-2
-    mul-net
-    add-net
-    slice-write-net-3
-    same-length
-    returns)
+    (tie.spec (λ c κs. search needs) (λ c. search needs) slice-write-net-2 (λ c. search needs) (λ c. search needs) slice-write-net-3
+    (λ c. search needs) returns)

@@ -14,12 +14,6 @@ add-nodes-requires : tie.Need-add-nodes-requires
 unfolding isGate
 add-nodes-requires c κs = (c .before .before .pre .0, refl, omega arith)
 
-enum-known-x : tie.Need-enum-known-x
-enum-known-x c = search needs
-
-same-length : tie.Need-same-length
-same-length c = search needs
-
 returns : tie.Need-returns
 unfolding addInputPort
 returns c =
@@ -32,24 +26,12 @@ push-port-requires c κs =
     let b = c .before .before .before .before .before .before .add-nodes .ensures .below _ (c .before .before .x .given .1) in
     (c .before .before .before .before .before .before .add-nodes .ensures .built, c .before .before .before .before .before .before .before .before .before .pre .1, omega (arith, b, c .before .before .before .before .before .before .before .before .before .pre .0 .nets))
 
-enum-told : tie.Need-enum-told
-enum-told c = search needs
-
-enum-told-2 : tie.Need-enum-told-2
-enum-told-2 c = search needs
-
-same-length-2 : tie.Need-same-length-2
-same-length-2 c = search needs
-
 returns-2 : tie.Need-returns-2
 unfolding addInputPort isCell
 returns-2 c =
     let s = c .before .before .before .before .before .before .before .before .before .before .before .before .before .before .args in
     recorded _ (s .n) (s .w) (0 ∷ s .s ∷ s .w ∷ []) _ _ _ Done _ (rw (c .before .before .before .before .before .before .before .x .given .1) at (c .before .before .before .before .before .before .before .before .before .before .before .add-nodes .ensures)) refl
     (rw (c .enum-told .given .1) at (c .before .before .before .before .push-port .ensures))
-
-same-length-3 : tie.Need-same-length-3
-same-length-3 c = search needs
 
 returns-3 : tie.Need-returns-3
 unfolding addInputPort isCell
@@ -61,15 +43,5 @@ returns-3 c =
 pub add-input-port-spec : {M : Type 1} → statement M
 add-input-port-spec =
     tie.close
-    (tie.spec
-    add-nodes-requires
-    enum-known-x
-    same-length
-    returns
-    push-port-requires
-    enum-told
-    enum-told-2
-    same-length-2
-    returns-2
-    same-length-3
-    returns-3)
+    (tie.spec add-nodes-requires (λ c. search needs) (λ c. search needs) returns push-port-requires (λ c. search needs) (λ c. search needs)
+    (λ c. search needs) returns-2 (λ c. search needs) returns-3)

@@ -15,21 +15,12 @@ Inv-loop net₀ n kind owner b w first i₀ net i = Going (source kind owner) n 
 abbrev μ-loop : tie.MeasureT-loop
 μ-loop net₀ n kind owner b w first i₀ net i = w - i
 
-slice-read-first : tie.Need-slice-read-first Inv-loop μ-loop
-slice-read-first c = search needs
-
 loop-holds : tie.Need-loop-holds Inv-loop μ-loop
 loop-holds c = going-start _ _ _ _ _ (c .before .before .pre .0)
-
-add-add-node : tie.Need-add-add-node Inv-loop μ-loop
-add-add-node c = omega arith
 
 add-node-requires : tie.Need-add-node-requires Inv-loop μ-loop
 unfolding isGate
 add-node-requires c κs = (c .before .before .loop .inv .built, c .before .before .before .before .before .pre .1)
-
-enum-told : tie.Need-enum-told Inv-loop μ-loop
-enum-told c = search needs
 
 same-length : tie.Need-same-length Inv-loop μ-loop
 same-length c = c .before .before .before .add-node .kept .0 ∙ c .before .before .before .before .before .before .loop .inv .sized
@@ -37,12 +28,6 @@ same-length c = c .before .before .before .add-node .kept .0 ∙ c .before .befo
 returns : tie.Need-returns Inv-loop μ-loop
 returns c =
     going-out _ _ _ _ _ _ _ _ (c .before .before .before .before .before .before .loop .inv) (c .before .before .before .add-node .result) _ (c .before .before .before .before .before .loop-test .taken) (not-net (c .before .before .before .add-node .result) (c .match .keys2)) (c .before .before .before .add-node .ensures)
-
-add-i : tie.Need-add-i Inv-loop μ-loop
-add-i c = omega arith
-
-loop-less : tie.Need-loop-less Inv-loop μ-loop
-loop-less c = omega arith
 
 loop-again : tie.Need-loop-again Inv-loop μ-loop
 loop-again c = going-more _ _ _ _ _ _ _ _ (c .before .before .before .before .before .before .before .loop .inv) _ _ (c .before .before .before .before .before .before .loop-test .taken) (c .before .before .before .before .add-node .kept .0) (rw (c .enum-told .given .1) at (c .before .before .before .before .add-node .ensures))
@@ -56,18 +41,5 @@ returns-2 c = going-end _ _ _ _ _ _ _ _ (c .before .loop .inv) (c .loop-test .le
 pub add-nodes-spec : {M : Type 1} → statement M
 add-nodes-spec =
     tie.close
-    (tie.spec
-    Inv-loop
-    μ-loop
-    slice-read-first
-    loop-holds
-    add-add-node
-    add-node-requires
-    enum-told
-    same-length
-    returns
-    add-i
-    loop-less
-    loop-again
-    same-length-2
-    returns-2)
+    (tie.spec Inv-loop μ-loop (λ c. search needs) loop-holds (λ c. omega arith) add-node-requires (λ c. search needs) same-length returns
+    (λ c. omega arith) (λ c. omega arith) loop-again same-length-2 returns-2)

@@ -11,38 +11,17 @@ use Rattle.net_view.specs.View.{netlistOf}
 use Rattle.net_records.specs.declared.Pushed.the-variants.{Done, ListFull}
 use Rattle.net_ports.proofs.Laws.{not-net, recorded, recorded-out, output-port}
 
-add-outputs-requires : tie.Need-add-outputs-requires
-add-outputs-requires c κs = search needs
-
-enum-known-x : tie.Need-enum-known-x
-enum-known-x c = search needs
-
-same-length : tie.Need-same-length
-same-length c = search needs
-
 returns : tie.Need-returns
 returns c =
     let s = c .before .before .before .before .before .before .before .args in
     rw (output-port (s .s) (s .xs .now) (netlistOf (s .n) (s .net .now)))
     (recorded-out _ (s .n) (length (s .xs .now)) (0 ∷ s .s ∷ length (s .xs .now) ∷ []) _ _ (c .before .before .before .add-outputs .result) (not-net (c .before .before .before .add-outputs .result) (c .match .keys2)) (c .before .before .before .add-outputs .ensures))
 
-cast-push-port : tie.Need-cast-push-port
-cast-push-port c = search needs
-
 push-port-requires : tie.Need-push-port-requires
 push-port-requires c κs =
     let s = c .before .before .before .before .before .before .before .before .before .before .args in
     let b = c .before .before .before .before .before .before .add-outputs .ensures .below _ (c .before .before .x .given .1) in
     (c .before .before .before .before .before .before .add-outputs .ensures .built, c .before .before .before .before .before .before .before .before .before .before .pre .1, omega (arith, b, c .before .before .before .before .before .before .before .before .before .before .pre .0 .nets))
-
-enum-told : tie.Need-enum-told
-enum-told c = search needs
-
-enum-told-2 : tie.Need-enum-told-2
-enum-told-2 c = search needs
-
-same-length-2 : tie.Need-same-length-2
-same-length-2 c = search needs
 
 returns-2 : tie.Need-returns-2
 unfolding isCell
@@ -51,9 +30,6 @@ returns-2 c =
     rw (output-port (s .s) (s .xs .now) (netlistOf (s .n) (s .net .now)))
     (recorded _ (s .n) (length (s .xs .now)) (0 ∷ s .s ∷ length (s .xs .now) ∷ []) _ _ _ Done _ (rw (c .before .before .before .before .before .before .before .x .given .1) at (c .before .before .before .before .before .before .before .before .before .before .before .add-outputs .ensures)) refl
     (rw (c .enum-told .given .1) at (c .before .before .before .before .push-port .ensures)))
-
-same-length-3 : tie.Need-same-length-3
-same-length-3 c = search needs
 
 returns-3 : tie.Need-returns-3
 unfolding isCell
@@ -66,16 +42,5 @@ returns-3 c =
 pub add-output-port-spec : {M : Type 1} → statement M
 add-output-port-spec =
     tie.close
-    (tie.spec
-    add-outputs-requires
-    enum-known-x
-    same-length
-    returns
-    cast-push-port
-    push-port-requires
-    enum-told
-    enum-told-2
-    same-length-2
-    returns-2
-    same-length-3
-    returns-3)
+    (tie.spec (λ c κs. search needs) (λ c. search needs) (λ c. search needs) returns (λ c. search needs) push-port-requires (λ c. search needs)
+    (λ c. search needs) (λ c. search needs) returns-2 (λ c. search needs) returns-3)

@@ -8,26 +8,9 @@ use Prim.Native.Nat.{ℕ, _+_}
 use native.Mathlib.Omega.{arith}
 use lib.ListN.{length, take}
 use Rattle.spec_model.specs.Builder.{from}
+use Rattle.word_laws.specs.Runs.{length-from}
 use Rattle.net_view.specs.Formed.{formed-port}
-use Rattle.net_ports.proofs.Laws.{port-words, length-from}
-
-array-write-record : tie.Need-array-write-record
-array-write-record c = search needs
-
-array-write-record-2 : tie.Need-array-write-record-2
-array-write-record-2 c = search needs
-
-slice-aggregate-put-run : tie.Need-slice-aggregate-put-run
-slice-aggregate-put-run c = search needs
-
-put-run-requires : tie.Need-put-run-requires
-put-run-requires c κs = search needs
-
-add-len : tie.Need-add-len
-add-len c = search needs
-
-array-share-prefix-record : tie.Need-array-share-prefix-record
-array-share-prefix-record c = search needs
+use Rattle.net_ports.proofs.Laws.{port-words}
 
 slice-aggregate-push-record : tie.Need-slice-aggregate-push-record
 slice-aggregate-push-record c =
@@ -41,9 +24,6 @@ push-record-requires c κs =
       rw (c .before .before .before .put-run .ensures, port-words (s .s) (s .w) (s .first) (c .before .before .before .before .before .before .pre .1)) (formed-port (s .s) (s .w) (from (s .first) (s .w)) (length-from (s .first) (s .w))),
     )
 
-same-length : tie.Need-same-length
-same-length c = search needs
-
 returns : tie.Need-returns
 returns c =
     let s = c .before .before .before .before .before .before .before .before .before .args in
@@ -52,14 +32,5 @@ returns c =
 pub push-port-spec : {M : Type 1} → statement M
 push-port-spec =
     tie.close
-    (tie.spec
-    array-write-record
-    array-write-record-2
-    slice-aggregate-put-run
-    put-run-requires
-    add-len
-    array-share-prefix-record
-    slice-aggregate-push-record
-    push-record-requires
-    same-length
-    returns)
+    (tie.spec (λ c. search needs) (λ c. search needs) (λ c. search needs) (λ c κs. search needs) (λ c. search needs) (λ c. search needs)
+    slice-aggregate-push-record push-record-requires (λ c. search needs) returns)

@@ -4,8 +4,8 @@ use Rattle.net_ports.proofs.put_run.Tie as tie
 use Prim.Native.Nat.{_-_}
 use native.Mathlib.Omega.{arith}
 use Rattle.spec_model.specs.Builder.{from}
+use Rattle.word_laws.specs.Runs.{from-at, length-from}
 use Rattle.net_records.proofs.Laws.{Copied, copied-start, copied-more, copied-end}
-use Rattle.net_ports.proofs.Laws.{length-from, from-at}
 
 abbrev Inv-loop : tie.InvT-loop
 Inv-loop out₀ at first w i₀ out i = Copied out₀ at (from first w) out i
@@ -34,9 +34,6 @@ slice-write-out c = omega (arith, length-from (c .before .before .args .first) (
 add-i : tie.Need-add-i Inv-loop μ-loop
 add-i c = omega (arith, length-from (c .before .before .args .first) (c .before .before .args .w))
 
-loop-less : tie.Need-loop-less Inv-loop μ-loop
-loop-less c = omega arith
-
 loop-again : tie.Need-loop-again Inv-loop μ-loop
 loop-again c =
     let s = c .before .before .args in
@@ -56,17 +53,4 @@ returns c =
 pub put-run-spec : {M : Type 1} → statement M
 put-run-spec =
     tie.close
-    (tie.spec
-    Inv-loop
-    μ-loop
-    loop-holds
-    add-out
-    cast-out
-    add-out-2
-    mul-out
-    slice-write-out
-    add-i
-    loop-less
-    loop-again
-    same-length
-    returns)
+    (tie.spec Inv-loop μ-loop loop-holds add-out cast-out add-out-2 mul-out slice-write-out add-i (λ c. omega arith) loop-again same-length returns)

@@ -15,27 +15,6 @@ abbrev μ-loop : tie.MeasureT-loop
 loop-holds : tie.Need-loop-holds Inv-loop μ-loop
 loop-holds c = copied-start _ _ _
 
-mul-net : tie.Need-mul-net Inv-loop μ-loop
-mul-net c = omega arith
-
-shared-slice-read-net : tie.Need-shared-slice-read-net Inv-loop μ-loop
-shared-slice-read-net c = omega arith
-
-add-net : tie.Need-add-net Inv-loop μ-loop
-add-net c = omega arith
-
-mul-net-2 : tie.Need-mul-net-2 Inv-loop μ-loop
-mul-net-2 c = omega arith
-
-slice-write-net : tie.Need-slice-write-net Inv-loop μ-loop
-slice-write-net c = omega arith
-
-add-i : tie.Need-add-i Inv-loop μ-loop
-add-i c = omega arith
-
-loop-less : tie.Need-loop-less Inv-loop μ-loop
-loop-less c = omega arith
-
 loop-again : tie.Need-loop-again Inv-loop μ-loop
 loop-again c = copied-more _ _ _ _ _ (c .before .before .loop .inv) (c .before .loop-test .taken) (c .before .before .before .pre)
 
@@ -48,17 +27,5 @@ returns c = copied-end _ _ _ _ _ (c .before .loop .inv) (c .loop-test .left) (c 
 pub put-words-spec : {M : Type 1} → statement M
 put-words-spec =
     tie.close
-    (tie.spec
-    Inv-loop
-    μ-loop
-    loop-holds
-    mul-net
-    shared-slice-read-net
-    add-net
-    mul-net-2
-    slice-write-net
-    add-i
-    loop-less
-    loop-again
-    same-length
-    returns)
+    (tie.spec Inv-loop μ-loop loop-holds (λ c. omega arith) (λ c. omega arith) (λ c. omega arith) (λ c. omega arith) (λ c. omega arith)
+    (λ c. omega arith) (λ c. omega arith) loop-again same-length returns)

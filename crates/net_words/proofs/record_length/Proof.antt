@@ -8,33 +8,6 @@ use denote.Ref.{now}
 use Rattle.spec_tests.specs.Rules.{pick, _≡?_}
 use Rattle.net_words.specs.Lengths.{lengthBy, record-length, length-other}
 
-word-at-requires : tie.Need-word-at-requires
-word-at-requires c κs = search needs
-
-cast-w : tie.Need-cast-w
-cast-w c = search needs
-
-word-at-requires-2 : tie.Need-word-at-requires-2
-word-at-requires-2 c κs = search needs
-
-add-result : tie.Need-add-result
-add-result c = search needs
-
-memory-length-requires : tie.Need-memory-length-requires
-memory-length-requires c κs = search needs
-
-mul-result : tie.Need-mul-result
-mul-result c = search needs
-
-add-result-2 : tie.Need-add-result-2
-add-result-2 c = search needs
-
-mul-result-2 : tie.Need-mul-result-2
-mul-result-2 c = search needs
-
-add-result-3 : tie.Need-add-result-3
-add-result-3 c = search needs
-
 returns : tie.Need-returns
 unfolding lengthBy pick _≡?_
 returns c = sym (record-length (now (c .before .before .before .before .args .l)) ∙ ap (lengthBy (now (c .before .before .before .before .args .l))) (sym (c .before .word-at2 .ensures) ∙ c .match .keys1) ∙ omega arith)
@@ -61,19 +34,5 @@ returns-6 c = length-other (now (c .before .before .before .before .args .l)) _ 
 pub record-length-spec : {M : Type 1} → statement M
 record-length-spec =
     tie.close
-    (tie.spec
-    word-at-requires
-    cast-w
-    word-at-requires-2
-    add-result
-    memory-length-requires
-    mul-result
-    add-result-2
-    mul-result-2
-    add-result-3
-    returns
-    returns-2
-    returns-3
-    returns-4
-    returns-5
-    returns-6)
+    (tie.spec (λ c κs. search needs) (λ c. search needs) (λ c κs. search needs) (λ c. search needs) (λ c κs. search needs) (λ c. search needs)
+    (λ c. search needs) (λ c. search needs) (λ c. search needs) returns returns-2 returns-3 returns-4 returns-5 returns-6)

@@ -11,18 +11,6 @@ use Rattle.spec_tests.specs.Laws.{eq-yes, eq-no, pick-hit, pick-skip}
 use Rattle.spec_rules.specs.NetlistImage.{portLength}
 use Rattle.net_words.specs.Lengths.{secondLength}
 
-word-at-requires : tie.Need-word-at-requires
-word-at-requires c κs = search needs
-
-port-length-requires : tie.Need-port-length-requires
-port-length-requires c κs = search needs
-
-part-requires : tie.Need-part-requires
-part-requires c κs = search needs
-
-port-length-requires-2 : tie.Need-port-length-requires-2
-port-length-requires-2 c κs = search needs
-
 returns : tie.Need-returns
 unfolding secondLength
 returns c = (pick-hit _ (eq-yes _ _ (sym (c .before .before .before .before .word-at .ensures) ∙ c .before .before .before .if1 .taken)) (c .port-length2 .ensures .0 ∙ ap portLength (c .before .part .ensures ∙ ap (λ (n : ℕ). drop n (now (c .before .before .before .before .before .before .before .args .p))) (c .before .before .port-length .ensures .0))), c .port-length2 .ensures .1)
@@ -34,10 +22,4 @@ returns-2 c = (pick-skip _ (eq-no _ _ (λ e. c .if1 .left (c .before .word-at .e
 pub second-length-spec : {M : Type 1} → statement M
 second-length-spec =
     tie.close
-    (tie.spec
-    word-at-requires
-    port-length-requires
-    part-requires
-    port-length-requires-2
-    returns
-    returns-2)
+    (tie.spec (λ c κs. search needs) (λ c κs. search needs) (λ c κs. search needs) (λ c κs. search needs) returns returns-2)

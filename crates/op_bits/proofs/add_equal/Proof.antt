@@ -6,32 +6,11 @@ use Rattle.spec_model.specs.Lowering.{addEqual}
 use Rattle.net_ports.proofs.Laws.{not-net}
 use Rattle.op_bits.proofs.Laws.{then-out, then-net}
 
-add-xor-requires : tie.Need-add-xor-requires
-add-xor-requires c κs = search needs
-
-enum-known-x : tie.Need-enum-known-x
-enum-known-x c = search needs
-
-same-length : tie.Need-same-length
-same-length c = search needs
-
-same-length-2 : tie.Need-same-length-2
-same-length-2 c = search needs
-
 returns : tie.Need-returns
 unfolding addEqual
 returns c =
     let add-xor = c .before .before .before .before .before .add-xor in
     then-out _ _ _ (add-xor .result) _ _ (not-net (add-xor .result) (c .match .keys2)) (add-xor .ensures)
-
-add-not-requires : tie.Need-add-not-requires
-add-not-requires c κs = search needs
-
-same-length-3 : tie.Need-same-length-3
-same-length-3 c = search needs
-
-same-length-4 : tie.Need-same-length-4
-same-length-4 c = search needs
 
 returns-2 : tie.Need-returns-2
 unfolding addEqual
@@ -44,13 +23,5 @@ returns-2 c =
 pub add-equal-spec : {M : Type 1} → statement M
 add-equal-spec =
     tie.close
-    (tie.spec
-    add-xor-requires
-    enum-known-x
-    same-length
-    same-length-2
-    returns
-    add-not-requires
-    same-length-3
-    same-length-4
-    returns-2)
+    (tie.spec (λ c κs. search needs) (λ c. search needs) (λ c. search needs) (λ c. search needs) returns (λ c κs. search needs) (λ c. search needs)
+    (λ c. search needs) returns-2)

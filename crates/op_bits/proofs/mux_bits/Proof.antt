@@ -24,16 +24,10 @@ loop-holds c =
     let pre = c .before .before .before .before .pre in
     (going-start _ _ _ _ _ _ _ (pre .0) (both-nets _ _ _ _ (pre .1)), pre .2)
 
-mul-add-mux : tie.Need-mul-add-mux Inv-loop μ-loop
-mul-add-mux c = omega arith
-
 slice-read-add-mux : tie.Need-slice-read-add-mux Inv-loop μ-loop
 slice-read-add-mux c =
     let loop = c .before .before .before .before .loop in
     omega (arith, loop .inv .0 .sized)
-
-mul-add-mux-2 : tie.Need-mul-add-mux-2 Inv-loop μ-loop
-mul-add-mux-2 c = omega arith
 
 shared-slice-read-add-mux : tie.Need-shared-slice-read-add-mux Inv-loop μ-loop
 shared-slice-read-add-mux c =
@@ -44,12 +38,6 @@ add-mux-requires : tie.Need-add-mux-requires Inv-loop μ-loop
 add-mux-requires c κs =
     let loop = c .before .before .before .before .before .loop in
     (loop .inv .0 .held, loop .inv .1)
-
-enum-known-x : tie.Need-enum-known-x Inv-loop μ-loop
-enum-known-x c = search needs
-
-refusal-requires : tie.Need-refusal-requires Inv-loop μ-loop
-refusal-requires c κs = search needs
 
 same-length : tie.Need-same-length Inv-loop μ-loop
 same-length c =
@@ -75,16 +63,10 @@ returns c =
     rw (c .refusal .ensures) (going-out _ _ _ _ _ _ _ _ _ _ (loop .inv .0) (add-mux .result) _ _ _ (omega (arith, loop .inv .0 .sized)) (not-net (add-mux .result) (c .before .match .keys2))
     (rw (← loop .inv .0 .rest (loop .i) (omega arith)) (add-mux .ensures)))
 
-mul-ts : tie.Need-mul-ts Inv-loop μ-loop
-mul-ts c = omega arith
-
-slice-write-ts : tie.Need-slice-write-ts Inv-loop μ-loop
-slice-write-ts c =
+slice-write-then-bits : tie.Need-slice-write-then-bits Inv-loop μ-loop
+slice-write-then-bits c =
     let loop = c .before .before .before .before .before .before .before .before .before .before .before .before .before .loop in
     omega (arith, loop .inv .0 .sized)
-
-add-i : tie.Need-add-i Inv-loop μ-loop
-add-i c = omega arith
 
 loop-less : tie.Need-loop-less Inv-loop μ-loop
 loop-less c =
@@ -118,27 +100,6 @@ returns-2 c = going-all _ _ _ _ _ _ _ _ _ _ (c .before .loop .inv .0) (omega (ar
 pub mux-bits-spec : {M : Type 1} → statement M
 mux-bits-spec =
     tie.close
-    (tie.spec
-    Inv-loop
-    μ-loop
-    loop-holds
-    mul-add-mux
-    slice-read-add-mux
-    mul-add-mux-2
-    shared-slice-read-add-mux
-    add-mux-requires
-    enum-known-x
-    refusal-requires
-    same-length
-    same-length-2
-    same-length-3
-    returns
-    mul-ts
-    slice-write-ts
-    add-i
-    loop-less
-    loop-again
-    same-length-4
-    same-length-5
-    same-length-6
-    returns-2)
+    (tie.spec Inv-loop μ-loop loop-holds (λ c. omega arith) slice-read-add-mux (λ c. omega arith) shared-slice-read-add-mux add-mux-requires
+    (λ c. search needs) (λ c κs. search needs) same-length same-length-2 same-length-3 returns (λ c. omega arith) slice-write-then-bits
+    (λ c. omega arith) loop-less loop-again same-length-4 same-length-5 same-length-6 returns-2)

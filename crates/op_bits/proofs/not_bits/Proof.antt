@@ -20,9 +20,6 @@ abbrev μ-loop : tie.MeasureT-loop
 loop-holds : tie.Need-loop-holds Inv-loop μ-loop
 loop-holds c = going-start _ _ _ _ _ _ _ ((c .before .before .before .pre)) (each-nets _ _ _)
 
-mul-add-not : tie.Need-mul-add-not Inv-loop μ-loop
-mul-add-not c = omega arith
-
 slice-read-add-not : tie.Need-slice-read-add-not Inv-loop μ-loop
 slice-read-add-not c =
     let loop = c .before .before .before .before .loop in
@@ -32,12 +29,6 @@ add-not-requires : tie.Need-add-not-requires Inv-loop μ-loop
 add-not-requires c κs =
     let loop = c .before .before .before .before .loop in
     loop .inv .held
-
-enum-known-x : tie.Need-enum-known-x Inv-loop μ-loop
-enum-known-x c = search needs
-
-refusal-requires : tie.Need-refusal-requires Inv-loop μ-loop
-refusal-requires c κs = search needs
 
 same-length : tie.Need-same-length Inv-loop μ-loop
 same-length c =
@@ -63,16 +54,10 @@ returns c =
     rw (c .refusal .ensures) (going-out _ _ _ _ _ _ _ _ _ _ (loop .inv) (add-not .result) _ _ _ (omega (arith, loop .inv .sized)) (not-net (add-not .result) (c .before .match .keys2))
     (rw (← loop .inv .rest (loop .i) (omega arith)) (add-not .ensures)))
 
-mul-xs : tie.Need-mul-xs Inv-loop μ-loop
-mul-xs c = omega arith
-
 slice-write-xs : tie.Need-slice-write-xs Inv-loop μ-loop
 slice-write-xs c =
     let loop = c .before .before .before .before .before .before .before .before .before .before .before .before .loop in
     omega (arith, loop .inv .sized)
-
-add-i : tie.Need-add-i Inv-loop μ-loop
-add-i c = omega arith
 
 loop-less : tie.Need-loop-less Inv-loop μ-loop
 loop-less c =
@@ -103,25 +88,6 @@ returns-2 c = going-all _ _ _ _ _ _ _ _ _ _ (c .before .loop .inv) (omega (arith
 pub not-bits-spec : {M : Type 1} → statement M
 not-bits-spec =
     tie.close
-    (tie.spec
-    Inv-loop
-    μ-loop
-    loop-holds
-    mul-add-not
-    slice-read-add-not
-    add-not-requires
-    enum-known-x
-    refusal-requires
-    same-length
-    same-length-2
-    same-length-3
-    returns
-    mul-xs
-    slice-write-xs
-    add-i
-    loop-less
-    loop-again
-    same-length-4
-    same-length-5
-    same-length-6
-    returns-2)
+    (tie.spec Inv-loop μ-loop loop-holds (λ c. omega arith) slice-read-add-not add-not-requires (λ c. search needs) (λ c κs. search needs) same-length
+    same-length-2 same-length-3 returns (λ c. omega arith) slice-write-xs (λ c. omega arith) loop-less loop-again same-length-4 same-length-5
+    same-length-6 returns-2)

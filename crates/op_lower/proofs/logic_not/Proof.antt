@@ -6,21 +6,6 @@ use mathlib.Core.Bool.{false}
 use native.Mathlib.Omega.{arith}
 use Rattle.op_bits.proofs.Laws.{not-done, first-out, first-then}
 
-reduce-tree-requires : tie.Need-reduce-tree-requires
-reduce-tree-requires c κs = search needs
-
-enum-told : tie.Need-enum-told
-enum-told c = search needs
-
-same-length : tie.Need-same-length
-same-length c = search needs
-
-same-length-2 : tie.Need-same-length-2
-same-length-2 c = search needs
-
-same-length-3 : tie.Need-same-length-3
-same-length-3 c = search needs
-
 returns : tie.Need-returns
 returns c =
     let reduce-tree = c .before .before .before .before .before .before .before .reduce-tree in
@@ -30,15 +15,6 @@ not-first-requires : tie.Need-not-first-requires
 not-first-requires c κs =
     let reduce-tree = c .before .before .before .before .before .before .before .before .before .before .before .reduce-tree in
     (reduce-tree .ensures false .held, omega (arith, reduce-tree .kept .1 .1 .1 .1 .0))
-
-same-length-4 : tie.Need-same-length-4
-same-length-4 c = search needs
-
-same-length-5 : tie.Need-same-length-5
-same-length-5 c = search needs
-
-same-length-6 : tie.Need-same-length-6
-same-length-6 c = search needs
 
 returns-2 : tie.Need-returns-2
 returns-2 c =
@@ -50,15 +26,5 @@ returns-2 c =
 pub logic-not-spec : {M : Type 1} → statement M
 logic-not-spec =
     tie.close
-    (tie.spec
-    reduce-tree-requires
-    enum-told
-    same-length
-    same-length-2
-    same-length-3
-    returns
-    not-first-requires
-    same-length-4
-    same-length-5
-    same-length-6
-    returns-2)
+    (tie.spec (λ c κs. search needs) (λ c. search needs) (λ c. search needs) (λ c. search needs) (λ c. search needs) returns not-first-requires
+    (λ c. search needs) (λ c. search needs) (λ c. search needs) returns-2)

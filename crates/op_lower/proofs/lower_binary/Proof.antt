@@ -5,22 +5,10 @@ use Rattle.op_lower.proofs.lower_binary.Tie as tie
 use Rattle.op_bits.proofs.Laws.{list-by}
 use Rattle.op_lower.specs.Operators.{by-class}
 
-class-of-requires : tie.Need-class-of-requires
-class-of-requires c κs = search needs
-
 lower-class-requires : tie.Need-lower-class-requires
 lower-class-requires c κs =
     let pre = c .before .before .before .before .before .before .before .before .pre in
     rw (c .before .class-of .ensures) pre
-
-same-length : tie.Need-same-length
-same-length c = search needs
-
-same-length-2 : tie.Need-same-length-2
-same-length-2 c = search needs
-
-same-length-3 : tie.Need-same-length-3
-same-length-3 c = search needs
 
 returns : tie.Need-returns
 returns c =
@@ -32,10 +20,4 @@ returns c =
 pub lower-binary-spec : {M : Type 1} → statement M
 lower-binary-spec =
     tie.close
-    (tie.spec
-    class-of-requires
-    lower-class-requires
-    same-length
-    same-length-2
-    same-length-3
-    returns)
+    (tie.spec (λ c κs. search needs) lower-class-requires (λ c. search needs) (λ c. search needs) (λ c. search needs) returns)

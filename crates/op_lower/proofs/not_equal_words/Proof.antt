@@ -5,21 +5,6 @@ use Rattle.op_lower.proofs.not_equal_words.Tie as tie
 use native.Mathlib.Omega.{arith}
 use Rattle.op_bits.proofs.Laws.{not-done, first-out, first-then}
 
-equal-words-requires : tie.Need-equal-words-requires
-equal-words-requires c κs = search needs
-
-enum-told : tie.Need-enum-told
-enum-told c = search needs
-
-same-length : tie.Need-same-length
-same-length c = search needs
-
-same-length-2 : tie.Need-same-length-2
-same-length-2 c = search needs
-
-same-length-3 : tie.Need-same-length-3
-same-length-3 c = search needs
-
 returns : tie.Need-returns
 returns c =
     let equal-words = c .before .before .before .before .before .before .before .equal-words in
@@ -29,15 +14,6 @@ not-first-requires : tie.Need-not-first-requires
 not-first-requires c κs =
     let equal-words = c .before .before .before .before .before .before .before .before .before .before .before .equal-words in
     (equal-words .ensures .held, omega (arith, equal-words .kept .1 .1 .1 .0))
-
-same-length-4 : tie.Need-same-length-4
-same-length-4 c = search needs
-
-same-length-5 : tie.Need-same-length-5
-same-length-5 c = search needs
-
-same-length-6 : tie.Need-same-length-6
-same-length-6 c = search needs
 
 returns-2 : tie.Need-returns-2
 returns-2 c =
@@ -49,15 +25,5 @@ returns-2 c =
 pub not-equal-words-spec : {M : Type 1} → statement M
 not-equal-words-spec =
     tie.close
-    (tie.spec
-    equal-words-requires
-    enum-told
-    same-length
-    same-length-2
-    same-length-3
-    returns
-    not-first-requires
-    same-length-4
-    same-length-5
-    same-length-6
-    returns-2)
+    (tie.spec (λ c κs. search needs) (λ c. search needs) (λ c. search needs) (λ c. search needs) (λ c. search needs) returns not-first-requires
+    (λ c. search needs) (λ c. search needs) (λ c. search needs) returns-2)

@@ -27,15 +27,12 @@ loop-holds : tie.Need-loop-holds Inv-loop μ-loop
 loop-holds c =
     let pre = c .before .before .before .before .pre in
     let s = c .before .before .before .before .args in
-    (going-start _ _ _ _ _ _ _ (pre .0) (stage-nets (s .s) (shiftOf (s .kind)) (s .z) (s .d) (s .old .now) _), pre .4)
+    (going-start _ _ _ _ _ _ _ (pre .0) (stage-nets (s .select) (shiftOf (s .kind)) (s .z) (s .distance) (s .original .now) _), pre .4)
 
 moved-bit-requires : tie.Need-moved-bit-requires Inv-loop μ-loop
 moved-bit-requires c κs =
     let pre = c .before .before .before .before .before .before .pre in
     (omega (arith, c .before .loop .inv .0 .sized), pre .2, pre .3)
-
-mul-add-mux : tie.Need-mul-add-mux Inv-loop μ-loop
-mul-add-mux c = omega arith
 
 shared-slice-read-add-mux : tie.Need-shared-slice-read-add-mux Inv-loop μ-loop
 shared-slice-read-add-mux c =
@@ -46,12 +43,6 @@ add-mux-requires : tie.Need-add-mux-requires Inv-loop μ-loop
 add-mux-requires c κs =
     let loop = c .before .before .before .before .before .loop in
     (loop .inv .0 .held, loop .inv .1)
-
-enum-known-x : tie.Need-enum-known-x Inv-loop μ-loop
-enum-known-x c = search needs
-
-refusal-requires : tie.Need-refusal-requires Inv-loop μ-loop
-refusal-requires c κs = search needs
 
 same-length : tie.Need-same-length Inv-loop μ-loop
 same-length c =
@@ -78,16 +69,10 @@ returns c =
     rw (c .refusal .ensures) (going-out _ _ _ _ _ _ _ _ _ _ (loop .inv .0) (add-mux .result) _ _ _ (omega (arith, loop .inv .0 .sized)) (not-net (add-mux .result) (c .before .match .keys2))
     (rw (moved-bit .ensures) at (add-mux .ensures)))
 
-mul-xs : tie.Need-mul-xs Inv-loop μ-loop
-mul-xs c = omega arith
-
 slice-write-xs : tie.Need-slice-write-xs Inv-loop μ-loop
 slice-write-xs c =
     let loop = c .before .before .before .before .before .before .before .before .before .before .before .before .before .loop in
     omega (arith, loop .inv .0 .sized)
-
-add-i : tie.Need-add-i Inv-loop μ-loop
-add-i c = omega arith
 
 loop-less : tie.Need-loop-less Inv-loop μ-loop
 loop-less c =
@@ -123,26 +108,6 @@ returns-2 c = going-all _ _ _ _ _ _ _ _ _ _ (c .before .loop .inv .0) (omega (ar
 pub mux-moved-spec : {M : Type 1} → statement M
 mux-moved-spec =
     tie.close
-    (tie.spec
-    Inv-loop
-    μ-loop
-    loop-holds
-    moved-bit-requires
-    mul-add-mux
-    shared-slice-read-add-mux
-    add-mux-requires
-    enum-known-x
-    refusal-requires
-    same-length
-    same-length-2
-    same-length-3
-    returns
-    mul-xs
-    slice-write-xs
-    add-i
-    loop-less
-    loop-again
-    same-length-4
-    same-length-5
-    same-length-6
-    returns-2)
+    (tie.spec Inv-loop μ-loop loop-holds moved-bit-requires (λ c. omega arith) shared-slice-read-add-mux add-mux-requires (λ c. search needs)
+    (λ c κs. search needs) same-length same-length-2 same-length-3 returns (λ c. omega arith) slice-write-xs (λ c. omega arith) loop-less loop-again
+    same-length-4 same-length-5 same-length-6 returns-2)

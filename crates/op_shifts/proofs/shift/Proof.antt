@@ -8,21 +8,6 @@ use Rattle.net_ports.proofs.Laws.{not-net}
 use Rattle.op_shifts.specs.Kinds.{shiftOf}
 use Rattle.op_shifts.proofs.Laws.{shift-done, shift-out}
 
-add-constant-requires : tie.Need-add-constant-requires
-add-constant-requires c κs = search needs
-
-enum-known-x : tie.Need-enum-known-x
-enum-known-x c = search needs
-
-refusal-requires : tie.Need-refusal-requires
-refusal-requires c κs = search needs
-
-same-length : tie.Need-same-length
-same-length c = search needs
-
-same-length-2 : tie.Need-same-length-2
-same-length-2 c = search needs
-
 returns : tie.Need-returns
 returns c =
     let add-constant = c .before .before .before .before .before .before .add-constant in
@@ -36,15 +21,6 @@ shift-stages-requires c κs =
     let pre = c .before .before .before .before .before .before .before .before .before .before .before .before .before .before .before .before .before .pre in
     (add-constant .ensures .held, pre .1, pre .2, kept-constant _ (pre .3) (rw (x .given .1) at (add-constant .ensures)))
 
-same-length-3 : tie.Need-same-length-3
-same-length-3 c = search needs
-
-same-length-4 : tie.Need-same-length-4
-same-length-4 c = search needs
-
-same-length-5 : tie.Need-same-length-5
-same-length-5 c = search needs
-
 returns-2 : tie.Need-returns-2
 returns-2 c =
     let shift-stages = c .before .before .before .before .before .before .shift-stages in
@@ -56,15 +32,5 @@ returns-2 c =
 pub shift-spec : {M : Type 1} → statement M
 shift-spec =
     tie.close
-    (tie.spec
-    add-constant-requires
-    enum-known-x
-    refusal-requires
-    same-length
-    same-length-2
-    returns
-    shift-stages-requires
-    same-length-3
-    same-length-4
-    same-length-5
-    returns-2)
+    (tie.spec (λ c κs. search needs) (λ c. search needs) (λ c κs. search needs) (λ c. search needs) (λ c. search needs) returns shift-stages-requires
+    (λ c. search needs) (λ c. search needs) (λ c. search needs) returns-2)

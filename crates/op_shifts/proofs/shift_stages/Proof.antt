@@ -23,19 +23,10 @@ loop-holds c =
     let pre = c .before .before .before .before .pre in
     staging-start _ _ _ _ _ _ _ (pre .1) (pre .0) (pre .3)
 
-mul-shift-stage : tie.Need-mul-shift-stage Inv-loop μ-loop
-mul-shift-stage c = omega arith
-
-shared-slice-read-shift-stage : tie.Need-shared-slice-read-shift-stage Inv-loop μ-loop
-shared-slice-read-shift-stage c = omega arith
-
 shift-stage-requires : tie.Need-shift-stage-requires Inv-loop μ-loop
 shift-stage-requires c κs =
     let loop = c .before .before .before .before .before .loop in
     (loop .inv .held, omega (arith, loop .inv .distance), omega (arith, loop .inv .sized), loop .inv .nots)
-
-enum-told : tie.Need-enum-told Inv-loop μ-loop
-enum-told c = search needs
 
 same-length : tie.Need-same-length Inv-loop μ-loop
 same-length c =
@@ -68,19 +59,13 @@ shift-distance-requires c κs =
     let pre = c .before .before .before .before .before .before .before .before .before .before .before .before .before .before .before .before .before .before .before .pre in
     (omega (arith, loop .inv .distance, loop .inv .sized), pre .2)
 
-add-k : tie.Need-add-k Inv-loop μ-loop
-add-k c = omega arith
-
-loop-less : tie.Need-loop-less Inv-loop μ-loop
-loop-less c = omega arith
-
 loop-again : tie.Need-loop-again Inv-loop μ-loop
 loop-again c =
     let shift-stage = c .before .before .before .before .before .before .before .before .before .shift-stage in
     let loop-test = c .before .before .before .before .before .before .before .before .before .before .before .before .before .before .loop-test in
     let loop = c .before .before .before .before .before .before .before .before .before .before .before .before .before .before .before .loop in
     staging-more _ _ _ _ _ _ _ _ _ _ _ _ (loop .inv) _ _ _ _ (loop-test .taken) (shift-stage .kept .0) (shift-stage .kept .1 .1 .1 .1 .1 .1 .1 .0)
-    (c .shift-distance .ensures ∙ ap (λ (w : ℕ). min (2 * loop .d) w) (sym (loop .inv .sized))) (rw (c .before .enum-told .given .1) at (shift-stage .ensures))
+    (c .shift-distance .ensures ∙ ap (λ (w : ℕ). min (2 * loop .distance) w) (sym (loop .inv .sized))) (rw (c .before .enum-told .given .1) at (shift-stage .ensures))
 
 same-length-4 : tie.Need-same-length-4 Inv-loop μ-loop
 same-length-4 c = c .before .loop .inv .netSized
@@ -99,23 +84,5 @@ returns-2 c = staging-end _ _ _ _ _ _ _ _ _ _ _ _ (c .before .loop .inv) (c .loo
 pub shift-stages-spec : {M : Type 1} → statement M
 shift-stages-spec =
     tie.close
-    (tie.spec
-    Inv-loop
-    μ-loop
-    loop-holds
-    mul-shift-stage
-    shared-slice-read-shift-stage
-    shift-stage-requires
-    enum-told
-    same-length
-    same-length-2
-    same-length-3
-    returns
-    shift-distance-requires
-    add-k
-    loop-less
-    loop-again
-    same-length-4
-    same-length-5
-    same-length-6
-    returns-2)
+    (tie.spec Inv-loop μ-loop loop-holds (λ c. omega arith) (λ c. omega arith) shift-stage-requires (λ c. search needs) same-length same-length-2
+    same-length-3 returns shift-distance-requires (λ c. omega arith) (λ c. omega arith) loop-again same-length-4 same-length-5 same-length-6 returns-2)

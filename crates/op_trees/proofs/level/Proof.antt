@@ -57,12 +57,6 @@ add-gate-requires c κs =
     let loop = c .before .before .before .before .before .loop in
     loop .inv .held
 
-enum-known-x : tie.Need-enum-known-x Inv-loop μ-loop
-enum-known-x c = search needs
-
-refusal-requires : tie.Need-refusal-requires Inv-loop μ-loop
-refusal-requires c κs = search needs
-
 same-length : tie.Need-same-length Inv-loop μ-loop
 same-length c =
     let add-gate = c .before .before .before .before .before .before .add-gate in
@@ -102,9 +96,6 @@ add-i c =
     let loop = c .before .before .before .before .before .before .before .before .before .before .before .before .before .loop in
     omega (arith, loop .inv .sized)
 
-loop-less : tie.Need-loop-less Inv-loop μ-loop
-loop-less c = omega arith
-
 loop-again : tie.Need-loop-again Inv-loop μ-loop
 loop-again c =
     let add-gate = c .before .before .before .before .before .before .before .add-gate in
@@ -112,9 +103,6 @@ loop-again c =
     let s = c .before .before .before .before .before .before .before .before .before .before .before .before .before .before .before .before .before .args in
     let pre = c .before .before .before .before .before .before .before .before .before .before .before .before .before .before .before .before .before .pre in
     level-more (gateOf (s .g)) _ _ _ _ _ _ _ _ _ (pre .2) (omega arith) (omega arith) (loop .inv) _ _ _ (omega arith) (add-gate .kept .0) (rw (c .before .x .given .1) at (add-gate .ensures))
-
-sub-xs : tie.Need-sub-xs Inv-loop μ-loop
-sub-xs c = omega arith
 
 mul-xs-2 : tie.Need-mul-xs-2 Inv-loop μ-loop
 mul-xs-2 c = omega (arith, c .before .loop .inv .sized)
@@ -147,35 +135,7 @@ returns-2 c =
 pub level-spec : {M : Type 1} → statement M
 level-spec =
     tie.close
-    (tie.spec
-    Inv-loop
-    μ-loop
-    loop-holds
-    mul-add-gate
-    mul-add-gate-2
-    slice-read-add-gate
-    mul-add-gate-3
-    add-add-gate
-    mul-add-gate-4
-    slice-read-add-gate-2
-    add-gate-requires
-    enum-known-x
-    refusal-requires
-    same-length
-    same-length-2
-    same-length-3
-    returns
-    mul-xs
-    slice-write-xs
-    add-i
-    loop-less
-    loop-again
-    sub-xs
-    mul-xs-2
-    slice-read-xs
-    mul-xs-3
-    slice-write-xs-2
-    same-length-4
-    same-length-5
-    same-length-6
-    returns-2)
+    (tie.spec Inv-loop μ-loop loop-holds mul-add-gate mul-add-gate-2 slice-read-add-gate mul-add-gate-3 add-add-gate mul-add-gate-4
+    slice-read-add-gate-2 add-gate-requires (λ c. search needs) (λ c κs. search needs) same-length same-length-2 same-length-3 returns mul-xs
+    slice-write-xs add-i (λ c. omega arith) loop-again (λ c. omega arith) mul-xs-2 slice-read-xs mul-xs-3 slice-write-xs-2 same-length-4 same-length-5
+    same-length-6 returns-2)

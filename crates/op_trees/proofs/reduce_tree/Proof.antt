@@ -26,9 +26,6 @@ level-requires c κs =
     let loop = c .before .before .before .before .loop in
     (loop .inv .held, c .before .before .before .loop-test .taken, loop .inv .within)
 
-enum-told : tie.Need-enum-told Inv-loop μ-loop
-enum-told c = search needs
-
 same-length : tie.Need-same-length Inv-loop μ-loop
 same-length c =
     let level = c .before .before .before .before .before .before .before .level in
@@ -60,9 +57,6 @@ add-len c =
     let loop = c .before .before .before .before .before .before .before .before .before .before .before .before .before .loop in
     omega (arith, loop .inv .within)
 
-loop-less : tie.Need-loop-less Inv-loop μ-loop
-loop-less c = omega arith
-
 loop-again : tie.Need-loop-again Inv-loop μ-loop
 loop-again c =
     let level = c .before .before .before .before .before .before .before .before .level in
@@ -89,20 +83,5 @@ returns-2 c =
 pub reduce-tree-spec : {M : Type 1} → statement M
 reduce-tree-spec =
     tie.close
-    (tie.spec
-    Inv-loop
-    μ-loop
-    loop-holds
-    level-requires
-    enum-told
-    same-length
-    same-length-2
-    same-length-3
-    returns
-    add-len
-    loop-less
-    loop-again
-    same-length-4
-    same-length-5
-    same-length-6
-    returns-2)
+    (tie.spec Inv-loop μ-loop loop-holds level-requires (λ c. search needs) same-length same-length-2 same-length-3 returns add-len (λ c. omega arith)
+    loop-again same-length-4 same-length-5 same-length-6 returns-2)

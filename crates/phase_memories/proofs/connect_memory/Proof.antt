@@ -13,23 +13,11 @@ use Rattle.phase_parts.specs.Steps.{all-ran}
 use Rattle.phase_memory_records.specs.Memories.{memoryWords, MemoryThere}
 use Rattle.phase_memories.proofs.Laws.{memory-there, memory-whole, turn-as}
 
-memory-at-requires : tie.Need-memory-at-requires
-memory-at-requires c κs = search needs
-
 lower-memory-requires : tie.Need-lower-memory-requires
 lower-memory-requires c κs =
     let pre = c .before .before .before .before .before .before .pre in
     let a = c .before .before .before .before .before .before .args in
     (pre .0, pre .1, subst (MemoryThere (a .image .now)) (sym (c .before .before .memory-at .ensures)) (memory-there (a .image .now) (a .k) (pre .0 .accepted) (pre .2)))
-
-enum-told : tie.Need-enum-told
-enum-told c = search needs
-
-same-length : tie.Need-same-length
-same-length c = search needs
-
-same-length-2 : tie.Need-same-length-2
-same-length-2 c = search needs
 
 returns : tie.Need-returns
 returns c =
@@ -51,12 +39,6 @@ push-memory-requires c κs =
     let h = subst (MemoryThere (a .image .now)) (sym (memory-at .ensures)) (memory-there (a .image .now) (a .k) (pre .0 .accepted) (pre .2)) in
     (g .ready, g .sure d, h, memory-whole h g d)
 
-same-length-3 : tie.Need-same-length-3
-same-length-3 c = search needs
-
-same-length-4 : tie.Need-same-length-4
-same-length-4 c = search needs
-
 returns-2 : tie.Need-returns-2
 returns-2 c =
     let enum-told = c .before .before .before .before .before .enum-told in
@@ -70,14 +52,5 @@ returns-2 c =
 pub connect-memory-spec : {M : Type 1} → statement M
 connect-memory-spec =
     tie.close
-    (tie.spec
-    memory-at-requires
-    lower-memory-requires
-    enum-told
-    same-length
-    same-length-2
-    returns
-    push-memory-requires
-    same-length-3
-    same-length-4
-    returns-2)
+    (tie.spec (λ c κs. search needs) lower-memory-requires (λ c. search needs) (λ c. search needs) (λ c. search needs) returns push-memory-requires
+    (λ c. search needs) (λ c. search needs) returns-2)

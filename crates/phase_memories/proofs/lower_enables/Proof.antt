@@ -15,15 +15,6 @@ resolve-signal-bit-requires c κs =
     let pre = c .before .before .before .before .before .before .pre in
     (pre .0, pre .1, pre .2 .writeEnable .there, omega (arith, pre .2 .writeEnable .one))
 
-enum-told : tie.Need-enum-told
-enum-told c = search needs
-
-same-length : tie.Need-same-length
-same-length c = search needs
-
-same-length-2 : tie.Need-same-length-2
-same-length-2 c = search needs
-
 returns : tie.Need-returns
 unfolding portMeans controlMeans
 returns c =
@@ -42,12 +33,6 @@ lower-control-requires c κs =
     let g = gives-one (a .image .now) (a .net .now) (a .scr .now) (Bit (a .p .«write_enable» .signal) 0) _ _ _ (pre .0) (pre .1) (pre .2 .writeEnable .there, omega (arith, pre .2 .writeEnable .one)) (resolve-signal-bit .ensures) in
     (g .ready, g .sure (c .before .before .enum-told .given .1), pre .2 .readEnable)
 
-same-length-3 : tie.Need-same-length-3
-same-length-3 c = search needs
-
-same-length-4 : tie.Need-same-length-4
-same-length-4 c = search needs
-
 returns-2 : tie.Need-returns-2
 unfolding portMeans controlMeans
 returns-2 c =
@@ -61,13 +46,5 @@ returns-2 c =
 pub lower-enables-spec : {M : Type 1} → statement M
 lower-enables-spec =
     tie.close
-    (tie.spec
-    resolve-signal-bit-requires
-    enum-told
-    same-length
-    same-length-2
-    returns
-    lower-control-requires
-    same-length-3
-    same-length-4
-    returns-2)
+    (tie.spec resolve-signal-bit-requires (λ c. search needs) (λ c. search needs) (λ c. search needs) returns lower-control-requires
+    (λ c. search needs) (λ c. search needs) returns-2)

@@ -10,18 +10,6 @@ use Rattle.walk_view.proofs.Answers.{not-done-tag}
 use Rattle.walk_invariant.specs.Steps.{gives-one}
 use Rattle.phase_parts.specs.Steps.{gives-then, gives-out}
 
-lower-words-requires : tie.Need-lower-words-requires
-lower-words-requires c κs = search needs
-
-enum-told : tie.Need-enum-told
-enum-told c = search needs
-
-same-length : tie.Need-same-length
-same-length c = search needs
-
-same-length-2 : tie.Need-same-length-2
-same-length-2 c = search needs
-
 returns : tie.Need-returns
 returns c =
     let lower-words = c .before .before .before .before .before .lower-words in
@@ -35,15 +23,6 @@ resolve-signal-bit-requires c κs =
     let pre = c .before .before .before .before .before .before .before .before .before .before .before .before .before .before .pre in
     let g = lower-words .ensures in
     (g .ready, g .sure (c .before .before .enum-told .given .1), pre .2 .clock .there, omega (arith, pre .2 .clock .one))
-
-enum-told-2 : tie.Need-enum-told-2
-enum-told-2 c = search needs
-
-same-length-3 : tie.Need-same-length-3
-same-length-3 c = search needs
-
-same-length-4 : tie.Need-same-length-4
-same-length-4 c = search needs
 
 returns-2 : tie.Need-returns-2
 unfolding portMeans
@@ -72,12 +51,6 @@ lower-enables-requires c κs =
     let k = gives-one (a .image .now) _ _ (Bit (a .p .clock) 0) _ _ _ (g .ready) (g .sure d) (pre .2 .clock .there, omega (arith, pre .2 .clock .one)) (resolve-signal-bit .ensures) in
     (k .ready, k .sure (c .before .before .enum-told2 .given .1), pre .2)
 
-same-length-5 : tie.Need-same-length-5
-same-length-5 c = search needs
-
-same-length-6 : tie.Need-same-length-6
-same-length-6 c = search needs
-
 returns-3 : tie.Need-returns-3
 unfolding portMeans
 returns-3 c =
@@ -96,18 +69,5 @@ returns-3 c =
 pub lower-first-spec : {M : Type 1} → statement M
 lower-first-spec =
     tie.close
-    (tie.spec
-    lower-words-requires
-    enum-told
-    same-length
-    same-length-2
-    returns
-    resolve-signal-bit-requires
-    enum-told-2
-    same-length-3
-    same-length-4
-    returns-2
-    lower-enables-requires
-    same-length-5
-    same-length-6
-    returns-3)
+    (tie.spec (λ c κs. search needs) (λ c. search needs) (λ c. search needs) (λ c. search needs) returns resolve-signal-bit-requires
+    (λ c. search needs) (λ c. search needs) (λ c. search needs) returns-2 lower-enables-requires (λ c. search needs) (λ c. search needs) returns-3)

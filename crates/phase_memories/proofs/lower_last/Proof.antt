@@ -10,18 +10,6 @@ use Rattle.walk_view.proofs.Answers.{not-done-tag}
 use Rattle.walk_invariant.specs.Steps.{gives-one}
 use Rattle.phase_parts.specs.Steps.{gives-then, gives-out}
 
-lower-words-requires : tie.Need-lower-words-requires
-lower-words-requires c κs = search needs
-
-enum-told : tie.Need-enum-told
-enum-told c = search needs
-
-same-length : tie.Need-same-length
-same-length c = search needs
-
-same-length-2 : tie.Need-same-length-2
-same-length-2 c = search needs
-
 returns : tie.Need-returns
 returns c =
     let lower-words = c .before .before .before .before .before .lower-words in
@@ -34,15 +22,6 @@ lower-enables-requires c κs =
     let pre = c .before .before .before .before .before .before .before .before .before .before .before .before .before .before .pre in
     let g = lower-words .ensures in
     (g .ready, g .sure (c .before .before .enum-told .given .1), pre .2)
-
-enum-told-2 : tie.Need-enum-told-2
-enum-told-2 c = search needs
-
-same-length-3 : tie.Need-same-length-3
-same-length-3 c = search needs
-
-same-length-4 : tie.Need-same-length-4
-same-length-4 c = search needs
 
 returns-2 : tie.Need-returns-2
 returns-2 c =
@@ -61,12 +40,6 @@ resolve-signal-bit-requires c κs =
     let g = lower-enables .ensures in
     (g .ready, g .sure (c .before .before .enum-told2 .given .1), pre .2 .clock .there, omega (arith, pre .2 .clock .one))
 
-same-length-5 : tie.Need-same-length-5
-same-length-5 c = search needs
-
-same-length-6 : tie.Need-same-length-6
-same-length-6 c = search needs
-
 returns-3 : tie.Need-returns-3
 unfolding portMeans
 returns-3 c =
@@ -84,18 +57,5 @@ returns-3 c =
 pub lower-last-spec : {M : Type 1} → statement M
 lower-last-spec =
     tie.close
-    (tie.spec
-    lower-words-requires
-    enum-told
-    same-length
-    same-length-2
-    returns
-    lower-enables-requires
-    enum-told-2
-    same-length-3
-    same-length-4
-    returns-2
-    resolve-signal-bit-requires
-    same-length-5
-    same-length-6
-    returns-3)
+    (tie.spec (λ c κs. search needs) (λ c. search needs) (λ c. search needs) (λ c. search needs) returns lower-enables-requires (λ c. search needs)
+    (λ c. search needs) (λ c. search needs) returns-2 resolve-signal-bit-requires (λ c. search needs) (λ c. search needs) returns-3)

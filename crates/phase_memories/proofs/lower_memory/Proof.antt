@@ -13,15 +13,6 @@ lower-first-requires c κs =
     let pre = c .before .before .before .before .before .before .pre in
     (pre .0, pre .1, pre .2 .first)
 
-enum-told : tie.Need-enum-told
-enum-told c = search needs
-
-same-length : tie.Need-same-length
-same-length c = search needs
-
-same-length-2 : tie.Need-same-length-2
-same-length-2 c = search needs
-
 returns : tie.Need-returns
 unfolding memoryMeans
 returns c =
@@ -37,12 +28,6 @@ lower-second-requires c κs =
     let g = lower-first .ensures in
     (g .ready, g .sure (c .before .before .enum-told .given .1), pre .2 .second)
 
-same-length-3 : tie.Need-same-length-3
-same-length-3 c = search needs
-
-same-length-4 : tie.Need-same-length-4
-same-length-4 c = search needs
-
 returns-2 : tie.Need-returns-2
 unfolding memoryMeans
 returns-2 c =
@@ -54,13 +39,5 @@ returns-2 c =
 pub lower-memory-spec : {M : Type 1} → statement M
 lower-memory-spec =
     tie.close
-    (tie.spec
-    lower-first-requires
-    enum-told
-    same-length
-    same-length-2
-    returns
-    lower-second-requires
-    same-length-3
-    same-length-4
-    returns-2)
+    (tie.spec lower-first-requires (λ c. search needs) (λ c. search needs) (λ c. search needs) returns lower-second-requires (λ c. search needs)
+    (λ c. search needs) returns-2)

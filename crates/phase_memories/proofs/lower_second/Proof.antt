@@ -5,12 +5,6 @@ use Rattle.phase_memories.proofs.lower_second.Tie as tie
 use Rattle.phase_parts.specs.Steps.{gives-none}
 use Rattle.phase_memory_records.specs.Second.{absent-means, present-means}
 
-enum-told : tie.Need-enum-told
-enum-told c = search needs
-
-enum-known-o : tie.Need-enum-known-o
-enum-known-o c = search needs
-
 lower-last-requires : tie.Need-lower-last-requires
 lower-last-requires c κs =
     let o = c .before .before .before .o in
@@ -24,12 +18,6 @@ returns c =
     let a = c .before .before .before .before .before .args in
     rw (absent-means (a .o) (c .enum-told .given .1)) (gives-none (a .image .now) (a .net .now) (a .scr .now) (pre .0) (pre .1))
 
-same-length : tie.Need-same-length
-same-length c = search needs
-
-same-length-2 : tie.Need-same-length-2
-same-length-2 c = search needs
-
 returns-2 : tie.Need-returns-2
 returns-2 c =
     let o = c .before .before .before .before .before .before .before .before .o in
@@ -39,11 +27,4 @@ returns-2 c =
 pub lower-second-spec : {M : Type 1} → statement M
 lower-second-spec =
     tie.close
-    (tie.spec
-    enum-told
-    enum-known-o
-    lower-last-requires
-    returns
-    same-length
-    same-length-2
-    returns-2)
+    (tie.spec (λ c. search needs) (λ c. search needs) lower-last-requires returns (λ c. search needs) (λ c. search needs) returns-2)

@@ -12,15 +12,6 @@ lower-expression-requires c κs =
     let pre = c .before .before .before .before .before .pre in
     (pre .0, pre .1, pre .2 .readAddress .there)
 
-enum-told : tie.Need-enum-told
-enum-told c = search needs
-
-same-length : tie.Need-same-length
-same-length c = search needs
-
-same-length-2 : tie.Need-same-length-2
-same-length-2 c = search needs
-
 returns : tie.Need-returns
 returns c =
     let lower-expression = c .before .before .before .before .before .lower-expression in
@@ -36,15 +27,6 @@ lower-expression-requires-2 c κs =
     let a = c .before .before .before .before .before .before .before .before .before .before .before .before .before .before .args in
     let g = read-given (a .image .now) (a .net .now) (a .scr .now) (a .p) (pre .0) (pre .1) (pre .2) _ _ _ (lower-expression .ensures) in
     (g .ready, g .sure (c .before .before .enum-told .given .1), pre .2 .writeAddress .there)
-
-enum-told-2 : tie.Need-enum-told-2
-enum-told-2 c = search needs
-
-same-length-3 : tie.Need-same-length-3
-same-length-3 c = search needs
-
-same-length-4 : tie.Need-same-length-4
-same-length-4 c = search needs
 
 returns-2 : tie.Need-returns-2
 returns-2 c =
@@ -67,12 +49,6 @@ lower-expression-requires-3 c κs =
     let g = write-given (a .image .now) (a .net .now) (a .scr .now) (a .p) (pre .0) (pre .1) (pre .2) _ _ _ (lower-expression .ensures) (enum-told .given .1) _ _ _ (lower-expression2 .ensures) in
     (g .ready, g .sure (c .before .before .enum-told2 .given .1), pre .2 .writeData)
 
-same-length-5 : tie.Need-same-length-5
-same-length-5 c = search needs
-
-same-length-6 : tie.Need-same-length-6
-same-length-6 c = search needs
-
 returns-3 : tie.Need-returns-3
 returns-3 c =
     let enum-told2 = c .before .before .before .before .before .before .before .enum-told2 in
@@ -87,18 +63,6 @@ returns-3 c =
 pub lower-words-spec : {M : Type 1} → statement M
 lower-words-spec =
     tie.close
-    (tie.spec
-    lower-expression-requires
-    enum-told
-    same-length
-    same-length-2
-    returns
-    lower-expression-requires-2
-    enum-told-2
-    same-length-3
-    same-length-4
-    returns-2
-    lower-expression-requires-3
-    same-length-5
-    same-length-6
+    (tie.spec lower-expression-requires (λ c. search needs) (λ c. search needs) (λ c. search needs) returns lower-expression-requires-2
+    (λ c. search needs) (λ c. search needs) (λ c. search needs) returns-2 lower-expression-requires-3 (λ c. search needs) (λ c. search needs)
     returns-3)

@@ -10,15 +10,6 @@ use Rattle.walk_view.specs.View.{walkState}
 use Rattle.phase_memory_records.specs.Puts.{puts-all, puts-long}
 use Rattle.phase_memory_records.proofs.Laws.{record-good}
 
-slice-aggregate-put-memory : tie.Need-slice-aggregate-put-memory
-slice-aggregate-put-memory c = search needs
-
-put-memory-requires : tie.Need-put-memory-requires
-put-memory-requires c κs = search needs
-
-array-share-prefix-record : tie.Need-array-share-prefix-record
-array-share-prefix-record c = search needs
-
 slice-aggregate-push : tie.Need-slice-aggregate-push
 slice-aggregate-push c =
     let a = c .before .before .before .before .before .before .before .before .args in
@@ -31,9 +22,6 @@ push-requires c κs =
     let g = record-good (decode (a .image .now)) (a .k) (memoryMeans (a .x)) (walkState (a .image .now) (a .net .now) (a .scr .now)) _ (puts-all (c .before .before .before .put-memory .ensures .1 (netlistOf (limitOf (a .scr .now)) (a .net .now)))) in
     (pre .0, pre .1, g .0, g .1, g .2)
 
-same-length : tie.Need-same-length
-same-length c = search needs
-
 returns : tie.Need-returns
 returns c =
     let put-memory = c .before .before .before .before .before .before .put-memory in
@@ -43,11 +31,4 @@ returns c =
 pub push-memory-spec : {M : Type 1} → statement M
 push-memory-spec =
     tie.close
-    (tie.spec
-    slice-aggregate-put-memory
-    put-memory-requires
-    array-share-prefix-record
-    slice-aggregate-push
-    push-requires
-    same-length
-    returns)
+    (tie.spec (λ c. search needs) (λ c κs. search needs) (λ c. search needs) slice-aggregate-push push-requires (λ c. search needs) returns)

@@ -27,21 +27,6 @@ bit-net-requires c κs =
     let pre = c .before .before .before .before .before .before .pre in
     (pre .0, pre .1 .clock .there, omega (arith, pre .1 .clock .one))
 
-low-word-requires : tie.Need-low-word-requires
-low-word-requires c κs = search needs
-
-slice-aggregate-put-words : tie.Need-slice-aggregate-put-words
-slice-aggregate-put-words c = search needs
-
-put-words-requires : tie.Need-put-words-requires
-put-words-requires c κs = search needs
-
-add-result : tie.Need-add-result
-add-result c = search needs
-
-same-length : tie.Need-same-length
-same-length c = search needs
-
 returns : tie.Need-returns
 unfolding portMeans enableMeans
 returns c =
@@ -59,13 +44,5 @@ returns c =
 pub put-controls-spec : {M : Type 1} → statement M
 put-controls-spec =
     tie.close
-    (tie.spec
-    control-words-requires
-    control-words-requires-2
-    bit-net-requires
-    low-word-requires
-    slice-aggregate-put-words
-    put-words-requires
-    add-result
-    same-length
-    returns)
+    (tie.spec control-words-requires control-words-requires-2 bit-net-requires (λ c κs. search needs) (λ c. search needs) (λ c κs. search needs)
+    (λ c. search needs) (λ c. search needs) returns)

@@ -9,29 +9,11 @@ use Rattle.scratch_view.specs.View.{stateOf}
 use Rattle.phase_memory_records.specs.Puts.{puts-sets, puts-then, puts-as}
 use Rattle.phase_memory_records.proofs.Laws.{head, there-first, whole-first, there-second, whole-second, words-one, words-two}
 
-enum-told : tie.Need-enum-told
-enum-told c = search needs
-
-slice-aggregate-put-words : tie.Need-slice-aggregate-put-words
-slice-aggregate-put-words c = search needs
-
-put-words-requires : tie.Need-put-words-requires
-put-words-requires c κs = search needs
-
 put-port-requires : tie.Need-put-port-requires
 put-port-requires c κs =
     let pre = c .before .before .before .before .before .before .before .before .before .before .before .before .pre in
     let a = c .before .before .before .before .before .before .before .before .before .before .before .before .args in
     (pre .0, there-first (a .x) (a .image .now) (pre .1), whole-first (a .x) (a .image .now) (a .scr .now) (pre .2), omega (arith, pre .3, c .before .before .before .put-words .kept .0))
-
-enum-known-second : tie.Need-enum-known-second
-enum-known-second c = search needs
-
-slice-aggregate-put-words-2 : tie.Need-slice-aggregate-put-words-2
-slice-aggregate-put-words-2 c = search needs
-
-put-words-requires-2 : tie.Need-put-words-requires-2
-put-words-requires-2 c κs = search needs
 
 put-port-requires-2 : tie.Need-put-port-requires-2
 put-port-requires-2 c κs =
@@ -54,9 +36,6 @@ put-port-requires-3 c κs =
       omega (arith, pre .3, put-words2 .kept .0, put-port2 .kept .1 .1 .1 .0, put-port2 .ensures .0),
     )
 
-same-length : tie.Need-same-length
-same-length c = search needs
-
 returns : tie.Need-returns
 returns c =
     let put-words = c .before .before .before .before .before .before .put-words in
@@ -67,9 +46,6 @@ returns c =
       λ l. puts-as (words-one (a .x) (enum-told .given .1) (decode (a .image .now)) (a .k) (stateOf (a .image .now) l (a .scr .now)))
           (puts-then (puts-sets (head (a .k) (a .x) 1) _ 0 6 _ (omega (arith, pre .3)) refl (put-words .ensures)) (c .before .before .put-port .ensures .1 l)),
     )
-
-same-length-2 : tie.Need-same-length-2
-same-length-2 c = search needs
 
 returns-2 : tie.Need-returns-2
 returns-2 c =
@@ -88,17 +64,5 @@ returns-2 c =
 pub put-memory-spec : {M : Type 1} → statement M
 put-memory-spec =
     tie.close
-    (tie.spec
-    enum-told
-    slice-aggregate-put-words
-    put-words-requires
-    put-port-requires
-    enum-known-second
-    slice-aggregate-put-words-2
-    put-words-requires-2
-    put-port-requires-2
-    put-port-requires-3
-    same-length
-    returns
-    same-length-2
-    returns-2)
+    (tie.spec (λ c. search needs) (λ c. search needs) (λ c κs. search needs) put-port-requires (λ c. search needs) (λ c. search needs)
+    (λ c κs. search needs) put-port-requires-2 put-port-requires-3 (λ c. search needs) returns (λ c. search needs) returns-2)

@@ -8,27 +8,6 @@ use Rattle.image_records.specs.Others.{portMeans}
 use Rattle.phase_memory_records.specs.Puts.{puts-sets, puts-then, puts-as}
 use Rattle.phase_memory_records.proofs.Laws.{widths-are}
 
-expr-width-requires : tie.Need-expr-width-requires
-expr-width-requires c κs = search needs
-
-signal-width-requires : tie.Need-signal-width-requires
-signal-width-requires c κs = search needs
-
-expr-width-requires-2 : tie.Need-expr-width-requires-2
-expr-width-requires-2 c κs = search needs
-
-expr-width-requires-3 : tie.Need-expr-width-requires-3
-expr-width-requires-3 c κs = search needs
-
-slice-aggregate-put-words : tie.Need-slice-aggregate-put-words
-slice-aggregate-put-words c = search needs
-
-put-words-requires : tie.Need-put-words-requires
-put-words-requires c κs = search needs
-
-add-put-expr : tie.Need-add-put-expr
-add-put-expr c = search needs
-
 put-expr-requires : tie.Need-put-expr-requires
 unfolding portMeans
 put-expr-requires c κs =
@@ -69,9 +48,6 @@ put-expr-requires-3 c κs =
     let n = pre .0 .image .exprMost (a .p .«write_data») (pre .1 .writeData) in
     (pre .0, pre .1 .writeData, pre .2 .writeData, omega (arith, pre .3, pre .1 .readAddress .most, pre .1 .writeAddress .most, m, n, put-words .kept .0, put-expr .kept .1 .1 .1 .0, put-signal .kept .1 .1 .1 .0, put-expr2 .kept .1 .1 .1 .0, put-expr .ensures .0, put-signal .ensures .0, put-expr2 .ensures .0))
 
-same-length : tie.Need-same-length
-same-length c = search needs
-
 returns : tie.Need-returns
 unfolding portMeans
 returns c =
@@ -97,17 +73,5 @@ returns c =
 pub put-nets-spec : {M : Type 1} → statement M
 put-nets-spec =
     tie.close
-    (tie.spec
-    expr-width-requires
-    signal-width-requires
-    expr-width-requires-2
-    expr-width-requires-3
-    slice-aggregate-put-words
-    put-words-requires
-    add-put-expr
-    put-expr-requires
-    put-signal-requires
-    put-expr-requires-2
-    put-expr-requires-3
-    same-length
-    returns)
+    (tie.spec (λ c κs. search needs) (λ c κs. search needs) (λ c κs. search needs) (λ c κs. search needs) (λ c. search needs) (λ c κs. search needs)
+    (λ c. search needs) put-expr-requires put-signal-requires put-expr-requires-2 put-expr-requires-3 (λ c. search needs) returns)

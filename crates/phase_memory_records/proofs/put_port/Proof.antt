@@ -9,15 +9,6 @@ use Rattle.image_records.specs.Others.{portMeans}
 use Rattle.phase_memory_records.specs.Puts.{puts-then, puts-as}
 use Rattle.phase_memory_records.proofs.Laws.{port-parts}
 
-put-nets-requires : tie.Need-put-nets-requires
-put-nets-requires c κs = search needs
-
-put-controls-requires : tie.Need-put-controls-requires
-put-controls-requires c κs = search needs
-
-same-length : tie.Need-same-length
-same-length c = search needs
-
 returns : tie.Need-returns
 returns c =
     let put-nets = c .before .before .before .before .before .before .put-nets in
@@ -27,4 +18,4 @@ returns c =
     )
 
 pub put-port-spec : {M : Type 1} → statement M
-put-port-spec = tie.close (tie.spec put-nets-requires put-controls-requires same-length returns)
+put-port-spec = tie.close (tie.spec (λ c κs. search needs) (λ c κs. search needs) (λ c. search needs) returns)

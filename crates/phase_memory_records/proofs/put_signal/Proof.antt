@@ -6,21 +6,6 @@ use native.Mathlib.Omega.{arith}
 use mathlib.Core.Path.{refl}
 use Rattle.phase_memory_records.proofs.Laws.{signal-put}
 
-signal-width-requires : tie.Need-signal-width-requires
-signal-width-requires c κs = search needs
-
-copy-signal-requires : tie.Need-copy-signal-requires
-copy-signal-requires c κs = search needs
-
-cast-result : tie.Need-cast-result
-cast-result c = search needs
-
-add-result : tie.Need-add-result
-add-result c = search needs
-
-same-length : tie.Need-same-length
-same-length c = search needs
-
 returns : tie.Need-returns
 returns c =
     let signal-width = c .before .before .before .before .signal-width in
@@ -31,10 +16,4 @@ returns c =
 pub put-signal-spec : {M : Type 1} → statement M
 put-signal-spec =
     tie.close
-    (tie.spec
-    signal-width-requires
-    copy-signal-requires
-    cast-result
-    add-result
-    same-length
-    returns)
+    (tie.spec (λ c κs. search needs) (λ c κs. search needs) (λ c. search needs) (λ c. search needs) (λ c. search needs) returns)

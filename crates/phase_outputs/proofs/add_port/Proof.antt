@@ -10,18 +10,6 @@ use Rattle.scratch_view.specs.View.{limitOf}
 use Rattle.scratch_view.specs.Bounds.{signals-long}
 use Rattle.phase_outputs.proofs.Laws.{copied, port-made}
 
-slice-aggregate-copy-signal : tie.Need-slice-aggregate-copy-signal
-slice-aggregate-copy-signal c = search needs
-
-copy-signal-requires : tie.Need-copy-signal-requires
-copy-signal-requires c κs = search needs
-
-shared-slice-read-limit : tie.Need-shared-slice-read-limit
-shared-slice-read-limit c = search needs
-
-array-share-prefix-nets : tie.Need-array-share-prefix-nets
-array-share-prefix-nets c = search needs
-
 slice-aggregate-add-output-port : tie.Need-slice-aggregate-add-output-port
 slice-aggregate-add-output-port c =
     let pre = c .before .before .before .before .before .before .before .before .before .pre in
@@ -38,12 +26,6 @@ add-output-port-requires c κs =
     let long = signals-long (a .image .now) (a .scr .now) l (a .p) 0 (a .n) (pre .2) (omega (arith, pre .3)) in
     (pre .0 .held .built, omega (arith, ap length (copied _ _ (a .n) (pre .4) long (c .before .before .before .before .copy-signal .ensures l)), long, pre .4))
 
-answer-requires : tie.Need-answer-requires
-answer-requires c κs = search needs
-
-same-length : tie.Need-same-length
-same-length c = search needs
-
 returns : tie.Need-returns
 returns c =
     let add-output-port = c .before .before .before .add-output-port in
@@ -59,13 +41,5 @@ returns c =
 pub add-port-spec : {M : Type 1} → statement M
 add-port-spec =
     tie.close
-    (tie.spec
-    slice-aggregate-copy-signal
-    copy-signal-requires
-    shared-slice-read-limit
-    array-share-prefix-nets
-    slice-aggregate-add-output-port
-    add-output-port-requires
-    answer-requires
-    same-length
-    returns)
+    (tie.spec (λ c. search needs) (λ c κs. search needs) (λ c. search needs) (λ c. search needs) slice-aggregate-add-output-port
+    add-output-port-requires (λ c κs. search needs) (λ c. search needs) returns)

@@ -6,18 +6,6 @@ use Rattle.walk_view.specs.View.{walkState}
 use Rattle.phase_parts.specs.Ran.{ran-as, ran-none}
 use Rattle.phase_outputs.proofs.Laws.{width-is, internal, input, output}
 
-signal-at-requires : tie.Need-signal-at-requires
-signal-at-requires c κs = search needs
-
-enum-told : tie.Need-enum-told
-enum-told c = search needs
-
-enum-told-2 : tie.Need-enum-told-2
-enum-told-2 c = search needs
-
-enum-told-3 : tie.Need-enum-told-3
-enum-told-3 c = search needs
-
 connect-port-requires : tie.Need-connect-port-requires
 connect-port-requires c κs =
     let signal-at = c .before .before .before .before .signal-at in
@@ -37,12 +25,6 @@ returns-2 c =
     let a = c .before .before .before .before .before .before .args in
     ran-as (input (a .image .now) (a .p) (c .before .before .signal-at .result) (c .before .before .signal-at .ensures) (walkState (a .image .now) (a .net .now) (a .scr .now)) (c .enum-told2 .given .1)) (ran-none (a .image .now) (a .net .now) (a .scr .now) (pre .0) (pre .1))
 
-same-length : tie.Need-same-length
-same-length c = search needs
-
-same-length-2 : tie.Need-same-length-2
-same-length-2 c = search needs
-
 returns-3 : tie.Need-returns-3
 returns-3 c =
     let enum-told3 = c .before .before .before .before .before .before .before .enum-told3 in
@@ -53,14 +35,5 @@ returns-3 c =
 pub connect-output-spec : {M : Type 1} → statement M
 connect-output-spec =
     tie.close
-    (tie.spec
-    signal-at-requires
-    enum-told
-    enum-told-2
-    enum-told-3
-    connect-port-requires
-    returns
-    returns-2
-    same-length
-    same-length-2
-    returns-3)
+    (tie.spec (λ c κs. search needs) (λ c. search needs) (λ c. search needs) (λ c. search needs) connect-port-requires returns returns-2
+    (λ c. search needs) (λ c. search needs) returns-3)

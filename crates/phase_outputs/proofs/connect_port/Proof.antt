@@ -10,18 +10,6 @@ use Rattle.phase_parts.specs.Steps.{all-ran, gives-after}
 use Rattle.walk_view.proofs.Answers.{not-done-tag}
 use Rattle.phase_outputs.specs.Outputs.{portTurn}
 
-resolve-signal-requires : tie.Need-resolve-signal-requires
-resolve-signal-requires c κs = search needs
-
-enum-told : tie.Need-enum-told
-enum-told c = search needs
-
-same-length : tie.Need-same-length
-same-length c = search needs
-
-same-length-2 : tie.Need-same-length-2
-same-length-2 c = search needs
-
 returns : tie.Need-returns
 returns c =
     let resolve-signal = c .before .before .before .before .before .resolve-signal in
@@ -41,12 +29,6 @@ add-port-requires c κs =
       gives-after (pre .0 .accepted) (pre .1) (bits-asked (decode (a .image .now)) (a .p) 0 (a .n)) (g .ensures) (c .before .before .enum-told .given .1),
     )
 
-same-length-3 : tie.Need-same-length-3
-same-length-3 c = search needs
-
-same-length-4 : tie.Need-same-length-4
-same-length-4 c = search needs
-
 returns-2 : tie.Need-returns-2
 returns-2 c =
     let enum-told = c .before .before .before .before .before .enum-told in
@@ -57,13 +39,5 @@ returns-2 c =
 pub connect-port-spec : {M : Type 1} → statement M
 connect-port-spec =
     tie.close
-    (tie.spec
-    resolve-signal-requires
-    enum-told
-    same-length
-    same-length-2
-    returns
-    add-port-requires
-    same-length-3
-    same-length-4
-    returns-2)
+    (tie.spec (λ c κs. search needs) (λ c. search needs) (λ c. search needs) (λ c. search needs) returns add-port-requires (λ c. search needs)
+    (λ c. search needs) returns-2)

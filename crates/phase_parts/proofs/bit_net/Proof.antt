@@ -9,15 +9,6 @@ use Rattle.scratch_tables.specs.Answers.{knownOf}
 use Rattle.scratch_tables.specs.declared.Known.{Known}
 use Rattle.phase_parts.proofs.Laws.{net-is}
 
-signal-net-requires : tie.Need-signal-net-requires
-signal-net-requires c κs = search needs
-
-enum-known-n : tie.Need-enum-known-n
-enum-known-n c = search needs
-
-enum-told : tie.Need-enum-told
-enum-told c = search needs
-
 returns : tie.Need-returns
 returns c =
     let a = c .before .before .before .before .before .before .args in
@@ -31,4 +22,4 @@ returns-2 c =
     λ l. net-is (stateOf (a .image .now) l (a .scr .now)) (a .p) (a .b) _ (x .result) (x .ensures l) (ap (λ (y : Known). netOf (knownOf y)) (c .enum-told .given .1))
 
 pub bit-net-spec : {M : Type 1} → statement M
-bit-net-spec = tie.close (tie.spec signal-net-requires enum-known-n enum-told returns returns-2)
+bit-net-spec = tie.close (tie.spec (λ c κs. search needs) (λ c. search needs) (λ c. search needs) returns returns-2)

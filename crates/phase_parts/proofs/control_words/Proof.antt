@@ -7,21 +7,12 @@ use Rattle.scratch_view.specs.View.{stateOf}
 use Rattle.phase_parts.specs.Parts.{there-present}
 use Rattle.phase_parts.proofs.Laws.{control-absent, control-present}
 
-enum-told : tie.Need-enum-told
-enum-told c = search needs
-
-enum-known-e : tie.Need-enum-known-e
-enum-known-e c = search needs
-
 bit-net-requires : tie.Need-bit-net-requires
 bit-net-requires c κs =
     let pre = c .before .before .before .before .before .pre in
     let a = c .before .before .before .before .before .args in
     let h = there-present (a .e) (a .image .now) (c .before .e .given .0 .0) (c .before .e .given .1) (pre .1) in
     (pre .0, h .there, omega (arith, h .one))
-
-low-word-requires : tie.Need-low-word-requires
-low-word-requires c κs = search needs
 
 returns : tie.Need-returns
 returns c =
@@ -35,6 +26,4 @@ returns-2 c =
     λ l. control-present (stateOf (a .image .now) l (a .scr .now)) (a .e) (e .given .0 .0) _ _ (e .given .1) (c .before .bit-net .ensures l) (c .low-word .ensures)
 
 pub control-words-spec : {M : Type 1} → statement M
-control-words-spec =
-    tie.close
-    (tie.spec enum-told enum-known-e bit-net-requires low-word-requires returns returns-2)
+control-words-spec = tie.close (tie.spec (λ c. search needs) (λ c. search needs) bit-net-requires (λ c κs. search needs) returns returns-2)

@@ -13,15 +13,6 @@ use Rattle.phase_parts.specs.Ran.{ran-as}
 use Rattle.phase_register_records.proofs.Laws.{register-reset, reset-is, there-reset, wide-reset, whole-reset}
 use Rattle.phase_register_records.specs.Resets.{absent-means}
 
-enum-told : tie.Need-enum-told
-enum-told c = search needs
-
-push-register-requires : tie.Need-push-register-requires
-push-register-requires c κs = search needs
-
-enum-known-o : tie.Need-enum-known-o
-enum-known-o c = search needs
-
 push-reset-requires : tie.Need-push-reset-requires
 push-reset-requires c κs =
     let pre = c .before .before .before .before .before .before .before .pre in
@@ -30,17 +21,11 @@ push-reset-requires c κs =
     let q = c .before .before .o .given .1 in
     (pre .0, pre .1, pre .2, pre .3, pre .4, there-reset (a .x) y q (a .image .now) (pre .2), omega (arith, pre .4, wide-reset (a .x) y q (a .image .now) (pre .2)), whole-reset (a .x) y q (a .image .now) (a .scr .now) (pre .3))
 
-same-length : tie.Need-same-length
-same-length c = search needs
-
 returns : tie.Need-returns
 returns c =
     let a = c .before .before .before .before .before .before .before .before .before .args in
     ran-as (ap (λ (o : Option R.Reset). registerBit o (a .k) (registerMeans (a .x)) (a .b) (walkState (a .image .now) (a .net .now) (a .scr .now)))
     (register-reset (a .x) ∙ absent-means (a .x .reset) (c .before .before .before .before .enum-told .given .1))) (c .before .before .push-register .ensures)
-
-same-length-2 : tie.Need-same-length-2
-same-length-2 c = search needs
 
 returns-2 : tie.Need-returns-2
 returns-2 c =
@@ -52,12 +37,5 @@ returns-2 c =
 pub push-bit-spec : {M : Type 1} → statement M
 push-bit-spec =
     tie.close
-    (tie.spec
-    enum-told
-    push-register-requires
-    enum-known-o
-    push-reset-requires
-    same-length
-    returns
-    same-length-2
+    (tie.spec (λ c. search needs) (λ c κs. search needs) (λ c. search needs) push-reset-requires (λ c. search needs) returns (λ c. search needs)
     returns-2)

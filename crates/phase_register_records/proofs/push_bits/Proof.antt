@@ -23,9 +23,6 @@ Inv-loop image net₀ scr k x n b₀ net b =
 abbrev μ-loop : tie.MeasureT-loop
 μ-loop image net₀ scr k x n b₀ net b = n - b
 
-signal-width-requires : tie.Need-signal-width-requires Inv-loop μ-loop
-signal-width-requires c κs = search needs
-
 loop-holds : tie.Need-loop-holds Inv-loop μ-loop
 unfolding registerMeans
 loop-holds c =
@@ -41,12 +38,6 @@ push-bit-requires c κs =
     let q = c .before .before .loop in
     (q .inv .0 .ready, q .inv .1, pre .2, pre .3, omega (arith, c .before .loop-test .taken, c .before .before .before .signal-width .ensures))
 
-enum-told : tie.Need-enum-told Inv-loop μ-loop
-enum-told c = search needs
-
-same-length : tie.Need-same-length Inv-loop μ-loop
-same-length c = search needs
-
 returns : tie.Need-returns Inv-loop μ-loop
 unfolding registerMeans
 returns c =
@@ -55,21 +46,12 @@ returns c =
     let x = not-done-tag (g .result) (c .match .keys2) in
     phase-ran (turning-out _ _ _ _ _ _ _ _ _ (c4 .before .before .loop .inv .0) (g .result) _ _ (c4 .before .loop-test .taken) x (ran-phase (g .ensures))) (λ e. not-done (g .result) x e)
 
-add-b : tie.Need-add-b Inv-loop μ-loop
-add-b c = search needs
-
-loop-less : tie.Need-loop-less Inv-loop μ-loop
-loop-less c = search needs
-
 loop-again : tie.Need-loop-again Inv-loop μ-loop
 unfolding registerMeans
 loop-again c =
     let c4 = c .before .before .before .before in
     let e = c .enum-told .given .1 in
     (turning-more _ _ _ _ _ _ _ _ _ (c4 .before .before .before .loop .inv .0) (c4 .push-bit .result) _ _ (c4 .before .before .loop-test .taken) e (ran-phase (c4 .push-bit .ensures)), c4 .push-bit .ensures .sure e)
-
-same-length-2 : tie.Need-same-length-2 Inv-loop μ-loop
-same-length-2 c = search needs
 
 returns-2 : tie.Need-returns-2 Inv-loop μ-loop
 unfolding registerMeans
@@ -78,17 +60,5 @@ returns-2 c = phase-ran (turning-end _ _ _ _ _ _ _ _ _ (c .before .loop .inv .0)
 pub push-bits-spec : {M : Type 1} → statement M
 push-bits-spec =
     tie.close
-    (tie.spec
-    Inv-loop
-    μ-loop
-    signal-width-requires
-    loop-holds
-    push-bit-requires
-    enum-told
-    same-length
-    returns
-    add-b
-    loop-less
-    loop-again
-    same-length-2
-    returns-2)
+    (tie.spec Inv-loop μ-loop (λ c κs. search needs) loop-holds push-bit-requires (λ c. search needs) (λ c. search needs) returns (λ c. search needs)
+    (λ c. search needs) loop-again (λ c. search needs) returns-2)

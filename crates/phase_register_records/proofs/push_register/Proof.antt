@@ -34,25 +34,16 @@ bit-net-requires-2 c κs =
     let pre = c .before .before .before .before .before .pre in
     (pre .0 .laid, pre .2 .clock .there, omega (arith, pre .2 .clock .one))
 
-low-word-requires : tie.Need-low-word-requires
-low-word-requires c κs = search needs
-
 control-words-requires : tie.Need-control-words-requires
 unfolding registerMeans
 control-words-requires c κs =
     let pre = c .before .before .before .before .before .before .before .pre in
     (pre .0 .laid, pre .2 .enable)
 
-slice-aggregate-push : tie.Need-slice-aggregate-push
-slice-aggregate-push c = search needs
-
 push-requires : tie.Need-push-requires
 push-requires c κs =
     let pre = c .before .before .before .before .before .before .before .before .before .before .pre in
     (pre .0, pre .1, formed-register _ (omega arith), omega arith, omega arith)
-
-same-length : tie.Need-same-length
-same-length c = search needs
 
 returns : tie.Need-returns
 unfolding registerMeans
@@ -72,13 +63,5 @@ returns c =
 pub push-register-spec : {M : Type 1} → statement M
 push-register-spec =
     tie.close
-    (tie.spec
-    bit-net-requires
-    expr-net-requires
-    bit-net-requires-2
-    low-word-requires
-    control-words-requires
-    slice-aggregate-push
-    push-requires
-    same-length
-    returns)
+    (tie.spec bit-net-requires expr-net-requires bit-net-requires-2 (λ c κs. search needs) control-words-requires (λ c. search needs) push-requires
+    (λ c. search needs) returns)

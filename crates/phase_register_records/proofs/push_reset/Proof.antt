@@ -12,36 +12,6 @@ use Rattle.phase_parts.specs.Ran.{ran-as, ran-refused}
 use Rattle.phase_register_records.specs.Registers.{resetOf}
 use Rattle.phase_register_records.proofs.Laws.{bit-other, bit-constant}
 
-expr-net-requires : tie.Need-expr-net-requires
-expr-net-requires c κs = search needs
-
-constant-value-requires : tie.Need-constant-value-requires
-constant-value-requires c κs = search needs
-
-enum-told : tie.Need-enum-told
-enum-told c = search needs
-
-reset-words-requires : tie.Need-reset-words-requires
-reset-words-requires c κs = search needs
-
-push-register-requires : tie.Need-push-register-requires
-push-register-requires c κs = search needs
-
-enum-told-2 : tie.Need-enum-told-2
-enum-told-2 c = search needs
-
-reset-words-requires-2 : tie.Need-reset-words-requires-2
-reset-words-requires-2 c κs = search needs
-
-push-register-requires-2 : tie.Need-push-register-requires-2
-push-register-requires-2 c κs = search needs
-
-enum-told-3 : tie.Need-enum-told-3
-enum-told-3 c = search needs
-
-same-length : tie.Need-same-length
-same-length c = search needs
-
 returns : tie.Need-returns
 returns c =
     let enum-told = c .before .before .before .before .before .enum-told in
@@ -54,9 +24,6 @@ returns c =
     let l = netlistOf n (a .net .now) in
     ran-as (bit-constant (a .k) (a .b) (registerMeans (a .x)) st (resetOf (a .y)) _ (expr-net .ensures .whole l (pre .7)) false _ (rw (enum-told .given .1) at (constant-value .ensures n)) (c .before .before .before .before .reset-words .ensures l)) (c .before .before .push-register .ensures)
 
-same-length-2 : tie.Need-same-length-2
-same-length-2 c = search needs
-
 returns-2 : tie.Need-returns-2
 returns-2 c =
     let enum-told2 = c .before .before .before .before .before .enum-told2 in
@@ -68,9 +35,6 @@ returns-2 c =
     let n = limitOf (a .scr .now) in
     let l = netlistOf n (a .net .now) in
     ran-as (bit-constant (a .k) (a .b) (registerMeans (a .x)) st (resetOf (a .y)) _ (expr-net .ensures .whole l (pre .7)) true _ (rw (enum-told2 .given .1) at (constant-value .ensures n)) (c .before .before .before .before .reset-words2 .ensures l)) (c .before .before .push-register2 .ensures)
-
-same-length-3 : tie.Need-same-length-3
-same-length-3 c = search needs
 
 returns-3 : tie.Need-returns-3
 returns-3 c =
@@ -85,19 +49,6 @@ returns-3 c =
 pub push-reset-spec : {M : Type 1} → statement M
 push-reset-spec =
     tie.close
-    (tie.spec
-    expr-net-requires
-    constant-value-requires
-    enum-told
-    reset-words-requires
-    push-register-requires
-    enum-told-2
-    reset-words-requires-2
-    push-register-requires-2
-    enum-told-3
-    same-length
-    returns
-    same-length-2
-    returns-2
-    same-length-3
+    (tie.spec (λ c κs. search needs) (λ c κs. search needs) (λ c. search needs) (λ c κs. search needs) (λ c κs. search needs) (λ c. search needs)
+    (λ c κs. search needs) (λ c κs. search needs) (λ c. search needs) (λ c. search needs) returns (λ c. search needs) returns-2 (λ c. search needs)
     returns-3)

@@ -6,20 +6,10 @@ use Rattle.scratch_view.specs.View.{stateOf}
 use Rattle.phase_register_records.specs.Registers.{resetOf}
 use Rattle.phase_register_records.proofs.Laws.{four-words}
 
-bit-net-requires : tie.Need-bit-net-requires
-bit-net-requires c κs = search needs
-
-low-word-requires : tie.Need-low-word-requires
-low-word-requires c κs = search needs
-
-bit-word-requires : tie.Need-bit-word-requires
-bit-word-requires c κs = search needs
-
 returns : tie.Need-returns
 returns c =
     let a = c .before .before .before .before .before .before .args in
     λ l. four-words (stateOf (a .image .now) l (a .scr .now)) (resetOf (a .x)) (a .v) _ _ _ (c .before .before .bit-net .ensures l) (c .before .low-word .ensures) (c .bit-word .ensures)
 
 pub reset-words-spec : {M : Type 1} → statement M
-reset-words-spec =
-    tie.close (tie.spec bit-net-requires low-word-requires bit-word-requires returns)
+reset-words-spec = tie.close (tie.spec (λ c κs. search needs) (λ c κs. search needs) (λ c κs. search needs) returns)

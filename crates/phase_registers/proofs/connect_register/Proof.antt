@@ -11,23 +11,11 @@ use Rattle.phase_parts.specs.Steps.{all-ran}
 use Rattle.phase_register_records.specs.Registers.{bitsTurn, There}
 use Rattle.phase_registers.proofs.Laws.{register-there, register-whole, turn-as}
 
-register-at-requires : tie.Need-register-at-requires
-register-at-requires c κs = search needs
-
 lower-register-requires : tie.Need-lower-register-requires
 lower-register-requires c κs =
     let pre = c .before .before .before .before .before .before .pre in
     let a = c .before .before .before .before .before .before .args in
     (pre .0, pre .1, subst (There (a .image .now)) (sym (c .before .before .register-at .ensures)) (register-there (a .image .now) (a .k) (pre .0 .accepted) (pre .2)))
-
-enum-told : tie.Need-enum-told
-enum-told c = search needs
-
-same-length : tie.Need-same-length
-same-length c = search needs
-
-same-length-2 : tie.Need-same-length-2
-same-length-2 c = search needs
 
 returns : tie.Need-returns
 returns c =
@@ -49,12 +37,6 @@ push-bits-requires c κs =
     let h = subst (There (a .image .now)) (sym (register-at .ensures)) (register-there (a .image .now) (a .k) (pre .0 .accepted) (pre .2)) in
     (g .ready, g .sure d, h, register-whole h g d)
 
-same-length-3 : tie.Need-same-length-3
-same-length-3 c = search needs
-
-same-length-4 : tie.Need-same-length-4
-same-length-4 c = search needs
-
 returns-2 : tie.Need-returns-2
 returns-2 c =
     let enum-told = c .before .before .before .before .before .enum-told in
@@ -68,14 +50,5 @@ returns-2 c =
 pub connect-register-spec : {M : Type 1} → statement M
 connect-register-spec =
     tie.close
-    (tie.spec
-    register-at-requires
-    lower-register-requires
-    enum-told
-    same-length
-    same-length-2
-    returns
-    push-bits-requires
-    same-length-3
-    same-length-4
-    returns-2)
+    (tie.spec (λ c κs. search needs) lower-register-requires (λ c. search needs) (λ c. search needs) (λ c. search needs) returns push-bits-requires
+    (λ c. search needs) (λ c. search needs) returns-2)

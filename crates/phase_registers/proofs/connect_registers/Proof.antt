@@ -21,9 +21,6 @@ Inv-loop image net₀ scr₀ n k₀ net scr k =
 abbrev μ-loop : tie.MeasureT-loop
 μ-loop image net₀ scr₀ n k₀ net scr k = n - k
 
-count-requires : tie.Need-count-requires Inv-loop μ-loop
-count-requires c κs = search needs
-
 loop-holds : tie.Need-loop-holds Inv-loop μ-loop
 loop-holds c =
     let s = c .before .before .before .before in
@@ -34,26 +31,11 @@ connect-register-requires c κs =
     let q = c .before .before .before .loop in
     (q .inv .0 .ready, q .inv .1, omega (arith, c .before .before .loop-test .taken, c .before .before .before .before .count .ensures))
 
-enum-told : tie.Need-enum-told Inv-loop μ-loop
-enum-told c = search needs
-
-same-length : tie.Need-same-length Inv-loop μ-loop
-same-length c = search needs
-
-same-length-2 : tie.Need-same-length-2 Inv-loop μ-loop
-same-length-2 c = search needs
-
 returns : tie.Need-returns Inv-loop μ-loop
 returns c =
     let c8 = c .before .before .before .before .before .before .before .before in
     let g = c .before .before .before .before .before .connect-register in
     turning-out _ _ _ _ _ _ _ _ _ (c8 .before .loop .inv .0) (g .result) _ _ (c8 .loop-test .taken) (not-done-tag (g .result) (c .match .keys2)) (ran-phase (g .ensures))
-
-add-k : tie.Need-add-k Inv-loop μ-loop
-add-k c = search needs
-
-loop-less : tie.Need-loop-less Inv-loop μ-loop
-loop-less c = search needs
 
 loop-again : tie.Need-loop-again Inv-loop μ-loop
 loop-again c =
@@ -62,31 +44,11 @@ loop-again c =
     let e = c .enum-told .given .1 in
     (turning-more _ _ _ _ _ _ _ _ _ (c8 .before .before .loop .inv .0) (g .result) _ _ (c8 .before .loop-test .taken) e (ran-phase (g .ensures)), g .ensures .sure e)
 
-same-length-3 : tie.Need-same-length-3 Inv-loop μ-loop
-same-length-3 c = search needs
-
-same-length-4 : tie.Need-same-length-4 Inv-loop μ-loop
-same-length-4 c = search needs
-
 returns-2 : tie.Need-returns-2 Inv-loop μ-loop
 returns-2 c = turning-end _ _ _ _ _ _ _ _ _ (c .before .loop .inv .0) (c .loop-test .left)
 
 pub connect-registers-spec : {M : Type 1} → statement M
 connect-registers-spec =
     tie.close
-    (tie.spec
-    Inv-loop
-    μ-loop
-    count-requires
-    loop-holds
-    connect-register-requires
-    enum-told
-    same-length
-    same-length-2
-    returns
-    add-k
-    loop-less
-    loop-again
-    same-length-3
-    same-length-4
-    returns-2)
+    (tie.spec Inv-loop μ-loop (λ c κs. search needs) loop-holds connect-register-requires (λ c. search needs) (λ c. search needs) (λ c. search needs)
+    returns (λ c. search needs) (λ c. search needs) loop-again (λ c. search needs) (λ c. search needs) returns-2)

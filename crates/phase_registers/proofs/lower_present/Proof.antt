@@ -8,18 +8,6 @@ use Rattle.walk_view.proofs.Answers.{not-done-tag}
 use Rattle.walk_invariant.specs.Steps.{gives-one}
 use Rattle.phase_parts.specs.Steps.{gives-then, gives-out}
 
-lower-expression-requires : tie.Need-lower-expression-requires
-lower-expression-requires c κs = search needs
-
-enum-told : tie.Need-enum-told
-enum-told c = search needs
-
-same-length : tie.Need-same-length
-same-length c = search needs
-
-same-length-2 : tie.Need-same-length-2
-same-length-2 c = search needs
-
 returns : tie.Need-returns
 returns c =
     let lower-expression = c .before .before .before .before .before .lower-expression in
@@ -36,12 +24,6 @@ resolve-signal-bit-requires c κs =
     let g = gives-one (a .image .now) (a .net .now) (a .scr .now) (Whole (a .x .value)) _ _ _ (pre .0) (pre .1) (pre .2 .1) (lower-expression .ensures) in
     (g .ready, g .sure (c .before .before .before .enum-told .given .1), pre .2 .0 .there, omega (arith, pre .2 .0 .one))
 
-same-length-3 : tie.Need-same-length-3
-same-length-3 c = search needs
-
-same-length-4 : tie.Need-same-length-4
-same-length-4 c = search needs
-
 returns-2 : tie.Need-returns-2
 returns-2 c =
     let enum-told = c .before .before .before .before .before .before .before .before .enum-told in
@@ -55,13 +37,5 @@ returns-2 c =
 pub lower-present-spec : {M : Type 1} → statement M
 lower-present-spec =
     tie.close
-    (tie.spec
-    lower-expression-requires
-    enum-told
-    same-length
-    same-length-2
-    returns
-    resolve-signal-bit-requires
-    same-length-3
-    same-length-4
-    returns-2)
+    (tie.spec (λ c κs. search needs) (λ c. search needs) (λ c. search needs) (λ c. search needs) returns resolve-signal-bit-requires
+    (λ c. search needs) (λ c. search needs) returns-2)

@@ -13,15 +13,6 @@ lower-expression-requires c κs =
     let pre = c .before .before .before .before .before .pre in
     (pre .0, pre .1, pre .2 .next .there)
 
-enum-told : tie.Need-enum-told
-enum-told c = search needs
-
-same-length : tie.Need-same-length
-same-length c = search needs
-
-same-length-2 : tie.Need-same-length-2
-same-length-2 c = search needs
-
 returns : tie.Need-returns
 returns c =
     let lower-expression = c .before .before .before .before .before .lower-expression in
@@ -37,15 +28,6 @@ resolve-signal-bit-requires c κs =
     let a = c .before .before .before .before .before .before .before .before .before .before .before .before .before .before .args in
     let g = next-given (a .image .now) (a .net .now) (a .scr .now) (a .x) (pre .0) (pre .1) (pre .2) _ _ _ (lower-expression .ensures) in
     (g .ready, g .sure (c .before .before .enum-told .given .1), pre .2 .clock .there, omega (arith, pre .2 .clock .one))
-
-enum-told-2 : tie.Need-enum-told-2
-enum-told-2 c = search needs
-
-same-length-3 : tie.Need-same-length-3
-same-length-3 c = search needs
-
-same-length-4 : tie.Need-same-length-4
-same-length-4 c = search needs
 
 returns-2 : tie.Need-returns-2
 returns-2 c =
@@ -67,15 +49,6 @@ lower-control-requires c κs =
     let a = c .before .before .before .before .before .before .before .before .before .before .before .before .before .before .before .before .before .before .before .before .before .before .before .args in
     let g = clock-given (a .image .now) (a .net .now) (a .scr .now) (a .x) (pre .0) (pre .1) (pre .2) _ _ _ (lower-expression .ensures) (enum-told .given .1) _ _ _ (resolve-signal-bit .ensures) in
     (g .ready, g .sure (c .before .before .enum-told2 .given .1), pre .2 .enable)
-
-enum-told-3 : tie.Need-enum-told-3
-enum-told-3 c = search needs
-
-same-length-5 : tie.Need-same-length-5
-same-length-5 c = search needs
-
-same-length-6 : tie.Need-same-length-6
-same-length-6 c = search needs
 
 returns-3 : tie.Need-returns-3
 returns-3 c =
@@ -145,23 +118,6 @@ returns-4 c =
 pub lower-register-spec : {M : Type 1} → statement M
 lower-register-spec =
     tie.close
-    (tie.spec
-    lower-expression-requires
-    enum-told
-    same-length
-    same-length-2
-    returns
-    resolve-signal-bit-requires
-    enum-told-2
-    same-length-3
-    same-length-4
-    returns-2
-    lower-control-requires
-    enum-told-3
-    same-length-5
-    same-length-6
-    returns-3
-    lower-reset-requires
-    same-length-7
-    same-length-8
-    returns-4)
+    (tie.spec lower-expression-requires (λ c. search needs) (λ c. search needs) (λ c. search needs) returns resolve-signal-bit-requires
+    (λ c. search needs) (λ c. search needs) (λ c. search needs) returns-2 lower-control-requires (λ c. search needs) (λ c. search needs)
+    (λ c. search needs) returns-3 lower-reset-requires same-length-7 same-length-8 returns-4)

@@ -5,12 +5,6 @@ use Rattle.phase_registers.proofs.lower_reset.Tie as tie
 use Rattle.phase_parts.specs.Steps.{gives-none}
 use Rattle.phase_register_records.specs.Resets.{absent-means, present-means}
 
-enum-told : tie.Need-enum-told
-enum-told c = search needs
-
-enum-known-o : tie.Need-enum-known-o
-enum-known-o c = search needs
-
 lower-present-requires : tie.Need-lower-present-requires
 lower-present-requires c κs =
     let o = c .before .before .before .o in
@@ -24,12 +18,6 @@ returns c =
     let a = c .before .before .before .before .before .args in
     rw (absent-means (a .o) (c .enum-told .given .1)) (gives-none (a .image .now) (a .net .now) (a .scr .now) (pre .0) (pre .1))
 
-same-length : tie.Need-same-length
-same-length c = search needs
-
-same-length-2 : tie.Need-same-length-2
-same-length-2 c = search needs
-
 returns-2 : tie.Need-returns-2
 returns-2 c =
     let o = c .before .before .before .before .before .before .before .before .o in
@@ -39,11 +27,4 @@ returns-2 c =
 pub lower-reset-spec : {M : Type 1} → statement M
 lower-reset-spec =
     tie.close
-    (tie.spec
-    enum-told
-    enum-known-o
-    lower-present-requires
-    returns
-    same-length
-    same-length-2
-    returns-2)
+    (tie.spec (λ c. search needs) (λ c. search needs) lower-present-requires returns (λ c. search needs) (λ c. search needs) returns-2)

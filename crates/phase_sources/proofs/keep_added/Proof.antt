@@ -4,22 +4,10 @@ use Rattle.phase_sources.proofs.keep_added.Statement.{statement}
 use Rattle.phase_sources.proofs.keep_added.Tie as tie
 use Rattle.phase_sources.proofs.Laws.{kept-run, kept-nets, kept-list}
 
-enum-known-x : tie.Need-enum-known-x
-enum-known-x c = search needs
-
 keep-run-requires : tie.Need-keep-run-requires
 keep-run-requires c κs =
     let c4 = c .before .before .before .before in
     (c4 .before .before .pre .0, c4 .before .before .pre .1, c4 .before .before .pre .2, c4 .before .before .pre .3 _ (c .before .before .x .given .1))
-
-enum-told : tie.Need-enum-told
-enum-told c = search needs
-
-enum-told-2 : tie.Need-enum-told-2
-enum-told-2 c = search needs
-
-same-length : tie.Need-same-length
-same-length c = search needs
 
 returns : tie.Need-returns
 returns c =
@@ -40,12 +28,4 @@ returns-3 c =
 pub keep-added-spec : {M : Type 1} → statement M
 keep-added-spec =
     tie.close
-    (tie.spec
-    enum-known-x
-    keep-run-requires
-    enum-told
-    enum-told-2
-    same-length
-    returns
-    returns-2
-    returns-3)
+    (tie.spec (λ c. search needs) keep-run-requires (λ c. search needs) (λ c. search needs) (λ c. search needs) returns returns-2 returns-3)

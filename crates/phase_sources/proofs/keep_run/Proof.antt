@@ -7,18 +7,12 @@ use Prim.Native.Nat.{ℕ, _≤_}
 use lib.ListN.{length, replicate}
 use Rattle.phase_sources.proofs.Laws.{run-taken, run-long, run-small}
 
-slice-aggregate-put-run : tie.Need-slice-aggregate-put-run
-slice-aggregate-put-run c = search needs
-
 put-run-requires : tie.Need-put-run-requires
 put-run-requires c κs =
     let start = c .before .before .before in
     let a = start .args in
     let m = start .pre .0 .image .signalMost (a .p) (start .pre .1) in
     (omega (arith, m, start .pre .2), omega (arith, start .pre .3))
-
-slice-aggregate-keep-signals : tie.Need-slice-aggregate-keep-signals
-slice-aggregate-keep-signals c = search needs
 
 keep-signals-requires : tie.Need-keep-signals-requires
 keep-signals-requires c κs =
@@ -29,9 +23,6 @@ keep-signals-requires c κs =
     let z = c .before .before .before .put-run .ensures in
     (start .pre .0, start .pre .1, start .pre .2, rw z (run-long (replicate 1024 0) (a .first) (a .n) n), rw z (run-small (replicate 1024 0) (a .first) (a .n) n (start .pre .3)))
 
-same-length : tie.Need-same-length
-same-length c = search needs
-
 returns : tie.Need-returns
 returns c =
     let start = c .before .before .before .before .before .before .before .before .before .before in
@@ -41,12 +32,4 @@ returns c =
     rw (c .before .before .before .before .before .before .put-run .ensures, run-taken (replicate 1024 0) (a .first) (a .n) n) at (c .before .before .keep-signals .ensures)
 
 pub keep-run-spec : {M : Type 1} → statement M
-keep-run-spec =
-    tie.close
-    (tie.spec
-    slice-aggregate-put-run
-    put-run-requires
-    slice-aggregate-keep-signals
-    keep-signals-requires
-    same-length
-    returns)
+keep-run-spec = tie.close (tie.spec (λ c. search needs) put-run-requires (λ c. search needs) keep-signals-requires (λ c. search needs) returns)

@@ -5,12 +5,6 @@ use Rattle.phase_sources.proofs.reserve_bits.Tie as tie
 use native.Mathlib.Omega.{arith}
 use Rattle.phase_sources.proofs.Laws.{reserved-bits}
 
-signal-width-requires : tie.Need-signal-width-requires
-signal-width-requires c κs = search needs
-
-slice-read-add-nodes : tie.Need-slice-read-add-nodes
-slice-read-add-nodes c = search needs
-
 add-nodes-requires : tie.Need-add-nodes-requires
 add-nodes-requires c κs =
     let start = c .before .before .before .before .before .before in
@@ -23,12 +17,6 @@ keep-added-requires c κs =
     let g = start .pre .0 in
     (g .laid, start .pre .1, c .before .before .before .before .before .before .signal-width .ensures, λ k e. let b = c .before .before .before .add-nodes .ensures .below k e in omega (arith, b, g .laid .limited))
 
-same-length : tie.Need-same-length
-same-length c = search needs
-
-same-length-2 : tie.Need-same-length-2
-same-length-2 c = search needs
-
 returns : tie.Need-returns
 returns c =
     let start = c .before .before .before .before .before .before .before .before .before .before .before .before .before in
@@ -38,11 +26,4 @@ returns c =
 pub reserve-bits-spec : {M : Type 1} → statement M
 reserve-bits-spec =
     tie.close
-    (tie.spec
-    signal-width-requires
-    slice-read-add-nodes
-    add-nodes-requires
-    keep-added-requires
-    same-length
-    same-length-2
-    returns)
+    (tie.spec (λ c κs. search needs) (λ c. search needs) add-nodes-requires keep-added-requires (λ c. search needs) (λ c. search needs) returns)

@@ -18,17 +18,11 @@ Inv-loop image net₀ scr₀ count k₀ net scr k = Turning (reserveMemories (de
 abbrev μ-loop : tie.MeasureT-loop
 μ-loop image net₀ scr₀ count k₀ net scr k = count - k
 
-count-requires : tie.Need-count-requires Inv-loop μ-loop
-count-requires c κs = search needs
-
 loop-holds : tie.Need-loop-holds Inv-loop μ-loop
 loop-holds c = turning-start _ _ _ _ _ _ _ (c .count .ensures) (memories-turn (c .before .before .before .before .args .image .now) _) (c .before .before .before .before .pre)
 
 reserve-memory-requires : tie.Need-reserve-memory-requires Inv-loop μ-loop
 reserve-memory-requires c κs = (c .before .before .before .loop .inv .ready, rw (c .before .before .before .before .count .ensures) at (c .before .before .loop-test .taken))
-
-enum-told : tie.Need-enum-told Inv-loop μ-loop
-enum-told c = search needs
 
 same-length : tie.Need-same-length Inv-loop μ-loop
 same-length c =
@@ -48,12 +42,6 @@ returns c =
     let c8 = c4 .before .before .before .before in
     turning-out _ _ _ _ _ _ _ _ _ (c8 .before .loop .inv) (c4 .before .reserve-memory .result) _ _ (c8 .loop-test .taken) (not-done-tag (c4 .before .reserve-memory .result) (c .match .keys2)) (c4 .before .reserve-memory .ensures)
 
-add-k : tie.Need-add-k Inv-loop μ-loop
-add-k c = omega arith
-
-loop-less : tie.Need-loop-less Inv-loop μ-loop
-loop-less c = omega arith
-
 loop-again : tie.Need-loop-again Inv-loop μ-loop
 loop-again c =
     let c4 = c .before .before .before .before in
@@ -72,19 +60,5 @@ returns-2 c = turning-end _ _ _ _ _ _ _ _ _ (c .before .loop .inv) (c .loop-test
 pub reserve-memories-spec : {M : Type 1} → statement M
 reserve-memories-spec =
     tie.close
-    (tie.spec
-    Inv-loop
-    μ-loop
-    count-requires
-    loop-holds
-    reserve-memory-requires
-    enum-told
-    same-length
-    same-length-2
-    returns
-    add-k
-    loop-less
-    loop-again
-    same-length-3
-    same-length-4
-    returns-2)
+    (tie.spec Inv-loop μ-loop (λ c κs. search needs) loop-holds reserve-memory-requires (λ c. search needs) same-length same-length-2 returns
+    (λ c. omega arith) (λ c. omega arith) loop-again same-length-3 same-length-4 returns-2)

@@ -8,23 +8,11 @@ use Rattle.net_index.specs.Index.{isGate}
 use Rattle.walk_view.proofs.Answers.{not-done-tag}
 use Rattle.phase_sources.proofs.Laws.{first-there, memory-out, memory-both}
 
-record-field-requires : tie.Need-record-field-requires
-record-field-requires c κs = search needs
-
 reserve-bits-requires : tie.Need-reserve-bits-requires
 unfolding isGate
 reserve-bits-requires c κs =
     let start = c .before .before .before .before .before .before in
     (start .pre .0, rw (c .before .before .record-field .ensures) (first-there (start .args .image .now) (start .args .k) (start .pre .0 .accepted) (start .pre .1)), refl, omega arith)
-
-enum-told : tie.Need-enum-told
-enum-told c = search needs
-
-same-length : tie.Need-same-length
-same-length c = search needs
-
-same-length-2 : tie.Need-same-length-2
-same-length-2 c = search needs
 
 returns : tie.Need-returns
 returns c =
@@ -33,9 +21,6 @@ returns c =
     let c12 = c8 .before .before .before .before in
     memory-out _ _ _ _ _ (c12 .args .k) _ _ (c8 .record-field .ensures) (c4 .before .reserve-bits .ensures) (not-done-tag (c4 .before .reserve-bits .result) (c .match .keys2))
 
-signal-width-requires : tie.Need-signal-width-requires
-signal-width-requires c κs = search needs
-
 reserve-second-requires : tie.Need-reserve-second-requires
 reserve-second-requires c κs =
     let start = c .before .before .before .before .before .before .before .before .before .before .before .before .before .before .before .before in
@@ -43,12 +28,6 @@ reserve-second-requires c κs =
     let t = first-there (a .image .now) (a .k) (start .pre .0 .accepted) (start .pre .1) in
     let m = start .pre .0 .laid .image .signalMost _ t in
     (c .before .before .before .before .before .before .before .before .before .reserve-bits .ensures .ready, start .pre .1, rw (c .before .before .signal-width .ensures, c .before .before .before .before .before .before .before .before .before .before .before .before .record-field .ensures) m)
-
-same-length-3 : tie.Need-same-length-3
-same-length-3 c = search needs
-
-same-length-4 : tie.Need-same-length-4
-same-length-4 c = search needs
 
 returns-2 : tie.Need-returns-2
 returns-2 c =
@@ -60,15 +39,5 @@ returns-2 c =
 pub reserve-memory-spec : {M : Type 1} → statement M
 reserve-memory-spec =
     tie.close
-    (tie.spec
-    record-field-requires
-    reserve-bits-requires
-    enum-told
-    same-length
-    same-length-2
-    returns
-    signal-width-requires
-    reserve-second-requires
-    same-length-3
-    same-length-4
-    returns-2)
+    (tie.spec (λ c κs. search needs) reserve-bits-requires (λ c. search needs) (λ c. search needs) (λ c. search needs) returns (λ c κs. search needs)
+    reserve-second-requires (λ c. search needs) (λ c. search needs) returns-2)

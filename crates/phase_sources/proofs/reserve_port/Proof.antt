@@ -5,9 +5,6 @@ use Rattle.phase_sources.proofs.reserve_port.Tie as tie
 use native.Mathlib.Omega.{arith}
 use Rattle.phase_sources.proofs.Laws.{reserved}
 
-slice-read-add-input-port : tie.Need-slice-read-add-input-port
-slice-read-add-input-port c = search needs
-
 add-input-port-requires : tie.Need-add-input-port-requires
 add-input-port-requires c κs =
     let start = c .before .before .before .before .before in
@@ -20,12 +17,6 @@ keep-added-requires c κs =
     let g = start .pre .0 in
     (g .laid, start .pre .1, start .pre .2, λ k e. let b = c .before .before .before .add-input-port .ensures .below k e in omega (arith, b, g .laid .limited))
 
-same-length : tie.Need-same-length
-same-length c = search needs
-
-same-length-2 : tie.Need-same-length-2
-same-length-2 c = search needs
-
 returns : tie.Need-returns
 returns c =
     let c4 = c .before .before .before .before in
@@ -36,10 +27,4 @@ returns c =
 pub reserve-port-spec : {M : Type 1} → statement M
 reserve-port-spec =
     tie.close
-    (tie.spec
-    slice-read-add-input-port
-    add-input-port-requires
-    keep-added-requires
-    same-length
-    same-length-2
-    returns)
+    (tie.spec (λ c. search needs) add-input-port-requires keep-added-requires (λ c. search needs) (λ c. search needs) returns)

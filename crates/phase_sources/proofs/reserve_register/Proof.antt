@@ -7,21 +7,12 @@ use mathlib.Core.Path.{refl, _∙_}
 use Rattle.net_index.specs.Index.{isGate}
 use Rattle.phase_sources.proofs.Laws.{register-target}
 
-record-field-requires : tie.Need-record-field-requires
-record-field-requires c κs = search needs
-
 reserve-bits-requires : tie.Need-reserve-bits-requires
 unfolding isGate
 reserve-bits-requires c κs =
     let start = c .before .before .before .before .before .before in
     let g = start .pre .0 .accepted .registers (start .args .k) (start .pre .1) in
     (start .pre .0, rw (c .before .before .record-field .ensures) (g .rest .there), refl, omega arith)
-
-same-length : tie.Need-same-length
-same-length c = search needs
-
-same-length-2 : tie.Need-same-length-2
-same-length-2 c = search needs
 
 returns : tie.Need-returns
 returns c =
@@ -30,6 +21,4 @@ returns c =
     rw (c4 .before .before .before .record-field .ensures ∙ register-target (c8 .before .before .before .args .image .now) (c8 .before .before .before .args .k)) at (c4 .reserve-bits .ensures)
 
 pub reserve-register-spec : {M : Type 1} → statement M
-reserve-register-spec =
-    tie.close
-    (tie.spec record-field-requires reserve-bits-requires same-length same-length-2 returns)
+reserve-register-spec = tie.close (tie.spec (λ c κs. search needs) reserve-bits-requires (λ c. search needs) (λ c. search needs) returns)

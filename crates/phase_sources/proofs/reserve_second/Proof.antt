@@ -7,16 +7,10 @@ use mathlib.Core.Path.{refl, sym, _∙_}
 use Rattle.net_index.specs.Index.{isGate}
 use Rattle.phase_sources.proofs.Laws.{second-none, second-there, second-some}
 
-record-field-requires : tie.Need-record-field-requires
-record-field-requires c κs = search needs
-
 returns : tie.Need-returns
 returns c =
     let start = c .before .before .before .before .before in
     second-none _ _ _ (start .args .k) (start .args .b) (sym (c .before .record-field .ensures) ∙ c .if1 .taken) (start .pre .0)
-
-record-field-requires-2 : tie.Need-record-field-requires-2
-record-field-requires-2 c κs = search needs
 
 reserve-bits-requires : tie.Need-reserve-bits-requires
 unfolding isGate
@@ -25,12 +19,6 @@ reserve-bits-requires c κs =
     let a = start .args in
     let t = second-there (a .image .now) (a .net .now) (a .scr .now) (a .k) (a .b) (λ e. c .before .before .before .if1 .left (c .before .before .before .before .record-field .ensures ∙ e)) (start .pre .0 .accepted) (start .pre .1) in
     (start .pre .0, rw (c .before .before .record-field2 .ensures) t, refl, omega (arith, start .pre .2))
-
-same-length : tie.Need-same-length
-same-length c = search needs
-
-same-length-2 : tie.Need-same-length-2
-same-length-2 c = search needs
 
 returns-2 : tie.Need-returns-2
 returns-2 c =
@@ -42,11 +30,4 @@ returns-2 c =
 pub reserve-second-spec : {M : Type 1} → statement M
 reserve-second-spec =
     tie.close
-    (tie.spec
-    record-field-requires
-    returns
-    record-field-requires-2
-    reserve-bits-requires
-    same-length
-    same-length-2
-    returns-2)
+    (tie.spec (λ c κs. search needs) returns (λ c κs. search needs) reserve-bits-requires (λ c. search needs) (λ c. search needs) returns-2)

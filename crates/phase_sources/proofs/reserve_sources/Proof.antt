@@ -5,32 +5,8 @@ use Rattle.phase_sources.proofs.reserve_sources.Tie as tie
 use Rattle.walk_view.proofs.Answers.{not-done-tag}
 use Rattle.phase_sources.proofs.Laws.{sources-inputs, sources-registers, sources-all}
 
-reserve-inputs-requires : tie.Need-reserve-inputs-requires
-reserve-inputs-requires c κs = search needs
-
-enum-told : tie.Need-enum-told
-enum-told c = search needs
-
-same-length : tie.Need-same-length
-same-length c = search needs
-
-same-length-2 : tie.Need-same-length-2
-same-length-2 c = search needs
-
 returns : tie.Need-returns
 returns c = sources-inputs _ _ _ _ _ (c .before .before .before .before .before .reserve-inputs .result) (c .before .before .before .before .before .reserve-inputs .ensures) (not-done-tag (c .before .before .before .before .before .reserve-inputs .result) (c .match .keys2))
-
-reserve-registers-requires : tie.Need-reserve-registers-requires
-reserve-registers-requires c κs = search needs
-
-enum-told-2 : tie.Need-enum-told-2
-enum-told-2 c = search needs
-
-same-length-3 : tie.Need-same-length-3
-same-length-3 c = search needs
-
-same-length-4 : tie.Need-same-length-4
-same-length-4 c = search needs
 
 returns-2 : tie.Need-returns-2
 returns-2 c =
@@ -38,15 +14,6 @@ returns-2 c =
     let c8 = c4 .before .before .before .before in
     let c12 = c8 .before .before .before .before in
     sources-registers _ _ _ _ _ _ (c12 .before .before .reserve-inputs .ensures) (c4 .before .reserve-registers .result) _ _ (c8 .enum-told .given .1) (c4 .before .reserve-registers .ensures) (not-done-tag (c4 .before .reserve-registers .result) (c .match2 .keys2))
-
-reserve-memories-requires : tie.Need-reserve-memories-requires
-reserve-memories-requires c κs = search needs
-
-same-length-5 : tie.Need-same-length-5
-same-length-5 c = search needs
-
-same-length-6 : tie.Need-same-length-6
-same-length-6 c = search needs
 
 returns-3 : tie.Need-returns-3
 returns-3 c =
@@ -60,18 +27,5 @@ returns-3 c =
 pub reserve-sources-spec : {M : Type 1} → statement M
 reserve-sources-spec =
     tie.close
-    (tie.spec
-    reserve-inputs-requires
-    enum-told
-    same-length
-    same-length-2
-    returns
-    reserve-registers-requires
-    enum-told-2
-    same-length-3
-    same-length-4
-    returns-2
-    reserve-memories-requires
-    same-length-5
-    same-length-6
-    returns-3)
+    (tie.spec (λ c κs. search needs) (λ c. search needs) (λ c. search needs) (λ c. search needs) returns (λ c κs. search needs) (λ c. search needs)
+    (λ c. search needs) (λ c. search needs) returns-2 (λ c κs. search needs) (λ c. search needs) (λ c. search needs) returns-3)

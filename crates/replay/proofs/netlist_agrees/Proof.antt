@@ -6,47 +6,11 @@ use borrow.Author.Needs.{needs}
 use Rattle.replay.proofs.netlist_agrees.Statement.{statement}
 use Rattle.replay.proofs.netlist_agrees.Tie as tie
 
-returns : tie.Need-returns
-returns c = search needs
-
 slice-aggregate-checksum : tie.Need-slice-aggregate-checksum
 slice-aggregate-checksum c = sym (length-take-le _ _ (omega arith))
-
-checksum-requires : tie.Need-checksum-requires
-checksum-requires c κs = search needs
-
-returns-2 : tie.Need-returns-2
-returns-2 c = search needs
-
-mul-all-are : tie.Need-mul-all-are
-mul-all-are c = search needs
-
-sub-all-are : tie.Need-sub-all-are
-sub-all-are c = search needs
-
-part-all-are-start : tie.Need-part-all-are-start
-part-all-are-start c = search needs
-
-part-all-are-end : tie.Need-part-all-are-end
-part-all-are-end c = search needs
-
-all-are-requires : tie.Need-all-are-requires
-all-are-requires c κs = search needs
-
-returns-3 : tie.Need-returns-3
-returns-3 c = search needs
 
 pub netlist-agrees-spec : {M : Type 1} → statement M
 netlist-agrees-spec =
     tie.close
-    (tie.spec
-    returns
-    slice-aggregate-checksum
-    checksum-requires
-    returns-2
-    mul-all-are
-    sub-all-are
-    part-all-are-start
-    part-all-are-end
-    all-are-requires
-    returns-3)
+    (tie.spec (λ c. search needs) slice-aggregate-checksum (λ c κs. search needs) (λ c. search needs) (λ c. search needs) (λ c. search needs)
+    (λ c. search needs) (λ c. search needs) (λ c κs. search needs) (λ c. search needs))

@@ -12,16 +12,10 @@ Inv-loop image scr₀ a₀ scr a = IndexedAt image (limitOf scr₀) scr₀ scr a
 abbrev μ-loop : tie.MeasureT-loop
 μ-loop image scr₀ a₀ scr a = a
 
-count-requires : tie.Need-count-requires Inv-loop μ-loop
-count-requires c κs = search needs
-
 loop-holds : tie.Need-loop-holds Inv-loop μ-loop
 loop-holds c =
     let s = c .before .before .before in
     index-begin (s .args .image .now) (limitOf (s .args .scr .now)) (s .args .scr .now) (c .count .result) (c .count .ensures) (s .pre .0) (s .pre .1)
-
-sub-a : tie.Need-sub-a Inv-loop μ-loop
-sub-a c = search needs
 
 index-assignment-requires : tie.Need-index-assignment-requires Inv-loop μ-loop
 index-assignment-requires c κs =
@@ -29,18 +23,12 @@ index-assignment-requires c κs =
     let l = c .before .before .loop in
     (firsts-own (s .args .image .now) (limitOf (s .args .scr .now)) (l .scr) (l .inv .firsts), omega (arith, l .inv .below))
 
-loop-less : tie.Need-loop-less Inv-loop μ-loop
-loop-less c = search needs
-
 loop-again : tie.Need-loop-again Inv-loop μ-loop
 loop-again c =
     let s = c .before .before .before .before .before .before .before .before .before in
     let l = c .before .before .before .before .before .loop in
     index-step (s .args .image .now) (limitOf (s .args .scr .now)) (s .args .scr .now) (l .scr) (c .before .before .index-assignment .last .1 .0) (l .a) (c .before .before .before .before .loop-test .taken) (l .inv)
     (c .before .before .index-assignment .ensures)
-
-same-length : tie.Need-same-length Inv-loop μ-loop
-same-length c = search needs
 
 returns : tie.Need-returns Inv-loop μ-loop
 returns c =
@@ -51,14 +39,5 @@ returns c =
 pub index-assignments-spec : {M : Type 1} → statement M
 index-assignments-spec =
     tie.close
-    (tie.spec
-    Inv-loop
-    μ-loop
-    count-requires
-    loop-holds
-    sub-a
-    index-assignment-requires
-    loop-less
-    loop-again
-    same-length
-    returns)
+    (tie.spec Inv-loop μ-loop (λ c κs. search needs) loop-holds (λ c. search needs) index-assignment-requires (λ c. search needs) loop-again
+    (λ c. search needs) returns)

@@ -5,9 +5,6 @@ use Rattle.scratch_layout.proofs.Ways.{cleared, headed-own, firsts-own,
 use Rattle.scratch_layout.proofs.lay.Statement.{statement}
 use Rattle.scratch_layout.proofs.lay.Tie as tie
 
-clear-requires : tie.Need-clear-requires
-clear-requires c κs = search needs
-
 lay-fixed-requires : tie.Need-lay-fixed-requires
 lay-fixed-requires c κs =
     let s = c .before .before .before .before .before .before .before in
@@ -36,9 +33,6 @@ index-assignments-requires c κs =
     let l = after-starts (a .image .now) (a .n) (a .ob) (g .last .1 .0) (h .last .1 .0) (after-firsts (a .image .now) (a .n) (a .ob) (f .last .1 .1 .1 .0) (g .last .1 .0) (f .ensures) (g .ensures)) (h .ensures) in
     (firsts-own (a .image .now) (a .n) (h .last .1 .0) (l .0 .firsts), column-zero (a .image .now) (a .n) (a .ob) (h .last .1 .0) (l .0))
 
-same-length : tie.Need-same-length
-same-length c = search needs
-
 returns : tie.Need-returns
 returns c =
     let a = c .before .before .before .before .before .before .before .before .before .before .before .before .before .before .before .before .before .before .before .before .before .before .args in
@@ -52,11 +46,4 @@ returns c =
 pub lay-spec : {M : Type 1} → statement M
 lay-spec =
     tie.close
-    (tie.spec
-    clear-requires
-    lay-fixed-requires
-    lay-firsts-requires
-    lay-starts-requires
-    index-assignments-requires
-    same-length
-    returns)
+    (tie.spec (λ c κs. search needs) lay-fixed-requires lay-firsts-requires lay-starts-requires index-assignments-requires (λ c. search needs) returns)

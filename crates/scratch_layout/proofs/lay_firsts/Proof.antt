@@ -21,44 +21,11 @@ Inv-loop image scr₀ count at sum₀ p₀ scr sum p = (sum ≡ sumTo (signalWid
 abbrev μ-loop : tie.MeasureT-loop
 μ-loop image scr₀ count at sum₀ p₀ scr sum p = count - p
 
-count-requires : tie.Need-count-requires Inv-loop μ-loop
-count-requires c κs = search needs
-
-slice-read-at : tie.Need-slice-read-at Inv-loop μ-loop
-slice-read-at c = search needs
-
-cast-at : tie.Need-cast-at Inv-loop μ-loop
-cast-at c = search needs
-
-mul-at : tie.Need-mul-at Inv-loop μ-loop
-mul-at c = search needs
-
-add-at : tie.Need-add-at Inv-loop μ-loop
-add-at c = search needs
-
-slice-read-at-2 : tie.Need-slice-read-at-2 Inv-loop μ-loop
-slice-read-at-2 c = search needs
-
-cast-at-2 : tie.Need-cast-at-2 Inv-loop μ-loop
-cast-at-2 c = search needs
-
-mul-at-2 : tie.Need-mul-at-2 Inv-loop μ-loop
-mul-at-2 c = search needs
-
-add-at-2 : tie.Need-add-at-2 Inv-loop μ-loop
-add-at-2 c = search needs
-
 loop-holds : tie.Need-loop-holds Inv-loop μ-loop
 loop-holds c =
     let a = c .before .before .before .before .before .args in
     let s = a .image .now in
     (sym (sum-none (signalWidth s)), paste-begins (a .scr .now) (64 + 4 * getD (a .scr .now) 0 0 + 3 * getD (a .scr .now) 1 0) (listOf (countAt s 0) (sumTo (signalWidth s))) (countAt s 0))
-
-cast-scr : tie.Need-cast-scr Inv-loop μ-loop
-cast-scr c = search needs
-
-add-scr : tie.Need-add-scr Inv-loop μ-loop
-add-scr c = search needs
 
 mul-scr : tie.Need-mul-scr Inv-loop μ-loop
 mul-scr c =
@@ -70,20 +37,11 @@ slice-write-scr c =
     let s = c .before .before .before .before .before .before .before in
     omega (arith, signals-few (s .args .image .now) (s .pre .image), c .before .loop .inv .1 .long)
 
-signal-width-requires : tie.Need-signal-width-requires Inv-loop μ-loop
-signal-width-requires c κs = search needs
-
 add-sum : tie.Need-add-sum Inv-loop μ-loop
 add-sum c =
     let s = c .before .before .before .before .before .before .before .before in
     let u : c .before .before .loop .p < countAt (s .args .image .now) 0 = omega arith in
     omega (arith, signal-ends (s .args .image .now) (c .before .before .loop .p) u, s .pre .image .signalBits)
-
-add-p : tie.Need-add-p Inv-loop μ-loop
-add-p c = search needs
-
-loop-less : tie.Need-loop-less Inv-loop μ-loop
-loop-less c = search needs
 
 loop-again : tie.Need-loop-again Inv-loop μ-loop
 loop-again c =
@@ -96,9 +54,6 @@ loop-again c =
       paste-turn w (64 + 4 * getD w 0 0 + 3 * getD w 1 0) (listOf (countAt i 0) (sumTo (signalWidth i))) (countAt i 0) (l .scr) (l .p) (l .sum) (l .inv .1) u
           (omega (arith, signals-few i (s .pre .image), s .pre .long, s .pre .bits)) (omega (arith, length-listOf (countAt i 0) (sumTo (signalWidth i)))) (l .inv .0 ∙ sym (at-listOf (countAt i 0) (sumTo (signalWidth i)) (l .p) 0 u)),
     )
-
-same-length : tie.Need-same-length Inv-loop μ-loop
-same-length c = search needs
 
 returns : tie.Need-returns Inv-loop μ-loop
 returns c =
@@ -114,27 +69,6 @@ returns c =
 pub lay-firsts-spec : {M : Type 1} → statement M
 lay-firsts-spec =
     tie.close
-    (tie.spec
-    Inv-loop
-    μ-loop
-    count-requires
-    slice-read-at
-    cast-at
-    mul-at
-    add-at
-    slice-read-at-2
-    cast-at-2
-    mul-at-2
-    add-at-2
-    loop-holds
-    cast-scr
-    add-scr
-    mul-scr
-    slice-write-scr
-    signal-width-requires
-    add-sum
-    add-p
-    loop-less
-    loop-again
-    same-length
-    returns)
+    (tie.spec Inv-loop μ-loop (λ c κs. search needs) (λ c. search needs) (λ c. search needs) (λ c. search needs) (λ c. search needs)
+    (λ c. search needs) (λ c. search needs) (λ c. search needs) (λ c. search needs) loop-holds (λ c. search needs) (λ c. search needs) mul-scr
+    slice-write-scr (λ c κs. search needs) add-sum (λ c. search needs) (λ c. search needs) loop-again (λ c. search needs) returns)

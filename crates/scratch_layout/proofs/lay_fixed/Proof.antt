@@ -8,30 +8,6 @@ use Rattle.scratch_layout.proofs.Ways.{fixed-on, fixed-off}
 use Rattle.scratch_layout.proofs.lay_fixed.Statement.{statement}
 use Rattle.scratch_layout.proofs.lay_fixed.Tie as tie
 
-signal-bits-requires : tie.Need-signal-bits-requires
-signal-bits-requires c κs = search needs
-
-mul-exprs : tie.Need-mul-exprs
-mul-exprs c = search needs
-
-add-exprs : tie.Need-add-exprs
-add-exprs c = search needs
-
-mul-exprs-2 : tie.Need-mul-exprs-2
-mul-exprs-2 c = search needs
-
-add-exprs-2 : tie.Need-add-exprs-2
-add-exprs-2 c = search needs
-
-count-requires : tie.Need-count-requires
-count-requires c κs = search needs
-
-mul-nets : tie.Need-mul-nets
-mul-nets c = search needs
-
-add-nets : tie.Need-add-nets
-add-nets c = search needs
-
 slice-write-scr : tie.Need-slice-write-scr
 slice-write-scr c = let s = c .before .before .before .before in omega (arith, s .pre .2, need-is (s .args .image .now) (s .args .n))
 
@@ -47,9 +23,6 @@ slice-write-scr-4 c = let s = c .before .before .before .before in simp length-s
 slice-write-scr-5 : tie.Need-slice-write-scr-5
 slice-write-scr-5 c = let s = c .before .before .before .before .before in simp length-set (omega (arith, s .pre .2, need-is (s .args .image .now) (s .args .n)))
 
-same-length : tie.Need-same-length
-same-length c = search needs
-
 returns : tie.Need-returns
 returns c =
     let s = c .before .before .before .before .before in
@@ -58,9 +31,6 @@ returns c =
     let k = c .before .count .result in
     fixed-on (a .image .now) (a .n) (a .scr .now) (s .pre .0) (s .pre .1) (s .pre .2) (s .pre .3) b (64 + 4 * a .n + 4 * b) (64 + 4 * a .n + 4 * b + 8 * k) (c .before .before .signal-bits .ensures)
     (omega (arith, c .before .before .signal-bits .ensures)) (omega (arith, c .before .before .signal-bits .ensures, c .before .count .ensures)) (a .ob) (c .if1 .taken)
-
-same-length-2 : tie.Need-same-length-2
-same-length-2 c = search needs
 
 returns-2 : tie.Need-returns-2
 returns-2 c =
@@ -74,21 +44,6 @@ returns-2 c =
 pub lay-fixed-spec : {M : Type 1} → statement M
 lay-fixed-spec =
     tie.close
-    (tie.spec
-    signal-bits-requires
-    mul-exprs
-    add-exprs
-    mul-exprs-2
-    add-exprs-2
-    count-requires
-    mul-nets
-    add-nets
-    slice-write-scr
-    slice-write-scr-2
-    slice-write-scr-3
-    slice-write-scr-4
-    slice-write-scr-5
-    same-length
-    returns
-    same-length-2
-    returns-2)
+    (tie.spec (λ c κs. search needs) (λ c. search needs) (λ c. search needs) (λ c. search needs) (λ c. search needs) (λ c κs. search needs)
+    (λ c. search needs) (λ c. search needs) slice-write-scr slice-write-scr-2 slice-write-scr-3 slice-write-scr-4 slice-write-scr-5
+    (λ c. search needs) returns (λ c. search needs) returns-2)

@@ -19,49 +19,16 @@ Inv-loop image scr₀ count at sum₀ e₀ scr sum e = (sum ≡ sumTo (exprWidth
 abbrev μ-loop : tie.MeasureT-loop
 μ-loop image scr₀ count at sum₀ e₀ scr sum e = count - e
 
-count-requires : tie.Need-count-requires Inv-loop μ-loop
-count-requires c κs = search needs
-
-slice-read-at : tie.Need-slice-read-at Inv-loop μ-loop
-slice-read-at c = search needs
-
-cast-at : tie.Need-cast-at Inv-loop μ-loop
-cast-at c = search needs
-
 loop-holds : tie.Need-loop-holds Inv-loop μ-loop
 loop-holds c =
     let a = c .before .before .before .before .args in
     (sym (sum-none (exprWidth (a .image .now))), starts-begin (a .image .now) (limitOf (a .scr .now)) (a .scr .now))
-
-cast-scr : tie.Need-cast-scr Inv-loop μ-loop
-cast-scr c = search needs
-
-mul-scr : tie.Need-mul-scr Inv-loop μ-loop
-mul-scr c = search needs
-
-add-scr : tie.Need-add-scr Inv-loop μ-loop
-add-scr c = search needs
-
-mul-scr-2 : tie.Need-mul-scr-2 Inv-loop μ-loop
-mul-scr-2 c = search needs
-
-slice-write-scr : tie.Need-slice-write-scr Inv-loop μ-loop
-slice-write-scr c = search needs
-
-expr-width-requires : tie.Need-expr-width-requires Inv-loop μ-loop
-expr-width-requires c κs = search needs
 
 add-sum : tie.Need-add-sum Inv-loop μ-loop
 add-sum c =
     let s = c .before .before .before .before .before .before .before in
     let u : c .before .before .loop .e < countAt (s .args .image .now) 1 = omega arith in
     omega (arith, expr-ends (s .args .image .now) (c .before .before .loop .e) u, s .pre .image .exprBits)
-
-add-e : tie.Need-add-e Inv-loop μ-loop
-add-e c = search needs
-
-loop-less : tie.Need-loop-less Inv-loop μ-loop
-loop-less c = search needs
 
 loop-again : tie.Need-loop-again Inv-loop μ-loop
 loop-again c =
@@ -73,9 +40,6 @@ loop-again c =
     let p : getD w 2 0 + 8 * l .e ≡ exprAt i (limitOf w) (l .e) 0 = omega (arith, s .pre .exprs) in
     (omega (arith, sum-more (exprWidth i) (l .e), c .expr-width .ensures, l .inv .0), starts-turn i (limitOf w) w (l .scr) (l .e) (getD w 2 0 + 8 * l .e) (l .sum) (s .pre) (l .inv .1) u p (l .inv .0))
 
-same-length : tie.Need-same-length Inv-loop μ-loop
-same-length c = search needs
-
 returns : tie.Need-returns Inv-loop μ-loop
 returns c =
     let s = c .before .before .before .before .before .before in
@@ -85,22 +49,6 @@ returns c =
 pub lay-starts-spec : {M : Type 1} → statement M
 lay-starts-spec =
     tie.close
-    (tie.spec
-    Inv-loop
-    μ-loop
-    count-requires
-    slice-read-at
-    cast-at
-    loop-holds
-    cast-scr
-    mul-scr
-    add-scr
-    mul-scr-2
-    slice-write-scr
-    expr-width-requires
-    add-sum
-    add-e
-    loop-less
-    loop-again
-    same-length
-    returns)
+    (tie.spec Inv-loop μ-loop (λ c κs. search needs) (λ c. search needs) (λ c. search needs) loop-holds (λ c. search needs) (λ c. search needs)
+    (λ c. search needs) (λ c. search needs) (λ c. search needs) (λ c κs. search needs) add-sum (λ c. search needs) (λ c. search needs) loop-again
+    (λ c. search needs) returns)

@@ -18,27 +18,6 @@ abbrev μ-loop : tie.MeasureT-loop
 loop-holds : tie.Need-loop-holds Inv-loop μ-loop
 loop-holds c = paste-begins (c .args .scr .now) (c .args .at) (listOf (c .args .n) (λ i. c .args .base + i)) (c .args .n)
 
-add-scr : tie.Need-add-scr Inv-loop μ-loop
-add-scr c = search needs
-
-cast-scr : tie.Need-cast-scr Inv-loop μ-loop
-cast-scr c = search needs
-
-add-scr-2 : tie.Need-add-scr-2 Inv-loop μ-loop
-add-scr-2 c = search needs
-
-mul-scr : tie.Need-mul-scr Inv-loop μ-loop
-mul-scr c = search needs
-
-slice-write-scr : tie.Need-slice-write-scr Inv-loop μ-loop
-slice-write-scr c = search needs
-
-add-i : tie.Need-add-i Inv-loop μ-loop
-add-i c = search needs
-
-loop-less : tie.Need-loop-less Inv-loop μ-loop
-loop-less c = search needs
-
 loop-again : tie.Need-loop-again Inv-loop μ-loop
 loop-again c =
     let s = c .before .before in
@@ -46,9 +25,6 @@ loop-again c =
     let l = c .before .loop in
     paste-turn (a .scr .now) (a .at) (listOf (a .n) (λ i. a .base + i)) (a .n) (l .scr) (l .i) (a .base + l .i) (l .inv) (c .loop-test .taken) (s .pre .0)
     (omega (arith, length-listOf (a .n) (λ i. a .base + i))) (sym (at-listOf (a .n) (λ i. a .base + i) (l .i) 0 (c .loop-test .taken)))
-
-same-length : tie.Need-same-length Inv-loop μ-loop
-same-length c = search needs
 
 returns : tie.Need-returns Inv-loop μ-loop
 returns c =
@@ -59,17 +35,5 @@ returns c =
 pub put-drivers-spec : {M : Type 1} → statement M
 put-drivers-spec =
     tie.close
-    (tie.spec
-    Inv-loop
-    μ-loop
-    loop-holds
-    add-scr
-    cast-scr
-    add-scr-2
-    mul-scr
-    slice-write-scr
-    add-i
-    loop-less
-    loop-again
-    same-length
-    returns)
+    (tie.spec Inv-loop μ-loop loop-holds (λ c. search needs) (λ c. search needs) (λ c. search needs) (λ c. search needs) (λ c. search needs)
+    (λ c. search needs) (λ c. search needs) loop-again (λ c. search needs) returns)

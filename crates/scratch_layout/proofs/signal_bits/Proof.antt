@@ -16,26 +16,14 @@ Inv-loop image count sum₀ p₀ sum p = (p ≤ count) × (sum ≡ sumTo (signal
 abbrev μ-loop : tie.MeasureT-loop
 μ-loop image count sum₀ p₀ sum p = count - p
 
-count-requires : tie.Need-count-requires Inv-loop μ-loop
-count-requires c κs = search needs
-
 loop-holds : tie.Need-loop-holds Inv-loop μ-loop
 loop-holds c = (omega arith, sym (sum-none (signalWidth (c .before .before .args .image .now))))
-
-signal-width-requires : tie.Need-signal-width-requires Inv-loop μ-loop
-signal-width-requires c κs = search needs
 
 add-sum : tie.Need-add-sum Inv-loop μ-loop
 add-sum c =
     let s = c .before .before .before .before .before in
     let u : c .before .before .loop .p < countAt (s .args .image .now) 0 = omega arith in
     omega (arith, signal-ends (s .args .image .now) (c .before .before .loop .p) u, s .pre .signalBits)
-
-add-p : tie.Need-add-p Inv-loop μ-loop
-add-p c = search needs
-
-loop-less : tie.Need-loop-less Inv-loop μ-loop
-loop-less c = search needs
 
 loop-again : tie.Need-loop-again Inv-loop μ-loop
 loop-again c =
@@ -51,14 +39,5 @@ returns c =
 pub signal-bits-spec : {M : Type 1} → statement M
 signal-bits-spec =
     tie.close
-    (tie.spec
-    Inv-loop
-    μ-loop
-    count-requires
-    loop-holds
-    signal-width-requires
-    add-sum
-    add-p
-    loop-less
-    loop-again
+    (tie.spec Inv-loop μ-loop (λ c κs. search needs) loop-holds (λ c κs. search needs) add-sum (λ c. search needs) (λ c. search needs) loop-again
     returns)

@@ -6,9 +6,6 @@ use Rattle.scratch_view.specs.Laws.{known-some, known-none}
 use Rattle.scratch_tables.proofs.as_known.Statement.{statement}
 use Rattle.scratch_tables.proofs.as_known.Tie as tie
 
-sub-t4 : tie.Need-sub-t4
-sub-t4 c = search needs
-
 returns : tie.Need-returns
 returns c = sym (known-none (c .before .args .x) (c .if1 .taken))
 
@@ -16,4 +13,4 @@ returns-2 : tie.Need-returns-2
 returns-2 c = sym (known-some (c .before .args .x) (omega arith))
 
 pub as-known-spec : {M : Type 1} → statement M
-as-known-spec = tie.close (tie.spec sub-t4 returns returns-2)
+as-known-spec = tie.close (tie.spec (λ c. search needs) returns returns-2)

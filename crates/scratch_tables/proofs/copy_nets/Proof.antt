@@ -23,39 +23,6 @@ loop-holds c =
     let a = c .before .before .args in
     paste-begins (a .out .now) (a .to) (listOf (a .n) (λ i. netWord (getD (a .scr .now) (a .at + i) 0))) (a .n)
 
-cast-net-word : tie.Need-cast-net-word Inv-loop μ-loop
-cast-net-word c = search needs
-
-add-net-word : tie.Need-add-net-word Inv-loop μ-loop
-add-net-word c = search needs
-
-mul-net-word : tie.Need-mul-net-word Inv-loop μ-loop
-mul-net-word c = search needs
-
-shared-slice-read-net-word : tie.Need-shared-slice-read-net-word Inv-loop μ-loop
-shared-slice-read-net-word c = search needs
-
-net-word-requires : tie.Need-net-word-requires Inv-loop μ-loop
-net-word-requires c κs = search needs
-
-cast-out : tie.Need-cast-out Inv-loop μ-loop
-cast-out c = search needs
-
-add-out : tie.Need-add-out Inv-loop μ-loop
-add-out c = search needs
-
-mul-out : tie.Need-mul-out Inv-loop μ-loop
-mul-out c = search needs
-
-slice-write-out : tie.Need-slice-write-out Inv-loop μ-loop
-slice-write-out c = search needs
-
-add-i : tie.Need-add-i Inv-loop μ-loop
-add-i c = search needs
-
-loop-less : tie.Need-loop-less Inv-loop μ-loop
-loop-less c = search needs
-
 loop-again : tie.Need-loop-again Inv-loop μ-loop
 loop-again c =
     let s = c .before .before .before .before .before .before in
@@ -64,9 +31,6 @@ loop-again c =
     let more = c .before .before .loop-test .taken in
     paste-turn (a .out .now) (a .to) (listOf (a .n) (λ i. netWord (getD (a .scr .now) (a .at + i) 0))) (a .n) (l .out) (l .i) (c .net-word .result) (l .inv) more (s .pre .1)
     (omega (arith, length-listOf (a .n) (λ i. netWord (getD (a .scr .now) (a .at + i) 0)))) (c .net-word .ensures ∙ net-at (a .scr .now) (a .at) (a .n) (l .i) more)
-
-same-length : tie.Need-same-length Inv-loop μ-loop
-same-length c = search needs
 
 returns : tie.Need-returns Inv-loop μ-loop
 returns c =
@@ -77,21 +41,6 @@ returns c =
 pub copy-nets-spec : {M : Type 1} → statement M
 copy-nets-spec =
     tie.close
-    (tie.spec
-    Inv-loop
-    μ-loop
-    loop-holds
-    cast-net-word
-    add-net-word
-    mul-net-word
-    shared-slice-read-net-word
-    net-word-requires
-    cast-out
-    add-out
-    mul-out
-    slice-write-out
-    add-i
-    loop-less
-    loop-again
-    same-length
-    returns)
+    (tie.spec Inv-loop μ-loop loop-holds (λ c. search needs) (λ c. search needs) (λ c. search needs) (λ c. search needs) (λ c κs. search needs)
+    (λ c. search needs) (λ c. search needs) (λ c. search needs) (λ c. search needs) (λ c. search needs) (λ c. search needs) loop-again
+    (λ c. search needs) returns)

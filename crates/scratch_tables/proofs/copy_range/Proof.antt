@@ -4,15 +4,6 @@ use Rattle.scratch_tables.proofs.Ways.{copy-range-way}
 use Rattle.scratch_tables.proofs.copy_range.Statement.{statement}
 use Rattle.scratch_tables.proofs.copy_range.Tie as tie
 
-expr-place-requires : tie.Need-expr-place-requires
-expr-place-requires c κs = search needs
-
-copy-nets-requires : tie.Need-copy-nets-requires
-copy-nets-requires c κs = search needs
-
-same-length : tie.Need-same-length
-same-length c = search needs
-
 returns : tie.Need-returns
 returns c =
     let s = c .before .before .before .before .before .before .before .before in
@@ -22,4 +13,4 @@ returns c =
     copy-range-way (a .image .now) (a .scr .now) (at .result) (a .lsb) (a .n) (a .out .now) (copied .last .1 .1 .1 .0) (a .to) (copied .ensures) (a .e) (s .pre .1) (s .pre .2) (at .ensures)
 
 pub copy-range-spec : {M : Type 1} → statement M
-copy-range-spec = tie.close (tie.spec expr-place-requires copy-nets-requires same-length returns)
+copy-range-spec = tie.close (tie.spec (λ c κs. search needs) (λ c κs. search needs) (λ c. search needs) returns)

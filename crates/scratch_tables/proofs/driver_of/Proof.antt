@@ -6,24 +6,6 @@ use Rattle.scratch_tables.proofs.Ways.{undriven-way, driven-way}
 use Rattle.scratch_tables.proofs.driver_of.Statement.{statement}
 use Rattle.scratch_tables.proofs.driver_of.Tie as tie
 
-signal-place-requires : tie.Need-signal-place-requires
-signal-place-requires c κs = search needs
-
-shared-slice-read-at : tie.Need-shared-slice-read-at
-shared-slice-read-at c = search needs
-
-cast-at : tie.Need-cast-at
-cast-at c = search needs
-
-add-at : tie.Need-add-at
-add-at c = search needs
-
-mul-x : tie.Need-mul-x
-mul-x c = search needs
-
-shared-slice-read-x : tie.Need-shared-slice-read-x
-shared-slice-read-x c = search needs
-
 returns : tie.Need-returns
 returns c =
     let s = c .before .before .before .before .before .before in
@@ -45,13 +27,5 @@ returns-2 c =
 pub driver-of-spec : {M : Type 1} → statement M
 driver-of-spec =
     tie.close
-    (tie.spec
-    signal-place-requires
-    shared-slice-read-at
-    cast-at
-    add-at
-    mul-x
-    shared-slice-read-x
-    returns
-    sub-t13
-    returns-2)
+    (tie.spec (λ c κs. search needs) (λ c. search needs) (λ c. search needs) (λ c. search needs) (λ c. search needs) (λ c. search needs) returns
+    sub-t13 returns-2)

@@ -4,18 +4,6 @@ use Rattle.scratch_tables.proofs.Ways.{expr-net-way}
 use Rattle.scratch_tables.proofs.expr_net.Statement.{statement}
 use Rattle.scratch_tables.proofs.expr_net.Tie as tie
 
-expr-place-requires : tie.Need-expr-place-requires
-expr-place-requires c κs = search needs
-
-mul-net-word : tie.Need-mul-net-word
-mul-net-word c = search needs
-
-shared-slice-read-net-word : tie.Need-shared-slice-read-net-word
-shared-slice-read-net-word c = search needs
-
-net-word-requires : tie.Need-net-word-requires
-net-word-requires c κs = search needs
-
 returns : tie.Need-returns
 returns c =
     let s = c .before .before .before .before .before in
@@ -23,11 +11,4 @@ returns c =
     expr-net-way (s .args .image .now) (s .args .scr .now) (s .args .e) (s .args .b) (at .result) (c .net-word .result) (s .pre .1) (s .pre .2) (at .ensures) (c .net-word .ensures)
 
 pub expr-net-spec : {M : Type 1} → statement M
-expr-net-spec =
-    tie.close
-    (tie.spec
-    expr-place-requires
-    mul-net-word
-    shared-slice-read-net-word
-    net-word-requires
-    returns)
+expr-net-spec = tie.close (tie.spec (λ c κs. search needs) (λ c. search needs) (λ c. search needs) (λ c κs. search needs) returns)

@@ -6,34 +6,10 @@ use Rattle.scratch_tables.proofs.Ways.{start-word}
 use Rattle.scratch_tables.proofs.expr_place.Statement.{statement}
 use Rattle.scratch_tables.proofs.expr_place.Tie as tie
 
-shared-slice-read-words : tie.Need-shared-slice-read-words
-shared-slice-read-words c = search needs
-
-cast-words : tie.Need-cast-words
-cast-words c = search needs
-
-mul-words : tie.Need-mul-words
-mul-words c = search needs
-
-add-words : tie.Need-add-words
-add-words c = search needs
-
-mul-first : tie.Need-mul-first
-mul-first c = search needs
-
-shared-slice-read-first : tie.Need-shared-slice-read-first
-shared-slice-read-first c = search needs
-
 cast-first : tie.Need-cast-first
 cast-first c =
     let s = c .before .before in
     omega (arith, start-word (s .args .image .now) (s .args .scr .now) (s .pre .0) (s .args .e) (s .pre .1), expr-ends (s .args .image .now) (s .args .e) (s .pre .1))
-
-shared-slice-read-result : tie.Need-shared-slice-read-result
-shared-slice-read-result c = search needs
-
-cast-result : tie.Need-cast-result
-cast-result c = search needs
 
 add-result : tie.Need-add-result
 add-result c =
@@ -54,16 +30,5 @@ returns c =
 pub expr-place-spec : {M : Type 1} → statement M
 expr-place-spec =
     tie.close
-    (tie.spec
-    shared-slice-read-words
-    cast-words
-    mul-words
-    add-words
-    mul-first
-    shared-slice-read-first
-    cast-first
-    shared-slice-read-result
-    cast-result
-    add-result
-    add-result-2
-    returns)
+    (tie.spec (λ c. search needs) (λ c. search needs) (λ c. search needs) (λ c. search needs) (λ c. search needs) (λ c. search needs) cast-first
+    (λ c. search needs) (λ c. search needs) add-result add-result-2 returns)

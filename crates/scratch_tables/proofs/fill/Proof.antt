@@ -19,26 +19,11 @@ loop-holds c =
     let a = c .before .before .args in
     paste-begins (a .part .now) 0 (map suc (a .nets .now)) (a .n)
 
-cast-put-bit : tie.Need-cast-put-bit Inv-loop μ-loop
-cast-put-bit c = search needs
-
-mul-put-bit : tie.Need-mul-put-bit Inv-loop μ-loop
-mul-put-bit c = search needs
-
-shared-slice-read-put-bit : tie.Need-shared-slice-read-put-bit Inv-loop μ-loop
-shared-slice-read-put-bit c = search needs
-
 put-bit-requires : tie.Need-put-bit-requires Inv-loop μ-loop
 put-bit-requires c κs =
     let s = c .before .before .before .before .before .before in
     let l = c .before .before .before .loop in
     (omega arith, s .pre .2 (l .i) (c .before .before .loop-test .taken))
-
-add-i : tie.Need-add-i Inv-loop μ-loop
-add-i c = search needs
-
-loop-less : tie.Need-loop-less Inv-loop μ-loop
-loop-less c = search needs
 
 loop-again : tie.Need-loop-again Inv-loop μ-loop
 loop-again c =
@@ -47,9 +32,6 @@ loop-again c =
     let l = c .before .before .before .before .before .before .loop in
     fill-turn (a .part .now) (a .nets .now) (a .n) (l .part) (c .before .before .put-bit .last .0) (l .i) (l .inv) (c .before .before .before .before .before .loop-test .taken) (s .pre .0) (s .pre .1)
     (c .before .before .put-bit .ensures)
-
-same-length : tie.Need-same-length Inv-loop μ-loop
-same-length c = search needs
 
 returns : tie.Need-returns Inv-loop μ-loop
 returns c =
@@ -60,16 +42,5 @@ returns c =
 pub fill-spec : {M : Type 1} → statement M
 fill-spec =
     tie.close
-    (tie.spec
-    Inv-loop
-    μ-loop
-    loop-holds
-    cast-put-bit
-    mul-put-bit
-    shared-slice-read-put-bit
-    put-bit-requires
-    add-i
-    loop-less
-    loop-again
-    same-length
-    returns)
+    (tie.spec Inv-loop μ-loop loop-holds (λ c. search needs) (λ c. search needs) (λ c. search needs) put-bit-requires (λ c. search needs)
+    (λ c. search needs) loop-again (λ c. search needs) returns)

@@ -4,27 +4,6 @@ use Rattle.scratch_tables.proofs.Ways.{keep-signals-way}
 use Rattle.scratch_tables.proofs.keep_signals.Statement.{statement}
 use Rattle.scratch_tables.proofs.keep_signals.Tie as tie
 
-signal-place-requires : tie.Need-signal-place-requires
-signal-place-requires c κs = search needs
-
-mul-fill : tie.Need-mul-fill
-mul-fill c = search needs
-
-sub-fill : tie.Need-sub-fill
-sub-fill c = search needs
-
-part-fill-start : tie.Need-part-fill-start
-part-fill-start c = search needs
-
-part-fill-end : tie.Need-part-fill-end
-part-fill-end c = search needs
-
-fill-requires : tie.Need-fill-requires
-fill-requires c κs = search needs
-
-same-length : tie.Need-same-length
-same-length c = search needs
-
 returns : tie.Need-returns
 returns c =
     let s = c .before .before .before .before .before .before .before .before .before in
@@ -36,12 +15,5 @@ returns c =
 pub keep-signals-spec : {M : Type 1} → statement M
 keep-signals-spec =
     tie.close
-    (tie.spec
-    signal-place-requires
-    mul-fill
-    sub-fill
-    part-fill-start
-    part-fill-end
-    fill-requires
-    same-length
-    returns)
+    (tie.spec (λ c κs. search needs) (λ c. search needs) (λ c. search needs) (λ c. search needs) (λ c. search needs) (λ c κs. search needs)
+    (λ c. search needs) returns)

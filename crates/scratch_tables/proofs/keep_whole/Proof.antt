@@ -4,48 +4,6 @@ use Rattle.scratch_tables.proofs.Ways.{keep-whole-way}
 use Rattle.scratch_tables.proofs.keep_whole.Statement.{statement}
 use Rattle.scratch_tables.proofs.keep_whole.Tie as tie
 
-slice-read-flag : tie.Need-slice-read-flag
-slice-read-flag c = search needs
-
-cast-flag : tie.Need-cast-flag
-cast-flag c = search needs
-
-mul-flag : tie.Need-mul-flag
-mul-flag c = search needs
-
-add-flag : tie.Need-add-flag
-add-flag c = search needs
-
-add-flag-2 : tie.Need-add-flag-2
-add-flag-2 c = search needs
-
-expr-place-requires : tie.Need-expr-place-requires
-expr-place-requires c κs = search needs
-
-mul-fill : tie.Need-mul-fill
-mul-fill c = search needs
-
-sub-fill : tie.Need-sub-fill
-sub-fill c = search needs
-
-part-fill-start : tie.Need-part-fill-start
-part-fill-start c = search needs
-
-part-fill-end : tie.Need-part-fill-end
-part-fill-end c = search needs
-
-fill-requires : tie.Need-fill-requires
-fill-requires c κs = search needs
-
-mul-scr : tie.Need-mul-scr
-mul-scr c = search needs
-
-slice-write-scr : tie.Need-slice-write-scr
-slice-write-scr c = search needs
-
-same-length : tie.Need-same-length
-same-length c = search needs
-
 returns : tie.Need-returns
 returns c =
     let s = c .before .before .before .before .before .before .before .before .before .before in
@@ -57,19 +15,6 @@ returns c =
 pub keep-whole-spec : {M : Type 1} → statement M
 keep-whole-spec =
     tie.close
-    (tie.spec
-    slice-read-flag
-    cast-flag
-    mul-flag
-    add-flag
-    add-flag-2
-    expr-place-requires
-    mul-fill
-    sub-fill
-    part-fill-start
-    part-fill-end
-    fill-requires
-    mul-scr
-    slice-write-scr
-    same-length
-    returns)
+    (tie.spec (λ c. search needs) (λ c. search needs) (λ c. search needs) (λ c. search needs) (λ c. search needs) (λ c κs. search needs)
+    (λ c. search needs) (λ c. search needs) (λ c. search needs) (λ c. search needs) (λ c κs. search needs) (λ c. search needs) (λ c. search needs)
+    (λ c. search needs) returns)

@@ -4,27 +4,6 @@ use Rattle.scratch_tables.proofs.Ways.{marked-way}
 use Rattle.scratch_tables.proofs.marked.Statement.{statement}
 use Rattle.scratch_tables.proofs.marked.Tie as tie
 
-signal-place-requires : tie.Need-signal-place-requires
-signal-place-requires c κs = search needs
-
-shared-slice-read-at : tie.Need-shared-slice-read-at
-shared-slice-read-at c = search needs
-
-cast-at : tie.Need-cast-at
-cast-at c = search needs
-
-mul-at : tie.Need-mul-at
-mul-at c = search needs
-
-add-at : tie.Need-add-at
-add-at c = search needs
-
-mul-result : tie.Need-mul-result
-mul-result c = search needs
-
-shared-slice-read-result : tie.Need-shared-slice-read-result
-shared-slice-read-result c = search needs
-
 returns : tie.Need-returns
 returns c =
     let s = c .before .before .before .before .before in
@@ -34,12 +13,5 @@ returns c =
 pub marked-spec : {M : Type 1} → statement M
 marked-spec =
     tie.close
-    (tie.spec
-    signal-place-requires
-    shared-slice-read-at
-    cast-at
-    mul-at
-    add-at
-    mul-result
-    shared-slice-read-result
-    returns)
+    (tie.spec (λ c κs. search needs) (λ c. search needs) (λ c. search needs) (λ c. search needs) (λ c. search needs) (λ c. search needs)
+    (λ c. search needs) returns)

@@ -6,9 +6,6 @@ use Rattle.scratch_view.specs.Laws.{netWord-some, netWord-none}
 use Rattle.scratch_tables.proofs.net_word.Statement.{statement}
 use Rattle.scratch_tables.proofs.net_word.Tie as tie
 
-sub-result : tie.Need-sub-result
-sub-result c = search needs
-
 returns : tie.Need-returns
 returns c = sym (netWord-none (c .before .args .x) (c .if1 .taken))
 
@@ -16,4 +13,4 @@ returns-2 : tie.Need-returns-2
 returns-2 c = sym (netWord-some (c .before .args .x) (omega arith))
 
 pub net-word-spec : {M : Type 1} → statement M
-net-word-spec = tie.close (tie.spec sub-result returns returns-2)
+net-word-spec = tie.close (tie.spec (λ c. search needs) returns returns-2)

@@ -7,20 +7,11 @@ use Rattle.scratch_tables.proofs.Ways.{known-range-way}
 use Rattle.scratch_tables.proofs.range_known.Statement.{statement}
 use Rattle.scratch_tables.proofs.range_known.Tie as tie
 
-is-whole-requires : tie.Need-is-whole-requires
-is-whole-requires c κs = search needs
-
 returns : tie.Need-returns
 returns c = λ l.
     let s = c .before .before .before .before in
     let a = s .args in
     sym (known-whole (a .image .now) (limitOf (a .scr .now)) l (a .scr .now) (a .e) (s .pre .1) (a .lsb) (a .n) (sym (c .before .is-whole .ensures) ∙ c .if1 .taken))
-
-expr-place-requires : tie.Need-expr-place-requires
-expr-place-requires c κs = search needs
-
-all-known-requires : tie.Need-all-known-requires
-all-known-requires c κs = search needs
 
 returns-2 : tie.Need-returns-2
 returns-2 c =
@@ -31,5 +22,4 @@ returns-2 c =
     (c .all-known .ensures)
 
 pub range-known-spec : {M : Type 1} → statement M
-range-known-spec =
-    tie.close (tie.spec is-whole-requires returns expr-place-requires all-known-requires returns-2)
+range-known-spec = tie.close (tie.spec (λ c κs. search needs) returns (λ c κs. search needs) (λ c κs. search needs) returns-2)

@@ -5,18 +5,6 @@ use Rattle.scratch_tables.proofs.Ways.{net-way}
 use Rattle.scratch_tables.proofs.signal_net.Statement.{statement}
 use Rattle.scratch_tables.proofs.signal_net.Tie as tie
 
-signal-place-requires : tie.Need-signal-place-requires
-signal-place-requires c κs = search needs
-
-mul-as-known : tie.Need-mul-as-known
-mul-as-known c = search needs
-
-shared-slice-read-as-known : tie.Need-shared-slice-read-as-known
-shared-slice-read-as-known c = search needs
-
-as-known-requires : tie.Need-as-known-requires
-as-known-requires c κs = search needs
-
 returns : tie.Need-returns
 returns c = λ l.
     let s = c .before .before .before .before .before in
@@ -24,11 +12,4 @@ returns c = λ l.
     c .as-known .ensures ∙ sym (net-way (s .args .image .now) (s .args .scr .now) (s .args .p) (s .args .b) (at .result) (s .pre .0) (s .pre .1) (s .pre .2) (at .ensures) l)
 
 pub signal-net-spec : {M : Type 1} → statement M
-signal-net-spec =
-    tie.close
-    (tie.spec
-    signal-place-requires
-    mul-as-known
-    shared-slice-read-as-known
-    as-known-requires
-    returns)
+signal-net-spec = tie.close (tie.spec (λ c κs. search needs) (λ c. search needs) (λ c. search needs) (λ c κs. search needs) returns)

@@ -6,36 +6,6 @@ use Rattle.scratch_tables.proofs.Ways.{first-word}
 use Rattle.scratch_tables.proofs.signal_place.Statement.{statement}
 use Rattle.scratch_tables.proofs.signal_place.Tie as tie
 
-shared-slice-read-column : tie.Need-shared-slice-read-column
-shared-slice-read-column c = search needs
-
-cast-column : tie.Need-cast-column
-cast-column c = search needs
-
-mul-column : tie.Need-mul-column
-mul-column c = search needs
-
-add-column : tie.Need-add-column
-add-column c = search needs
-
-shared-slice-read-bits : tie.Need-shared-slice-read-bits
-shared-slice-read-bits c = search needs
-
-cast-bits : tie.Need-cast-bits
-cast-bits c = search needs
-
-mul-first : tie.Need-mul-first
-mul-first c = search needs
-
-add-first : tie.Need-add-first
-add-first c = search needs
-
-add-first-2 : tie.Need-add-first-2
-add-first-2 c = search needs
-
-mul-first-2 : tie.Need-mul-first-2
-mul-first-2 c = search needs
-
 shared-slice-read-first : tie.Need-shared-slice-read-first
 shared-slice-read-first c =
     let s = c .before .before .before in
@@ -65,19 +35,5 @@ returns c =
 pub signal-place-spec : {M : Type 1} → statement M
 signal-place-spec =
     tie.close
-    (tie.spec
-    shared-slice-read-column
-    cast-column
-    mul-column
-    add-column
-    shared-slice-read-bits
-    cast-bits
-    mul-first
-    add-first
-    add-first-2
-    mul-first-2
-    shared-slice-read-first
-    cast-first
-    add-result
-    add-result-2
-    returns)
+    (tie.spec (λ c. search needs) (λ c. search needs) (λ c. search needs) (λ c. search needs) (λ c. search needs) (λ c. search needs)
+    (λ c. search needs) (λ c. search needs) (λ c. search needs) (λ c. search needs) shared-slice-read-first cast-first add-result add-result-2 returns)

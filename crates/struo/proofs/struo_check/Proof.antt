@@ -5,17 +5,8 @@ use Rattle.struo.proofs.struo_check.Tie as tie
 use mathlib.Core.Path.{ap, _∙_}
 use Rattle.spec_call.specs.Call.{numbersOf}
 
-check-requires : tie.Need-check-requires
-check-requires c κs = search needs
-
-of-check-requires : tie.Need-of-check-requires
-of-check-requires c κs = search needs
-
-numbers-requires : tie.Need-numbers-requires
-numbers-requires c κs = search needs
-
 returns : tie.Need-returns
 returns c = c .numbers .ensures ∙ ap numbersOf (c .before .of-check .ensures ∙ c .before .before .check .ensures)
 
 pub struo-check-spec : {M : Type 1} → statement M
-struo-check-spec = tie.close (tie.spec check-requires of-check-requires numbers-requires returns)
+struo-check-spec = tie.close (tie.spec (λ c κs. search needs) (λ c κs. search needs) (λ c κs. search needs) returns)

@@ -4,18 +4,6 @@ use Rattle.struo.proofs.struo_lower.Statement.{statement}
 use Rattle.struo.proofs.struo_lower.Tie as tie
 use Rattle.struo.proofs.Ways.{answers}
 
-lower-requires : tie.Need-lower-requires
-lower-requires c κs = search needs
-
-numbers-requires : tie.Need-numbers-requires
-numbers-requires c κs = search needs
-
-same-length : tie.Need-same-length
-same-length c = search needs
-
-same-length-2 : tie.Need-same-length-2
-same-length-2 c = search needs
-
 returns : tie.Need-returns
 returns c =
     let c8 = c .before .before .before .before .before .before .before .before in
@@ -24,6 +12,4 @@ returns c =
     answers (a .image .now) (a .n) (a .p) (a .netlist .now) (a .scratch .now) _ (x .last .1 .1 .1 .0) (x .last .1 .1 .1 .1 .0) _ (x .ensures) (c .numbers .ensures)
 
 pub struo-lower-spec : {M : Type 1} → statement M
-struo-lower-spec =
-    tie.close
-    (tie.spec lower-requires numbers-requires same-length same-length-2 returns)
+struo-lower-spec = tie.close (tie.spec (λ c κs. search needs) (λ c κs. search needs) (λ c. search needs) (λ c. search needs) returns)

@@ -4,41 +4,11 @@ use Rattle.walk_build.proofs.make.Statement.{statement}
 use Rattle.walk_build.proofs.make.Tie as tie
 use Rattle.walk_build.proofs.Ways.{lent, make-way}
 
-slice-read-n : tie.Need-slice-read-n
-slice-read-n c = search needs
-
-cast-end : tie.Need-cast-end
-cast-end c = search needs
-
-mul-end : tie.Need-mul-end
-mul-end c = search needs
-
-add-end : tie.Need-add-end
-add-end c = search needs
-
-sub-perform : tie.Need-sub-perform
-sub-perform c = search needs
-
-part-perform-start : tie.Need-part-perform-start
-part-perform-start c = search needs
-
-part-perform-end : tie.Need-part-perform-end
-part-perform-end c = search needs
-
 perform-requires : tie.Need-perform-requires
 perform-requires c κs =
     let c4 = c .before .before .before .before in
     let c8 = c4 .before .before .before .before in
     (lent (c8 .before .args .image .now) (c8 .before .args .net .now) (c8 .before .args .scr .now) (c8 .before .pre .0), c8 .before .pre .1, c8 .before .pre .2, c8 .before .pre .3, c8 .before .pre .4)
-
-same-length : tie.Need-same-length
-same-length c = search needs
-
-same-length-2 : tie.Need-same-length-2
-same-length-2 c = search needs
-
-same-length-3 : tie.Need-same-length-3
-same-length-3 c = search needs
 
 returns : tie.Need-returns
 returns c =
@@ -51,16 +21,5 @@ returns c =
 pub make-spec : {M : Type 1} → statement M
 make-spec =
     tie.close
-    (tie.spec
-    slice-read-n
-    cast-end
-    mul-end
-    add-end
-    sub-perform
-    part-perform-start
-    part-perform-end
-    perform-requires
-    same-length
-    same-length-2
-    same-length-3
-    returns)
+    (tie.spec (λ c. search needs) (λ c. search needs) (λ c. search needs) (λ c. search needs) (λ c. search needs) (λ c. search needs)
+    (λ c. search needs) perform-requires (λ c. search needs) (λ c. search needs) (λ c. search needs) returns)

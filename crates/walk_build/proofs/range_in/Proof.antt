@@ -4,7 +4,7 @@ use Rattle.walk_build.proofs.range_in.Statement.{statement}
 use Rattle.walk_build.proofs.range_in.Tie as tie
 use native.Mathlib.Omega.{arith}
 use Rattle.walk_build.proofs.Ways.{plain-nots, asked-range, fits-at, room, job-model, small, built-range}
-use Rattle.walk_sure.specs.Makes.{range-makes}
+use Rattle.walk_invariant.specs.Makes.{range-makes}
 
 read-range-requires : tie.Need-read-range-requires
 read-range-requires c κs =
@@ -32,18 +32,6 @@ keep-range-requires c κs =
     let fit = room _ _ (made .make .last .1 .1 .1 .1 .1 .0) (read .read-range .last .1 .1 .1 .1 .1 .0) (rd .fits .most) (made .make .kept .1 .1 .1 .1 .1 .0) (read .read-range .kept .1 .1 .1 .1 .1 .0) in
     (p .ready .laid, start .pre .2, start .pre .4, fit, small _ _ _ _ _ _ _ _ _ fit m p)
 
-same-length : tie.Need-same-length
-same-length c = search needs
-
-same-length-2 : tie.Need-same-length-2
-same-length-2 c = search needs
-
-same-length-3 : tie.Need-same-length-3
-same-length-3 c = search needs
-
-same-length-4 : tie.Need-same-length-4
-same-length-4 c = search needs
-
 returns : tie.Need-returns
 returns c =
     let kept = c .before .before in
@@ -59,12 +47,5 @@ returns c =
 pub range-in-spec : {M : Type 1} → statement M
 range-in-spec =
     tie.close
-    (tie.spec
-    read-range-requires
-    make-requires
-    keep-range-requires
-    same-length
-    same-length-2
-    same-length-3
-    same-length-4
+    (tie.spec read-range-requires make-requires keep-range-requires (λ c. search needs) (λ c. search needs) (λ c. search needs) (λ c. search needs)
     returns)

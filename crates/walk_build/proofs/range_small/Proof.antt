@@ -3,33 +3,12 @@ use borrow.Author.Needs.{needs}
 use Rattle.walk_build.proofs.range_small.Statement.{statement}
 use Rattle.walk_build.proofs.range_small.Tie as tie
 
-slice-aggregate-range-in : tie.Need-slice-aggregate-range-in
-slice-aggregate-range-in c = search needs
-
-slice-aggregate-range-in-2 : tie.Need-slice-aggregate-range-in-2
-slice-aggregate-range-in-2 c = search needs
-
 range-in-requires : tie.Need-range-in-requires
 range-in-requires c κs =
     let start = c .before .before .before .before .before .before .before in
     (start .pre .0, start .pre .1, start .pre .2, start .pre .3, start .pre .4, start .pre .5, start .pre .6, search needs, search needs)
 
-same-length : tie.Need-same-length
-same-length c = search needs
-
-same-length-2 : tie.Need-same-length-2
-same-length-2 c = search needs
-
-returns : tie.Need-returns
-returns c = search needs
-
 pub range-small-spec : {M : Type 1} → statement M
 range-small-spec =
     tie.close
-    (tie.spec
-    slice-aggregate-range-in
-    slice-aggregate-range-in-2
-    range-in-requires
-    same-length
-    same-length-2
-    returns)
+    (tie.spec (λ c. search needs) (λ c. search needs) range-in-requires (λ c. search needs) (λ c. search needs) (λ c. search needs))

@@ -4,10 +4,7 @@ use Rattle.walk_build.proofs.whole_in.Statement.{statement}
 use Rattle.walk_build.proofs.whole_in.Tie as tie
 use native.Mathlib.Omega.{arith}
 use Rattle.walk_build.proofs.Ways.{plain-nots, asked, read-at, fits-at, room, job-model, small, built-whole}
-use Rattle.walk_sure.specs.Makes.{whole-makes}
-
-expr-width-requires : tie.Need-expr-width-requires
-expr-width-requires c κs = search needs
+use Rattle.walk_invariant.specs.Makes.{whole-makes}
 
 read-whole-requires : tie.Need-read-whole-requires
 read-whole-requires c κs =
@@ -37,18 +34,6 @@ keep-whole-requires c κs =
     let fit = room _ _ (made .make .last .1 .1 .1 .1 .1 .0) (read .read-whole .last .1 .1 .1 .0) (rd .fits .most) (made .make .kept .1 .1 .1 .1 .1 .0) (read .read-whole .kept .1 .1 .1 .0) in
     (p .ready .laid, start .pre .2, width .expr-width .ensures, fit, small _ _ _ _ _ _ _ _ _ fit m p)
 
-same-length : tie.Need-same-length
-same-length c = search needs
-
-same-length-2 : tie.Need-same-length-2
-same-length-2 c = search needs
-
-same-length-3 : tie.Need-same-length-3
-same-length-3 c = search needs
-
-same-length-4 : tie.Need-same-length-4
-same-length-4 c = search needs
-
 returns : tie.Need-returns
 returns c =
     let kept = c .before .before in
@@ -64,13 +49,5 @@ returns c =
 pub whole-in-spec : {M : Type 1} → statement M
 whole-in-spec =
     tie.close
-    (tie.spec
-    expr-width-requires
-    read-whole-requires
-    make-requires
-    keep-whole-requires
-    same-length
-    same-length-2
-    same-length-3
-    same-length-4
-    returns)
+    (tie.spec (λ c κs. search needs) read-whole-requires make-requires keep-whole-requires (λ c. search needs) (λ c. search needs) (λ c. search needs)
+    (λ c. search needs) returns)

@@ -11,53 +11,23 @@ use Rattle.spec_rtl.specs.Word.{bits, length-bits}
 use Rattle.spec_rules.specs.Image.{constantOf}
 use Rattle.walk_job_parts.proofs.Bits.{back-constant}
 
-sub-lesser : tie.Need-sub-lesser
-sub-lesser c = search needs
+slice-aggregate-add-constant-bits : tie.Need-slice-aggregate-add-constant-bits
+slice-aggregate-add-constant-bits c = sym (length-take-le (c .before .before .before .smaller .result) (c .before .before .before .before .before .before .before .before .args .xs .now) (omega (arith, c .before .before .before .smaller .ensures, c .before .before .before .before .before .before .before .before .pre .4)))
 
-lesser-requires : tie.Need-lesser-requires
-lesser-requires c κs = search needs
-
-cast-m : tie.Need-cast-m
-cast-m c = search needs
-
-slice-relend-prefix-add-bits : tie.Need-slice-relend-prefix-add-bits
-slice-relend-prefix-add-bits c = search needs
-
-slice-aggregate-add-bits : tie.Need-slice-aggregate-add-bits
-slice-aggregate-add-bits c = sym (length-take-le (c .before .before .before .lesser .result) (c .before .before .before .before .before .before .before .before .args .xs .now) (omega (arith, c .before .before .before .lesser .ensures, c .before .before .before .before .before .before .before .before .pre .4)))
-
-add-bits-requires : tie.Need-add-bits-requires
-add-bits-requires c κs = (c .before .before .before .before .before .before .before .before .pre .0, c .before .before .before .before .before .before .before .before .pre .1, rw (length-take-le (c .before .before .before .lesser .result) (c .before .before .before .before .before .before .before .before .args .xs .now) (omega (arith, c .before .before .before .lesser .ensures, c .before .before .before .before .before .before .before .before .pre .4))) (omega (arith, c .before .before .before .lesser .ensures, c .before .before .before .before .before .before .before .before .pre .2, c .before .before .before .before .before .before .before .before .pre .3)))
-
-same-length : tie.Need-same-length
-same-length c = search needs
-
-same-length-2 : tie.Need-same-length-2
-same-length-2 c = search needs
-
-same-length-3 : tie.Need-same-length-3
-same-length-3 c = search needs
+add-constant-bits-requires : tie.Need-add-constant-bits-requires
+add-constant-bits-requires c κs = (c .before .before .before .before .before .before .before .before .pre .0, c .before .before .before .before .before .before .before .before .pre .1, rw (length-take-le (c .before .before .before .smaller .result) (c .before .before .before .before .before .before .before .before .args .xs .now) (omega (arith, c .before .before .before .smaller .ensures, c .before .before .before .before .before .before .before .before .pre .4))) (omega (arith, c .before .before .before .smaller .ensures, c .before .before .before .before .before .before .before .before .pre .2, c .before .before .before .before .before .before .before .before .pre .3)))
 
 returns : tie.Need-returns
 returns c =
     let s = c .before .before .before .before .before .before .before .before .before .before .before .before .before .before .before .args in
-    let q = c .before .before .before .before .before .before .before .before .before .before .lesser .ensures in
-    let e = length-take-le (c .before .before .before .before .before .before .before .before .before .before .lesser .result) (s .xs .now) (omega (arith, q, c .before .before .before .before .before .before .before .before .before .before .before .before .before .before .before .pre .4)) in
+    let q = c .before .before .before .before .before .before .before .before .before .before .smaller .ensures in
+    let e = length-take-le (c .before .before .before .before .before .before .before .before .before .before .smaller .result) (s .xs .now) (omega (arith, q, c .before .before .before .before .before .before .before .before .before .before .before .before .before .before .before .pre .4)) in
     let w = constantOf (s .image .now) (s .v) (s .start) in
-    back-constant _ (s .v - s .lsb) _ _ _ (c .before .before .before .before .before .before .before .before .before .before .lesser .result) _ (s .xs .now) _ _ _ _ (length-drop (s .lsb) (bits (s .v) w) ∙ ap (λ (x : ℕ). x - s .lsb) (length-bits (s .v) w)) q (omega (arith, q, c .before .before .before .before .before .before .before .before .before .before .before .before .before .before .before .pre .4)) (c .before .before .before .before .before .before .add-bits .kept .1 .1 .1 .1 .1 .1 .0)
-    (c .before .before .before .before .before .before .add-bits .ensures (s .v) (rw e (omega (arith, q, c .before .before .before .before .before .before .before .before .before .before .before .before .before .before .before .pre .2))))
+    back-constant _ (s .v - s .lsb) _ _ _ (c .before .before .before .before .before .before .before .before .before .before .smaller .result) _ (s .xs .now) _ _ _ _ (length-drop (s .lsb) (bits (s .v) w) ∙ ap (λ (x : ℕ). x - s .lsb) (length-bits (s .v) w)) q (omega (arith, q, c .before .before .before .before .before .before .before .before .before .before .before .before .before .before .before .pre .4)) (c .before .before .before .before .before .before .add-constant-bits .kept .1 .1 .1 .1 .1 .1 .0)
+    (c .before .before .before .before .before .before .add-constant-bits .ensures (s .v) (rw e (omega (arith, q, c .before .before .before .before .before .before .before .before .before .before .before .before .before .before .before .pre .2))))
 
 pub constant-spec : {M : Type 1} → statement M
 constant-spec =
     tie.close
-    (tie.spec
-    sub-lesser
-    lesser-requires
-    cast-m
-    slice-relend-prefix-add-bits
-    slice-aggregate-add-bits
-    add-bits-requires
-    same-length
-    same-length-2
-    same-length-3
-    returns)
+    (tie.spec (λ c. search needs) (λ c κs. search needs) (λ c. search needs) (λ c. search needs) slice-aggregate-add-constant-bits add-constant-bits-requires
+    (λ c. search needs) (λ c. search needs) (λ c. search needs) returns)

@@ -4,22 +4,10 @@ use Rattle.walk_keep.proofs.keep_whole.Statement.{statement}
 use Rattle.walk_keep.proofs.keep_whole.Tie as tie
 use Rattle.walk_keep.proofs.Ways.{keeps-done, keeps-nets, keeps-list}
 
-enum-told : tie.Need-enum-told
-enum-told c = search needs
-
 keep-whole-requires : tie.Need-keep-whole-requires
 keep-whole-requires c κs =
     let c4 = c .before .before .before .before in
     (c4 .before .before .pre .0, c4 .before .before .pre .1, c4 .before .before .pre .2, c4 .before .before .pre .3, c4 .before .before .pre .4 (c .before .enum-told .given .1))
-
-enum-told-2 : tie.Need-enum-told-2
-enum-told-2 c = search needs
-
-enum-told-3 : tie.Need-enum-told-3
-enum-told-3 c = search needs
-
-same-length : tie.Need-same-length
-same-length c = search needs
 
 returns : tie.Need-returns
 returns c = keeps-done _ _ _ _ _ (c .before .before .before .before .enum-told .given .1) (c .before .before .keep-whole .ensures)
@@ -33,12 +21,4 @@ returns-3 c = keeps-list _ _ _ _ (c .enum-told3 .given .1) (c .before .before .b
 pub keep-whole-spec : {M : Type 1} → statement M
 keep-whole-spec =
     tie.close
-    (tie.spec
-    enum-told
-    keep-whole-requires
-    enum-told-2
-    enum-told-3
-    same-length
-    returns
-    returns-2
-    returns-3)
+    (tie.spec (λ c. search needs) keep-whole-requires (λ c. search needs) (λ c. search needs) (λ c. search needs) returns returns-2 returns-3)

@@ -4,25 +4,10 @@ use Rattle.walk_left.proofs.left_by.Statement.{statement}
 use Rattle.walk_left.proofs.left_by.Tie as tie
 use Rattle.walk_left.proofs.Lefts.{left-lower, left-last, left-bits, left-ends}
 
-enum-known-turn : tie.Need-enum-known-turn
-enum-known-turn c = search needs
-
-add-t12 : tie.Need-add-t12
-add-t12 c = search needs
-
-enum-known-turn-2 : tie.Need-enum-known-turn-2
-enum-known-turn-2 c = search needs
-
-enum-known-turn-3 : tie.Need-enum-known-turn-3
-enum-known-turn-3 c = search needs
-
 next-bit-requires : tie.Need-next-bit-requires
 next-bit-requires c κs =
     let pre = c .before .before .before .before .before .pre in
     (pre .0, rw (c .before .turn3 .given .1) at (pre .1))
-
-enum-told : tie.Need-enum-told
-enum-told c = search needs
 
 returns : tie.Need-returns
 returns c =
@@ -49,14 +34,5 @@ returns-4 c =
 pub left-by-spec : {M : Type 1} → statement M
 left-by-spec =
     tie.close
-    (tie.spec
-    enum-known-turn
-    add-t12
-    enum-known-turn-2
-    enum-known-turn-3
-    next-bit-requires
-    enum-told
-    returns
-    returns-2
-    returns-3
-    returns-4)
+    (tie.spec (λ c. search needs) (λ c. search needs) (λ c. search needs) (λ c. search needs) next-bit-requires (λ c. search needs) returns returns-2
+    returns-3 returns-4)

@@ -28,12 +28,6 @@ signal-net-requires c κs =
     let pre = c .before .before .before .before .pre in
     (pre .0, pre .1 .signal, omega (arith, pre .1 .room, c .loop-test .taken))
 
-enum-told : tie.Need-enum-told Inv-loop μ-loop
-enum-told c = search needs
-
-enum-told-2 : tie.Need-enum-told-2 Inv-loop μ-loop
-enum-told-2 c = search needs
-
 add-t11 : tie.Need-add-t11 Inv-loop μ-loop
 add-t11 c = let pre = c .before .before .before .before .before .before .before .pre in omega (arith, pre .1 .most, c .before .before .before .loop-test .taken)
 
@@ -48,9 +42,6 @@ returns c =
 
 add-k : tie.Need-add-k Inv-loop μ-loop
 add-k c = let pre = c .before .before .before .before .before .before .before .pre in omega (arith, pre .1 .most, c .before .before .before .loop-test .taken)
-
-loop-less : tie.Need-loop-less Inv-loop μ-loop
-loop-less c = search needs
 
 loop-again : tie.Need-loop-again Inv-loop μ-loop
 loop-again c =
@@ -71,18 +62,5 @@ returns-2 c =
 pub next-bit-spec : {M : Type 1} → statement M
 next-bit-spec =
     tie.close
-    (tie.spec
-    Inv-loop
-    μ-loop
-    loop-holds
-    add-signal-net
-    signal-net-requires
-    enum-told
-    enum-told-2
-    add-t11
-    add-t13
-    returns
-    add-k
-    loop-less
-    loop-again
-    returns-2)
+    (tie.spec Inv-loop μ-loop loop-holds add-signal-net signal-net-requires (λ c. search needs) (λ c. search needs) add-t11 add-t13 returns add-k
+    (λ c. search needs) loop-again returns-2)

@@ -5,9 +5,6 @@ use borrow.Author.Needs.{needs}
 use Rattle.walk_left.proofs.range_known.Statement.{statement}
 use Rattle.walk_left.proofs.range_known.Tie as tie
 
-range-known-requires : tie.Need-range-known-requires
-range-known-requires c κs = search needs
-
 returns : tie.Need-returns
 returns c = λ l. ((λ z. c .range-known .ensures l), (λ z. absurd (omega (arith, z, c .before .if1 .taken))))
 
@@ -15,4 +12,4 @@ returns-2 : tie.Need-returns-2
 returns-2 c = λ l. ((λ z. absurd (c .if1 .left z)), (λ z. refl))
 
 pub range-known-spec : {M : Type 1} → statement M
-range-known-spec = tie.close (tie.spec range-known-requires returns returns-2)
+range-known-spec = tie.close (tie.spec (λ c κs. search needs) returns returns-2)

@@ -14,9 +14,6 @@ returns c =
     left-ends (a .image .now) (a .scr .now) (a .k) (rangeRest (a .image .now) (a .e) (a .lsb) (a .w)) (a .at)
     (range-short (a .image .now) (pre .1) (a .e) (pre .2) (a .lsb) (a .w) (a .k) (a .at) (pre .3) (omega (arith, c .if1 .taken)))
 
-range-turn-requires : tie.Need-range-turn-requires
-range-turn-requires c κs = search needs
-
 left-by-requires : tie.Need-left-by-requires
 left-by-requires c κs =
     let a = c .before .before .before .before .args in
@@ -31,4 +28,4 @@ returns-2 c =
     (range-short (a .image .now) (pre .1) (a .e) (pre .2) (a .lsb) (a .w) 4294967295 0 (pre .3) (omega arith)) (c .before .range-turn .ensures)
 
 pub range-left-spec : {M : Type 1} → statement M
-range-left-spec = tie.close (tie.spec returns range-turn-requires left-by-requires returns-2)
+range-left-spec = tie.close (tie.spec returns (λ c κs. search needs) left-by-requires returns-2)

@@ -13,9 +13,6 @@ returns c =
     let pre = c .before .before .before .pre in
     left-ends (a .image .now) (a .scr .now) (a .k) (wholeRest (a .image .now) (a .e)) 0 (whole-short (a .image .now) (pre .1) (a .e) (pre .2) (a .k) (omega (arith, c .if1 .taken)))
 
-whole-turn-requires : tie.Need-whole-turn-requires
-whole-turn-requires c κs = search needs
-
 left-by-requires : tie.Need-left-by-requires
 left-by-requires c κs =
     let a = c .before .before .before .before .args in
@@ -29,4 +26,4 @@ returns-2 c =
     c .left-by .ensures (wholeRest (a .image .now) (a .e)) 0 (whole-short (a .image .now) (pre .1) (a .e) (pre .2) 4294967295 (omega arith)) (c .before .whole-turn .ensures)
 
 pub whole-left-spec : {M : Type 1} → statement M
-whole-left-spec = tie.close (tie.spec returns whole-turn-requires left-by-requires returns-2)
+whole-left-spec = tie.close (tie.spec returns (λ c κs. search needs) left-by-requires returns-2)

@@ -11,16 +11,8 @@ copy-whole-requires c κs = (c .before .before .before .before .before .pre .0, 
 copy-whole-requires-2 : tie.Need-copy-whole-requires-2
 copy-whole-requires-2 c κs = (c .before .before .before .before .before .before .before .before .before .pre .0, c .before .before .before .before .before .before .before .before .before .pre .2, omega (arith, c .before .before .before .before .before .before .before .before .before .pre .7, c .before .before .before .before .before .before .before .before .before .pre .8))
 
-same-length : tie.Need-same-length
-same-length c = search needs
-
-same-length-2 : tie.Need-same-length-2
-same-length-2 c = search needs
-
 returns : tie.Need-returns
 returns c = binary-read _ _ (c .before .before .before .before .before .before .before .before .before .before .before .before .pre .0) _ _ _ _ _ _ _ _ _ _ _ (c .before .before .before .before .before .before .before .before .before .before .before .before .pre .1) (c .before .before .before .before .before .before .before .before .before .before .before .before .pre .2) (c .before .before .before .before .before .before .before .before .before .before .before .before .pre .3) (c .before .before .before .before .before .before .before .before .before .before .before .before .pre .4) (c .before .before .before .before .before .before .before .before .before .before .before .before .pre .5) (c .before .before .before .before .before .before .before .before .before .before .before .before .pre .6) (c .before .before .before .before .before .before .before .before .before .before .before .before .pre .7) (c .before .before .before .before .before .before .copy-whole .ensures) (c .before .before .copy-whole2 .ensures)
 
 pub binary-operands-spec : {M : Type 1} → statement M
-binary-operands-spec =
-    tie.close
-    (tie.spec copy-whole-requires copy-whole-requires-2 same-length same-length-2 returns)
+binary-operands-spec = tie.close (tie.spec copy-whole-requires copy-whole-requires-2 (λ c. search needs) (λ c. search needs) returns)

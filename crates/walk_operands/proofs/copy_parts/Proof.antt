@@ -14,26 +14,14 @@ abbrev μ-loop : tie.MeasureT-loop
 loop-holds : tie.Need-loop-holds Inv-loop μ-loop
 loop-holds c = parts-begin _ _ _ _ _
 
-sub-i : tie.Need-sub-i Inv-loop μ-loop
-sub-i c = omega arith
-
 add-list-word : tie.Need-add-list-word Inv-loop μ-loop
 add-list-word c = omega (arith, c .before .before .before .before .before .pre .1 .room, c .before .loop .inv .below)
-
-list-word-requires : tie.Need-list-word-requires Inv-loop μ-loop
-list-word-requires c κs = search needs
-
-cast-copy-whole : tie.Need-cast-copy-whole Inv-loop μ-loop
-cast-copy-whole c = search needs
 
 copy-whole-requires : tie.Need-copy-whole-requires Inv-loop μ-loop
 copy-whole-requires c κs = (c .before .before .before .before .before .before .before .pre .0, rw (c .before .list-word .ensures) (c .before .before .before .before .before .before .before .pre .1 .whole _ (omega (arith, c .before .before .before .loop .inv .below))), rw (c .before .list-word .ensures) (omega (arith, parts-room _ _ _ _ _ _ _ _ (omega arith) (c .before .before .before .loop .inv), c .before .before .before .loop .inv .long, c .before .before .before .before .before .before .before .pre .2)))
 
 add-at : tie.Need-add-at Inv-loop μ-loop
 add-at c = omega (arith, rw (c .before .before .before .before .list-word .ensures) at (c .before .before .copy-whole .ensures .width), parts-room _ _ _ _ _ _ _ _ (omega arith) (c .before .before .before .before .before .before .loop .inv), c .before .before .before .before .before .before .before .before .before .before .pre .3)
-
-loop-less : tie.Need-loop-less Inv-loop μ-loop
-loop-less c = omega arith
 
 loop-again : tie.Need-loop-again Inv-loop μ-loop
 loop-again c = parts-turn _ _ _ _ _ _ _ _ _ _ (omega arith) (c .before .before .before .before .before .before .loop .inv) (c .before .before .copy-whole .kept .1 .1 .1 .0) (rw (c .before .before .before .before .list-word .ensures) at (c .before .before .copy-whole .ensures))
@@ -47,17 +35,5 @@ returns c = parts-end _ _ _ _ _ _ _ _ (omega arith) (c .before .loop .inv)
 pub copy-parts-spec : {M : Type 1} → statement M
 copy-parts-spec =
     tie.close
-    (tie.spec
-    Inv-loop
-    μ-loop
-    loop-holds
-    sub-i
-    add-list-word
-    list-word-requires
-    cast-copy-whole
-    copy-whole-requires
-    add-at
-    loop-less
-    loop-again
-    same-length
-    returns)
+    (tie.spec Inv-loop μ-loop loop-holds (λ c. omega arith) add-list-word (λ c κs. search needs) (λ c. search needs) copy-whole-requires add-at
+    (λ c. omega arith) loop-again same-length returns)

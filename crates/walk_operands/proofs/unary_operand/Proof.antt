@@ -8,11 +8,8 @@ use Rattle.walk_operands.proofs.Ways.{unary-read}
 copy-whole-requires : tie.Need-copy-whole-requires
 copy-whole-requires c κs = (c .before .before .before .before .pre .0, c .before .before .before .before .pre .1, omega (arith, c .before .before .before .before .pre .5))
 
-same-length : tie.Need-same-length
-same-length c = search needs
-
 returns : tie.Need-returns
 returns c = unary-read _ _ (c .before .before .before .before .before .before .before .pre .0) _ _ _ _ _ _ _ (c .before .before .before .before .before .before .before .pre .1) (c .before .before .before .before .before .before .before .pre .2) (c .before .before .before .before .before .before .before .pre .3) (c .before .before .before .before .before .before .before .pre .4) (c .before .before .before .before .before .before .before .pre .5) (c .before .before .copy-whole .ensures)
 
 pub unary-operand-spec : {M : Type 1} → statement M
-unary-operand-spec = tie.close (tie.spec copy-whole-requires same-length returns)
+unary-operand-spec = tie.close (tie.spec copy-whole-requires (λ c. search needs) returns)

@@ -7,9 +7,6 @@ use lib.Seq.{length-take-le}
 use Rattle.op_makers.specs.Class.{classOf}
 use Rattle.walk_perform.proofs.Laws.{back-class}
 
-slice-relend-prefix-lower-binary : tie.Need-slice-relend-prefix-lower-binary
-slice-relend-prefix-lower-binary c = search needs
-
 slice-aggregate-lower-binary : tie.Need-slice-aggregate-lower-binary
 slice-aggregate-lower-binary c =
     let c4 = c .before .before .before .before in
@@ -27,15 +24,6 @@ lower-binary-requires c κs =
     let c8 = c4 .before .before .before .before in
     rw (length-take-le (c8 .args .j) (c8 .args .xs .now) (c8 .pre .3), length-take-le (c8 .args .k) (c8 .args .ys .now) (c8 .pre .4)) (c8 .pre .0, c8 .pre .1, c8 .pre .2, c8 .pre .5, c8 .pre .6)
 
-same-length : tie.Need-same-length
-same-length c = search needs
-
-same-length-2 : tie.Need-same-length-2
-same-length-2 c = search needs
-
-same-length-3 : tie.Need-same-length-3
-same-length-3 c = search needs
-
 returns : tie.Need-returns
 returns c =
     let c4 = c .before .before .before .before in
@@ -46,12 +34,5 @@ returns c =
 pub binary-spec : {M : Type 1} → statement M
 binary-spec =
     tie.close
-    (tie.spec
-    slice-relend-prefix-lower-binary
-    slice-aggregate-lower-binary
-    slice-aggregate-lower-binary-2
-    lower-binary-requires
-    same-length
-    same-length-2
-    same-length-3
-    returns)
+    (tie.spec (λ c. search needs) slice-aggregate-lower-binary slice-aggregate-lower-binary-2 lower-binary-requires (λ c. search needs)
+    (λ c. search needs) (λ c. search needs) returns)

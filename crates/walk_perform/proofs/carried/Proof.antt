@@ -7,9 +7,6 @@ use lib.Seq.{length-take-le}
 use Rattle.walk_perform.proofs.Carry.{carry-net}
 use Rattle.walk_job_parts.proofs.Lent.{back-whole}
 
-slice-relend-prefix-arithmetic : tie.Need-slice-relend-prefix-arithmetic
-slice-relend-prefix-arithmetic c = search needs
-
 slice-aggregate-arithmetic : tie.Need-slice-aggregate-arithmetic
 slice-aggregate-arithmetic c =
     let c4 = c .before .before .before .before in
@@ -27,15 +24,6 @@ arithmetic-requires c κs =
     let c8 = c4 .before .before .before .before in
     rw (length-take-le (c8 .args .k) (c8 .args .xs .now) (c8 .pre .3), length-take-le (c8 .args .k) (c8 .args .ys .now) (c8 .pre .4)) (c8 .pre .0, c8 .pre .1, refl, c8 .pre .2)
 
-same-length : tie.Need-same-length
-same-length c = search needs
-
-same-length-2 : tie.Need-same-length-2
-same-length-2 c = search needs
-
-same-length-3 : tie.Need-same-length-3
-same-length-3 c = search needs
-
 returns : tie.Need-returns
 returns c =
     let c4 = c .before .before .before .before in
@@ -46,12 +34,5 @@ returns c =
 pub carried-spec : {M : Type 1} → statement M
 carried-spec =
     tie.close
-    (tie.spec
-    slice-relend-prefix-arithmetic
-    slice-aggregate-arithmetic
-    slice-aggregate-arithmetic-2
-    arithmetic-requires
-    same-length
-    same-length-2
-    same-length-3
-    returns)
+    (tie.spec (λ c. search needs) slice-aggregate-arithmetic slice-aggregate-arithmetic-2 arithmetic-requires (λ c. search needs) (λ c. search needs)
+    (λ c. search needs) returns)

@@ -6,9 +6,6 @@ use mathlib.Core.Path.{sym, _∙_}
 use lib.Seq.{length-take-le}
 use Rattle.walk_job_parts.proofs.Lent.{back-whole}
 
-slice-relend-prefix-mux-bits : tie.Need-slice-relend-prefix-mux-bits
-slice-relend-prefix-mux-bits c = search needs
-
 slice-aggregate-mux-bits : tie.Need-slice-aggregate-mux-bits
 slice-aggregate-mux-bits c =
     let c4 = c .before .before .before .before in
@@ -26,15 +23,6 @@ mux-bits-requires c κs =
     let c8 = c4 .before .before .before .before in
     (c8 .pre .0, length-take-le (c8 .args .w) (c8 .args .xs .now) (c8 .pre .1) ∙ sym (length-take-le (c8 .args .w) (c8 .args .ys .now) (c8 .pre .2)), c8 .pre .3)
 
-same-length : tie.Need-same-length
-same-length c = search needs
-
-same-length-2 : tie.Need-same-length-2
-same-length-2 c = search needs
-
-same-length-3 : tie.Need-same-length-3
-same-length-3 c = search needs
-
 returns : tie.Need-returns
 returns c =
     let c4 = c .before .before .before .before in
@@ -45,12 +33,5 @@ returns c =
 pub mux-spec : {M : Type 1} → statement M
 mux-spec =
     tie.close
-    (tie.spec
-    slice-relend-prefix-mux-bits
-    slice-aggregate-mux-bits
-    slice-aggregate-mux-bits-2
-    mux-bits-requires
-    same-length
-    same-length-2
-    same-length-3
-    returns)
+    (tie.spec (λ c. search needs) slice-aggregate-mux-bits slice-aggregate-mux-bits-2 mux-bits-requires (λ c. search needs) (λ c. search needs)
+    (λ c. search needs) returns)

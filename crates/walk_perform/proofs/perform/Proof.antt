@@ -12,15 +12,6 @@ perform-task-requires c κs =
     let c8 = c4 .before .before .before .before in
     (c8 .before .pre .0, fits-whole _ (c8 .before .args .w) (c8 .before .args .job) (c8 .before .pre .1) (c .before .before .before .if1 .taken), c8 .before .pre .1 .most, c8 .before .pre .2, c8 .before .pre .3, c8 .before .pre .4)
 
-same-length : tie.Need-same-length
-same-length c = search needs
-
-same-length-2 : tie.Need-same-length-2
-same-length-2 c = search needs
-
-same-length-3 : tie.Need-same-length-3
-same-length-3 c = search needs
-
 returns : tie.Need-returns
 returns c =
     let c4 = c .before .before .before .before in
@@ -34,18 +25,6 @@ perform-task-requires-2 c κs =
     let c4 = c .before .before .before .before in
     let c8 = c4 .before .before .before .before in
     (c8 .before .pre .0, fits-narrowed _ (c8 .before .args .w) (c8 .before .args .job) (c8 .before .pre .1) (c .before .before .before .if1 .left), c8 .before .pre .1 .most, c8 .before .pre .2, c8 .before .pre .3, c8 .before .pre .4)
-
-enum-told : tie.Need-enum-told
-enum-told c = search needs
-
-same-length-4 : tie.Need-same-length-4
-same-length-4 c = search needs
-
-same-length-5 : tie.Need-same-length-5
-same-length-5 c = search needs
-
-same-length-6 : tie.Need-same-length-6
-same-length-6 c = search needs
 
 returns-2 : tie.Need-returns-2
 returns-2 c =
@@ -66,15 +45,6 @@ task-width-requires c κs =
 extend-requires : tie.Need-extend-requires
 extend-requires c κs = (c .before .before .before .before .before .before .before .before .before .before .before .before .perform-task2 .ensures .held, rw (c .before .before .before .task-width .ensures) (made-within (c .before .before .before .before .before .before .before .before .before .before .before .before .before .before .before .before .before .before .before .before .before .before .args .job .narrow) (c .before .before .before .before .before .before .before .before .before .before .before .before .before .before .before .before .before .before .before .before .before .before .args .w) (c .before .before .before .before .before .before .before .before .before .before .before .before .before .before .before .before .before .before .before .before .before .before .args .job .task) (c .before .before .before .before .before .before .before .before .before .before .before .before .before .before .before .before .before .before .before .before .before .before .pre .1 .narrow)), omega (arith, c .before .before .before .before .before .before .before .before .before .before .before .before .perform-task2 .kept .1 .1 .1 .1 .1 .1 .1 .0, c .before .before .before .before .before .before .before .before .before .before .before .before .before .before .before .before .before .before .before .before .before .before .pre .1 .most, c .before .before .before .before .before .before .before .before .before .before .before .before .before .before .before .before .before .before .before .before .before .before .pre .2))
 
-same-length-7 : tie.Need-same-length-7
-same-length-7 c = search needs
-
-same-length-8 : tie.Need-same-length-8
-same-length-8 c = search needs
-
-same-length-9 : tie.Need-same-length-9
-same-length-9 c = search needs
-
 returns-3 : tie.Need-returns-3
 returns-3 c =
     let c4 = c .before .before .before .before in
@@ -89,21 +59,6 @@ returns-3 c =
 pub perform-spec : {M : Type 1} → statement M
 perform-spec =
     tie.close
-    (tie.spec
-    perform-task-requires
-    same-length
-    same-length-2
-    same-length-3
-    returns
-    perform-task-requires-2
-    enum-told
-    same-length-4
-    same-length-5
-    same-length-6
-    returns-2
-    task-width-requires
-    extend-requires
-    same-length-7
-    same-length-8
-    same-length-9
-    returns-3)
+    (tie.spec perform-task-requires (λ c. search needs) (λ c. search needs) (λ c. search needs) returns perform-task-requires-2 (λ c. search needs)
+    (λ c. search needs) (λ c. search needs) (λ c. search needs) returns-2 task-width-requires extend-requires (λ c. search needs) (λ c. search needs)
+    (λ c. search needs) returns-3)

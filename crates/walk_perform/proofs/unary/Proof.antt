@@ -6,9 +6,6 @@ use mathlib.Core.Path.{sym}
 use lib.Seq.{length-take-le}
 use Rattle.walk_perform.proofs.Laws.{back-unary}
 
-slice-relend-prefix-lower-unary : tie.Need-slice-relend-prefix-lower-unary
-slice-relend-prefix-lower-unary c = search needs
-
 slice-aggregate-lower-unary : tie.Need-slice-aggregate-lower-unary
 slice-aggregate-lower-unary c =
     let c4 = c .before .before .before .before in
@@ -18,15 +15,6 @@ lower-unary-requires : tie.Need-lower-unary-requires
 lower-unary-requires c κs =
     let c4 = c .before .before .before .before in
     (c4 .before .before .pre .0, rw (length-take-le (c4 .before .before .args .k) (c4 .before .before .args .xs .now) (c4 .before .before .pre .2)) (c4 .before .before .pre .1))
-
-same-length : tie.Need-same-length
-same-length c = search needs
-
-same-length-2 : tie.Need-same-length-2
-same-length-2 c = search needs
-
-same-length-3 : tie.Need-same-length-3
-same-length-3 c = search needs
 
 returns : tie.Need-returns
 returns c =
@@ -38,11 +26,4 @@ returns c =
 pub unary-spec : {M : Type 1} → statement M
 unary-spec =
     tie.close
-    (tie.spec
-    slice-relend-prefix-lower-unary
-    slice-aggregate-lower-unary
-    lower-unary-requires
-    same-length
-    same-length-2
-    same-length-3
-    returns)
+    (tie.spec (λ c. search needs) slice-aggregate-lower-unary lower-unary-requires (λ c. search needs) (λ c. search needs) (λ c. search needs) returns)

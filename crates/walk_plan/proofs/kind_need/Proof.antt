@@ -7,48 +7,15 @@ use native.Mathlib.Omega.{arith}
 use lib.ListN.{drop}
 use Rattle.walk_plan.specs.Kinds.{none-left, turn-for, needs-signal, needs-constant, needs-unary, needs-binary, needs-mux, needs-concat, needs-slice}
 
-enum-known-kind : tie.Need-enum-known-kind
-enum-known-kind c = search needs
-
-enum-told : tie.Need-enum-told
-enum-told c = search needs
-
-enum-known-kind-2 : tie.Need-enum-known-kind-2
-enum-known-kind-2 c = search needs
-
-one-requires : tie.Need-one-requires
-one-requires c κs = search needs
-
-enum-known-kind-3 : tie.Need-enum-known-kind-3
-enum-known-kind-3 c = search needs
-
 operands-requires : tie.Need-operands-requires
 operands-requires c κs =
     let pre = c .before .before .before .before .pre in
     rw (c .before .kind3 .given .1) at (pre)
 
-operand-requires : tie.Need-operand-requires
-operand-requires c κs = search needs
-
-enum-known-kind-4 : tie.Need-enum-known-kind-4
-enum-known-kind-4 c = search needs
-
-triple-requires : tie.Need-triple-requires
-triple-requires c κs = search needs
-
-enum-known-kind-5 : tie.Need-enum-known-kind-5
-enum-known-kind-5 c = search needs
-
 part-requires : tie.Need-part-requires
 part-requires c κs =
     let pre = c .before .before .before .before .pre in
     rw (c .before .kind5 .given .1) at (pre)
-
-enum-known-kind-6 : tie.Need-enum-known-kind-6
-enum-known-kind-6 c = search needs
-
-one-requires-2 : tie.Need-one-requires-2
-one-requires-2 c κs = search needs
 
 returns : tie.Need-returns
 returns c =
@@ -90,24 +57,6 @@ returns-7 c =
 pub kind-need-spec : {M : Type 1} → statement M
 kind-need-spec =
     tie.close
-    (tie.spec
-    enum-known-kind
-    enum-told
-    enum-known-kind-2
-    one-requires
-    enum-known-kind-3
-    operands-requires
-    operand-requires
-    enum-known-kind-4
-    triple-requires
-    enum-known-kind-5
-    part-requires
-    enum-known-kind-6
-    one-requires-2
-    returns
-    returns-2
-    returns-3
-    returns-4
-    returns-5
-    returns-6
-    returns-7)
+    (tie.spec (λ c. search needs) (λ c. search needs) (λ c. search needs) (λ c κs. search needs) (λ c. search needs) operands-requires
+    (λ c κs. search needs) (λ c. search needs) (λ c κs. search needs) (λ c. search needs) part-requires (λ c. search needs) (λ c κs. search needs)
+    returns returns-2 returns-3 returns-4 returns-5 returns-6 returns-7)

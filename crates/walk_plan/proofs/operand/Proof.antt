@@ -6,22 +6,10 @@ use mathlib.Core.Path.{ap}
 use Rattle.expr_fusion.specs.Fusion.{carryOf, shown}
 use Rattle.walk_plan.specs.Kinds.{operand-two, operand-three, turn-for}
 
-enum-known-carry : tie.Need-enum-known-carry
-enum-known-carry c = search needs
-
-enum-told : tie.Need-enum-told
-enum-told c = search needs
-
-pair-requires : tie.Need-pair-requires
-pair-requires c κs = search needs
-
 returns : tie.Need-returns
 returns c = λ s.
     let a = c .before .before .before .args in
     turn-for s _ _ (a .k) (c .pair .result) (operand-two (shown (a .o)) (ap carryOf (c .before .enum-told .given .1))) (c .pair .ensures s)
-
-triple-requires : tie.Need-triple-requires
-triple-requires c κs = search needs
 
 returns-2 : tie.Need-returns-2
 returns-2 c = λ s.
@@ -29,5 +17,4 @@ returns-2 c = λ s.
     turn-for s _ _ (a .k) (c .triple .result) (operand-three (shown (a .o)) _ (ap carryOf (c .before .before .carry .given .1))) (c .triple .ensures s)
 
 pub operand-spec : {M : Type 1} → statement M
-operand-spec =
-    tie.close (tie.spec enum-known-carry enum-told pair-requires returns triple-requires returns-2)
+operand-spec = tie.close (tie.spec (λ c. search needs) (λ c. search needs) (λ c κs. search needs) returns (λ c κs. search needs) returns-2)

@@ -5,18 +5,6 @@ use Rattle.walk_plan.proofs.part.Tie as tie
 use native.Mathlib.Omega.{arith}
 use Rattle.walk_plan.specs.Kinds.{part-next, parts-end}
 
-sub-list-word : tie.Need-sub-list-word
-sub-list-word c = search needs
-
-sub-list-word-2 : tie.Need-sub-list-word-2
-sub-list-word-2 c = search needs
-
-add-list-word : tie.Need-add-list-word
-add-list-word c = search needs
-
-list-word-requires : tie.Need-list-word-requires
-list-word-requires c κs = search needs
-
 returns : tie.Need-returns
 returns c = λ s.
     let a = c .before .before .before .args in
@@ -28,6 +16,4 @@ returns-2 c = λ s.
     parts-end (a .image .now) (a .start) (a .count) (a .k) (c .if1 .left)
 
 pub part-spec : {M : Type 1} → statement M
-part-spec =
-    tie.close
-    (tie.spec sub-list-word sub-list-word-2 add-list-word list-word-requires returns returns-2)
+part-spec = tie.close (tie.spec (λ c. search needs) (λ c. search needs) (λ c. search needs) (λ c κs. search needs) returns returns-2)

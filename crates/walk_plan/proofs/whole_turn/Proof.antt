@@ -6,9 +6,6 @@ use Rattle.law_accepted.specs.Formed.{readable}
 use Rattle.walk_plan.specs.Kinds.{whole-read}
 use Rattle.walk_plan.specs.Fits.{asked}
 
-expression-at-requires : tie.Need-expression-at-requires
-expression-at-requires c κs = search needs
-
 kind-need-requires : tie.Need-kind-need-requires
 kind-need-requires c κs =
     let a = c .before .before .args in
@@ -22,4 +19,4 @@ returns c =
     rw (whole-read (a .image .now) (readable (a .image .now) (pre .0)) (a .e) (pre .1) _ (c .before .expression-at .ensures)) at (c .kind-need .ensures)
 
 pub whole-turn-spec : {M : Type 1} → statement M
-whole-turn-spec = tie.close (tie.spec expression-at-requires kind-need-requires returns)
+whole-turn-spec = tie.close (tie.spec (λ c κs. search needs) kind-need-requires returns)

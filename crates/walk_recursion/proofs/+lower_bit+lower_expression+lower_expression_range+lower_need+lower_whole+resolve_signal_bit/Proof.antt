@@ -40,7 +40,7 @@ use Rattle.net_view.specs.View.{netlistOf}
 use Rattle.scratch_view.specs.View.{limitOf}
 use Rattle.scratch_tables.specs.Answers.{knownOf, drivenBy}
 use Rattle.walk_view.specs.View.{walkState, costOf, There}
-use Rattle.walk_invariant.specs.Answers.{not-done-tag}
+use Rattle.walk_view.proofs.Answers.{not-done-tag}
 use Rattle.walk_recursion.specs.declared.Part.the-variants as P
 use Rattle.walk_recursion.specs.Walk.{costNeed, At}
 use Rattle.walk_recursion.proofs.Ways.{turn-start, turn-next, whole-at, met-whole, bit-known, bit-none, bit-marked, driver-there, marked-ready, marked-sure, marked-less, bit-lowered}

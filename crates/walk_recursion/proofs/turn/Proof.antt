@@ -4,9 +4,6 @@ use Rattle.walk_recursion.proofs.Ways.{whole-at}
 use Rattle.walk_recursion.proofs.turn.Statement.{statement}
 use Rattle.walk_recursion.proofs.turn.Tie as tie
 
-enum-known-part : tie.Need-enum-known-part
-enum-known-part c = search needs
-
 turn-whole-requires : tie.Need-turn-whole-requires
 turn-whole-requires c κs =
     let a = c .before .before .before .before .before .before .before .before .args in
@@ -18,20 +15,11 @@ turn-whole-requires c κs =
     let so = rw (told .1) at (pre .so) in
     record { net₀ = pre .net₀; w₀ = pre .w₀; so = whole-at i (pre .net₀) (pre .w₀) (told .0 .0) (a .k) (a .at) n w so }
 
-enum-known-part-2 : tie.Need-enum-known-part-2
-enum-known-part-2 c = search needs
-
 turn-range-requires : tie.Need-turn-range-requires
 turn-range-requires c κs =
     let pre = c .before .before .before .before .before .before .before .before .pre in
     let told = c .before .before .before .part2 .given in
     record { net₀ = pre .net₀; w₀ = pre .w₀; so = rw (told .1) at (pre .so) }
-
-same-length : tie.Need-same-length
-same-length c = search needs
-
-same-length-2 : tie.Need-same-length-2
-same-length-2 c = search needs
 
 returns : tie.Need-returns
 returns c =
@@ -42,12 +30,6 @@ returns c =
     let told = c .before .before .before .before .before .before .before .before .part .given in
     λ net₀ w₀ h. rw (told .1) (c .before .before .before .before .turn-whole .ensures net₀ w₀ (whole-at i net₀ w₀ (told .0 .0) (a .k) (a .at) n w (rw (told .1) at h)))
 
-same-length-3 : tie.Need-same-length-3
-same-length-3 c = search needs
-
-same-length-4 : tie.Need-same-length-4
-same-length-4 c = search needs
-
 returns-2 : tie.Need-returns-2
 returns-2 c =
     let told = c .before .before .before .before .before .before .before .before .part2 .given in
@@ -56,14 +38,5 @@ returns-2 c =
 pub turn-spec : {M : Type 1} → statement M
 turn-spec =
     tie.close
-    (tie.spec
-    enum-known-part
-    turn-whole-requires
-    enum-known-part-2
-    turn-range-requires
-    same-length
-    same-length-2
-    returns
-    same-length-3
-    same-length-4
-    returns-2)
+    (tie.spec (λ c. search needs) turn-whole-requires (λ c. search needs) turn-range-requires (λ c. search needs) (λ c. search needs) returns
+    (λ c. search needs) (λ c. search needs) returns-2)

@@ -9,12 +9,6 @@ use Rattle.net_view.specs.View.{netlistOf}
 use Rattle.scratch_view.specs.View.{limitOf}
 use Rattle.walk_recursion.proofs.Ways.{range-over, range-left, range-below, loop-pass, loop-met, loop-end}
 
-range-known-requires : tie.Need-range-known-requires
-range-known-requires c κs = search needs
-
-same-length : tie.Need-same-length
-same-length c = search needs
-
 returns : tie.Need-returns
 returns c =
     let a = c .before .before .before .before .before .before .args in
@@ -23,15 +17,6 @@ returns c =
     let w = a .scr .now in
     let known = c .before .range-known in
     λ net₀ w₀ h. range-over i net₀ w₀ (a .e) (a .lsb) (a .w) (a .k) (a .at) n w h (known .result) (known .ensures (netlistOf (limitOf w) n)) (c .if1 .taken)
-
-range-left-requires : tie.Need-range-left-requires
-range-left-requires c κs = search needs
-
-enum-known-need : tie.Need-enum-known-need
-enum-known-need c = search needs
-
-enum-told : tie.Need-enum-told
-enum-told c = search needs
 
 build-range-requires : tie.Need-build-range-requires
 build-range-requires c κs =
@@ -48,9 +33,6 @@ build-range-requires c κs =
     let over = loop-pass i (pre .net₀) (pre .w₀) (M.Range (a .e) (a .lsb) (a .w)) _ _ n w _ [] (now-left .0) left in
     (over .ready, over .sure, pre .so .there .0, now-left .1, pre .so .there .1, loop-met i (pre .net₀) (pre .w₀) (M.Range (a .e) (a .lsb) (a .w)) _ _ _ [] n w n w over refl)
 
-same-length-2 : tie.Need-same-length-2
-same-length-2 c = search needs
-
 returns-2 : tie.Need-returns-2
 returns-2 c =
     let a = c .before .before .before .before .before .before .before .before .before .before .before .args in
@@ -62,12 +44,6 @@ returns-2 c =
     let first = known .ensures (netlistOf (limitOf w) n) in
     let left = rw (c .before .need .given .1) at (c .before .before .before .range-left .ensures) in
     λ net₀ w₀ h. range-below i net₀ w₀ (a .e) (a .lsb) (a .w) (a .k) (a .at) n w _ _ _ (range-left i net₀ w₀ (a .e) (a .lsb) (a .w) (a .k) (a .at) n w h (known .result) first none-yet) left
-
-same-length-3 : tie.Need-same-length-3
-same-length-3 c = search needs
-
-same-length-4 : tie.Need-same-length-4
-same-length-4 c = search needs
 
 returns-3 : tie.Need-returns-3
 returns-3 c =
@@ -86,16 +62,5 @@ returns-3 c =
 pub turn-range-spec : {M : Type 1} → statement M
 turn-range-spec =
     tie.close
-    (tie.spec
-    range-known-requires
-    same-length
-    returns
-    range-left-requires
-    enum-known-need
-    enum-told
-    build-range-requires
-    same-length-2
-    returns-2
-    same-length-3
-    same-length-4
-    returns-3)
+    (tie.spec (λ c κs. search needs) (λ c. search needs) returns (λ c κs. search needs) (λ c. search needs) (λ c. search needs) build-range-requires
+    (λ c. search needs) returns-2 (λ c. search needs) (λ c. search needs) returns-3)

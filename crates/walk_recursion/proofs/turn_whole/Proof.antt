@@ -7,12 +7,6 @@ use mathlib.Core.List.{[]}
 use Rattle.spec_model.specs.Lowering as M
 use Rattle.walk_recursion.proofs.Ways.{whole-over, whole-left, whole-below, loop-pass, loop-met, loop-end}
 
-whole-known-requires : tie.Need-whole-known-requires
-whole-known-requires c κs = search needs
-
-same-length : tie.Need-same-length
-same-length c = search needs
-
 returns : tie.Need-returns
 returns c =
     let a = c .before .before .before .before .before .before .args in
@@ -21,15 +15,6 @@ returns c =
     let w = a .scr .now in
     let known = c .before .whole-known in
     λ net₀ w₀ h. whole-over i net₀ w₀ (a .e) (a .k) 0 n w h (known .result) (known .ensures) (c .if1 .taken)
-
-whole-left-requires : tie.Need-whole-left-requires
-whole-left-requires c κs = search needs
-
-enum-known-need : tie.Need-enum-known-need
-enum-known-need c = search needs
-
-enum-told : tie.Need-enum-told
-enum-told c = search needs
 
 build-whole-requires : tie.Need-build-whole-requires
 build-whole-requires c κs =
@@ -45,9 +30,6 @@ build-whole-requires c κs =
     let over = loop-pass i (pre .net₀) (pre .w₀) (M.Whole (a .e)) _ _ n w _ [] now-left left in
     (over .ready, over .sure, pre .so .there, loop-met i (pre .net₀) (pre .w₀) (M.Whole (a .e)) _ _ _ [] n w n w over refl)
 
-same-length-2 : tie.Need-same-length-2
-same-length-2 c = search needs
-
 returns-2 : tie.Need-returns-2
 returns-2 c =
     let a = c .before .before .before .before .before .before .before .before .before .before .before .args in
@@ -58,12 +40,6 @@ returns-2 c =
     let none-yet = c .before .before .before .before .before .if1 .left in
     let left = rw (c .before .need .given .1) at (c .before .before .before .whole-left .ensures) in
     λ net₀ w₀ h. whole-below i net₀ w₀ (a .e) (a .k) n w _ _ _ (whole-left i net₀ w₀ (a .e) (a .k) 0 n w h (known .result) (known .ensures) none-yet) left
-
-same-length-3 : tie.Need-same-length-3
-same-length-3 c = search needs
-
-same-length-4 : tie.Need-same-length-4
-same-length-4 c = search needs
 
 returns-3 : tie.Need-returns-3
 returns-3 c =
@@ -81,16 +57,5 @@ returns-3 c =
 pub turn-whole-spec : {M : Type 1} → statement M
 turn-whole-spec =
     tie.close
-    (tie.spec
-    whole-known-requires
-    same-length
-    returns
-    whole-left-requires
-    enum-known-need
-    enum-told
-    build-whole-requires
-    same-length-2
-    returns-2
-    same-length-3
-    same-length-4
-    returns-3)
+    (tie.spec (λ c κs. search needs) (λ c. search needs) returns (λ c κs. search needs) (λ c. search needs) (λ c. search needs) build-whole-requires
+    (λ c. search needs) returns-2 (λ c. search needs) (λ c. search needs) returns-3)

@@ -1,1 +1,0 @@
-// The bench cases as theorems about the definitions, in specs/: no code.

@@ -1,2 +1,0 @@
--- Classes of operators.
-pub mod OpClass

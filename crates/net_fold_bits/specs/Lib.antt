@@ -1,3 +1,0 @@
--- Definitions and laws of this crate.
-pub mod Ripple
-pub mod Digits

@@ -1,3 +1,0 @@
--- Definitions and laws of this crate.
-pub mod Start
-pub mod Grows

@@ -1,1 +1,0 @@
-// Laws of the netlist builder: definitions and laws in specs/, no code.

@@ -1,2 +1,0 @@
--- What tasks stand for, and when their widths fit.
-pub mod Tasks
