@@ -1,10 +1,9 @@
 /* libstruo: checks a module image (bytes) and lowers it into a netlist image (32-bit words) in lent buffers.
  *
- * `rt staticlib struo` writes target/staticlib/libstruo.a, for x86-64 Linux. The functions call nothing of the C library, ask for no
- * memory and keep nothing between calls, so threads may call them at the same time. Each is proved to end, and to keep its contract,
- * for all bytes, limits and buffer lengths. The contracts stand in crates/struo/src/lib.rt and crates/meaning/specs/Promise.antt; here
- * they are in words. The formats are document 01's, with edition 2 of the module image, where a memory's record has its word width
- * (document 02).
+ * `rt staticlib struo` writes target/staticlib/libstruo.a, for x86-64 Linux. The functions ask for no memory and keep nothing between
+ * calls, so threads may call them at the same time; of the C library the compiler uses memcpy and memset. Each is proved to end, and to
+ * keep its contract, for all bytes, limits and buffer lengths. The contracts stand in crates/struo/src/lib.rt and
+ * crates/spec_rules/specs/Promise.antt; here they are in words. The formats: docs/FORMATS.md. The rules: docs/RULES.md.
  *
  * Nothing is asked of the image's bytes: any bytes are answered.
  *
@@ -14,8 +13,8 @@
  * - `netlist`, `scratch` and `answer` are aligned to 4 bytes. `image` may stand anywhere.
  * - `image_len` is below 2^63, `netlist_len` and `scratch_len` are below 2^63 / 4.
  * - None of the four overlaps another, and nothing else writes them during the call.
- * - The thread has a stack of STRUO_STACK_KB: the lowering calls itself as deep as expressions and signals of the module nest. No
- *   theorem bounds the stack of compiled code; the figure is tested on the deepest images known (examples/test).
+ * - The thread has STRUO_STACK_KB of stack left: the lowering calls itself as deep as expressions and signals of the module nest. No
+ *   theorem bounds the stack of compiled code; the figure is counted, from the levels that an image can have and the library's frames.
  *
  * struo_try_check and struo_try_lower below test what of this can be tested before they call.
  */
@@ -54,16 +53,16 @@ enum struo_answer {
 #define STRUO_NETLIST_WORDS(n, p) ((size_t)16 + 6 * (size_t)(n) + (size_t)(p))
 
 /* Words that the scratch must have for net limit n and an image whose signals have signal_bits bits in all, whose expressions have
- * expression_bits bits in all, and that has so many expressions (document 02; document 01's sum has 2 * expression_bits, and a scratch of
- * that length still serves). */
+ * expression_bits bits in all, and that has so many expressions (docs/RULES.md, buffers). */
 #define STRUO_SCRATCH_WORDS(signal_bits, expression_bits, expressions, n) \
     (4 * (size_t)(signal_bits) + (size_t)(expression_bits) + 8 * (size_t)(expressions) + 4 * (size_t)(n) + 64)
 
 /* Words of scratch that serve every image with net limit n. */
 #define STRUO_SCRATCH_MOST(n) STRUO_SCRATCH_WORDS(4096, 32768, 2048, n)
 
-/* A stack that serves every image known, in units of 1,024 bytes; modules that nest less take less (docs/BENCH.md, Stack). */
-#define STRUO_STACK_KB 8192
+/* A stack that serves every image, in units of 1,024 bytes (docs/BENCH.md, Stack; oracle/stack-bound counts it anew from the library);
+ * modules that nest less take less. */
+#define STRUO_STACK_KB 7680
 
 /* Checks an image: refusals 1, 2, 3, 4, 5, in this order, for net limit n, list limit p and buffers of so many words.
  *
@@ -86,7 +85,7 @@ void struo_check(const uint8_t *image, size_t image_len, uint32_t n, uint32_t p,
  *
  * An accepted netlist image does what the module does: where clocks and asynchronous resets are inputs, from all first contents of
  * registers and memories and over every list of input settings, outputs, register bits, read data and memory words are equal after
- * each step (`Demand3` in crates/meaning/specs/Step.antt). */
+ * each step (`Demand3` in crates/spec_rules/specs/Step.antt). */
 void struo_lower(const uint8_t *image, size_t image_len, uint32_t n, uint32_t p, uint32_t *netlist, size_t netlist_len,
                  uint32_t *scratch, size_t scratch_len, uint32_t answer[3]);
 

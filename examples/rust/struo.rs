@@ -1,7 +1,7 @@
 //! The library's two calls behind safe functions over slices. What include/struo.h asks of pointers and lengths, references and slices
 //! have by their types: they are valid, aligned, apart where one is `&mut`, and below 2^63 bytes. The stack is the caller's to give: that of
-//! the main thread by `ulimit -s`, that of others by `Builder::stack_size`. The package oracle/port, and with it the comparisons and
-//! ./lower, calls the library through this file too.
+//! the main thread by `ulimit -s`, that of others by `Builder::stack_size`. The package oracle/port, and with it ./lower and the
+//! comparisons, calls the library through this file too.
 
 mod library {
     extern "C" {

@@ -1,7 +1,7 @@
 //! Makes the copies of struo's lowering that the driver runs. `Lowering` is
 //! private, so each copy gets two more lines that declare child modules of
 //! ours. The first copy is otherwise unchanged. The plain copy has the rows that
-//! document 02 adds (`docs/struo-ranges-or-xor.patch`); the limited copy has
+//! request Q-5 adds (`docs/struo-ranges-or-xor.patch`); the limited copy has
 //! these and `limits.patch`; a copy of `ranges.rs` alone has these and
 //! `ranges.patch`. Every patch must fit exactly.
 

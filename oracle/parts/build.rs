@@ -1,8 +1,12 @@
-//! Links libtrial.a, which must export the parts that are compared.
+//! Links libcompare_parts.a, which must export the parts that are compared.
 
 #[path = "../port/archive.rs"]
 mod archive;
 
+#[allow(dead_code)]
+#[path = "src/exports.rs"]
+mod exports;
+
 fn main() {
-    archive::link("trial", &["trial_adder_widths", "trial_fusion", "trial_build"]);
+    archive::link("compare_parts", exports::SYMBOLS);
 }

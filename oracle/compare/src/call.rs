@@ -1,5 +1,5 @@
 //! One call of the subject between guards, and where its outcome differs from
-//! what document 01 says.
+//! what docs/RULES.md says.
 
 use crate::expect::{after_call, Expected};
 use crate::limits::Limits;
@@ -17,7 +17,7 @@ pub enum What {
     Lower,
 }
 
-/// How an outcome differs, or the two readings of document 01 do.
+/// How an outcome differs, or the two readings of the checks do.
 #[derive(Clone, Debug)]
 pub struct Difference {
     pub limits: Limits,

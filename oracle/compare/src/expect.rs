@@ -1,8 +1,9 @@
-//! What document 01 says of a call: the answer, and the words both buffers
+//! What docs/RULES.md says of a call: the answer, and the words both buffers
 //! hold afterwards.
 
 use crate::limits::Limits;
 use crate::{Answer, ACCEPTED};
+use image::MOST_LIMIT;
 
 /// The end of a lowering call.
 pub struct Expected {
@@ -43,7 +44,6 @@ fn lower(image: &[u8], n: u32, p: u32) -> Result<Vec<u32>, Answer> {
 /// Nets and list words that lowering the image takes, up to its end or to
 /// where 6, 7 or 8 refuses it; `None` where 3 or 4 does.
 pub fn netlist_use(image: &[u8]) -> Option<(u32, u32)> {
-    const MOST: u32 = 65_535;
     reference::scratch_words(image, 1)?;
     Some(match struo(image, u32::MAX, u32::MAX) {
         driver::Answer::Netlist { nodes, records } => {
@@ -51,8 +51,8 @@ pub fn netlist_use(image: &[u8]) -> Option<(u32, u32)> {
             (nodes.len() as u32, list_words as u32)
         }
         _ => (
-            least(MOST, |n| !matches!(struo(image, n, u32::MAX), driver::Answer::Refused([9, ..]))),
-            least(MOST, |p| !matches!(struo(image, u32::MAX, p), driver::Answer::Refused([10, ..]))),
+            least(MOST_LIMIT, |n| !matches!(struo(image, n, u32::MAX), driver::Answer::Refused([9, ..]))),
+            least(MOST_LIMIT, |p| !matches!(struo(image, u32::MAX, p), driver::Answer::Refused([10, ..]))),
         ),
     })
 }

@@ -20,7 +20,7 @@ pub enum Fault {
     EditionOne,
     /// A scratch one word short is taken.
     ShortScratch,
-    /// Document 01's sum is asked for: two words for each expression bit.
+    /// The former sum is asked for: two words for each expression bit.
     FormerSum,
     /// The net limit 65,536 is taken.
     NetLimit,
@@ -34,7 +34,7 @@ pub enum Fault {
     MemoryDepth,
     /// The scratch's last required word is left as it was.
     DirtyScratch,
-    /// A scratch of document 01's sum is cleared to that sum.
+    /// A scratch of the former sum is cleared to that sum.
     FormerClear,
     /// The word beyond the netlist's required ones is cleared.
     WordBeyond,
@@ -112,7 +112,7 @@ impl Subject for Faulty {
     }
 }
 
-/// What document 01 asked for beyond document 02's sum, under any net limit.
+/// What the former sum has beyond the present one, under any net limit.
 fn words_freed(image: &[u8]) -> usize {
     Scratch::of(image, 1).map_or(0, |scratch| scratch.former - scratch.required)
 }

@@ -2,7 +2,7 @@
 //! list words, 8,192 words of scratch, 32,768 bytes.
 
 use crate::expect::netlist_use;
-use image::{Builder, Control, Image, Memory, Port, Random, Register};
+use image::{inverter, Builder, Control, Memory, Port, Random, Register};
 
 /// Inputs at each limit and just beyond it, by name.
 pub fn at_the_limits() -> Vec<(&'static str, Vec<u8>)> {
@@ -71,7 +71,7 @@ fn with_list_words(width: u32, words: u32) -> Vec<u8> {
     sums(words + 1 - least)
 }
 
-/// A word, and its top bits once more, make up the scratch. Document 01's sum
+/// A word, and its top bits once more, make up the scratch. The former sum
 /// has hundreds of words more.
 fn with_scratch(words: u32) -> Vec<u8> {
     let tops = |width: u32, bits: u32| {
@@ -103,16 +103,6 @@ fn with_bytes(bytes: usize) -> Vec<u8> {
 fn followed(mut input: Vec<u8>, bytes: usize) -> Vec<u8> {
     input.extend((0..bytes).map(|at| at as u8));
     input
-}
-
-fn inverter() -> Image {
-    let mut builder = Builder::new();
-    let input = builder.input("a", 1);
-    let output = builder.output("y", 1);
-    let read = builder.read(input);
-    let inverted = builder.not(read);
-    builder.assign(output, inverted);
-    builder.finish()
 }
 
 /// An input whose bits have names of 64 bytes: one of 1,008 bits just has room

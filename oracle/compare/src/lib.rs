@@ -1,12 +1,11 @@
-//! Comparing the port with document 01: cases, limits, the call with guarded
+//! Comparing the port with docs/RULES.md: cases, limits, the call with guarded
 //! buffers, what must be in them afterwards, shrinking, and the replay list; and
-//! parts of the port with struo's own functions.
+//! parts of the port with struo's own functions. Also how calls are timed.
 
 pub mod args;
 pub mod builds;
 pub mod call;
 pub mod cases;
-pub mod corpus;
 pub mod expect;
 pub mod faults;
 pub mod inputs;
@@ -22,6 +21,7 @@ pub mod shrink;
 pub mod shrunk;
 pub mod subject;
 pub mod tables;
+pub mod timing;
 
 /// Number and two places; all 0 for acceptance.
 pub type Answer = [u32; 3];

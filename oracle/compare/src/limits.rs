@@ -40,7 +40,7 @@ pub enum Room {
     Short(usize),
     /// So many words beyond.
     Longer(usize),
-    /// So many parts of 256 of the way to document 01's sum, and so many words
+    /// So many parts of 256 of the way to the former sum, and so many words
     /// beyond.
     Former(u32, usize),
     /// This many words.
@@ -70,7 +70,7 @@ impl Limit {
 }
 
 impl Room {
-    /// Where `required` words are, and by document 01's own sum `former`.
+    /// Where `required` words are, and by the former sum `former`.
     fn of(self, required: usize, former: usize) -> usize {
         match self {
             Room::Exact => required,
@@ -164,7 +164,7 @@ pub fn for_check(random: &mut Random) -> Vec<Recipe> {
     ]
 }
 
-/// More words than are required: a few, some below document 01's sum, or that
+/// More words than are required: a few, some below the former sum, or that
 /// sum and a few.
 fn long_scratch(random: &mut Random) -> Room {
     match random.below(3) {
@@ -201,7 +201,7 @@ mod tests {
     use super::{long_scratch, Random};
 
     #[test]
-    fn long_scratches_reach_both_sides_of_document_01s_sum() {
+    fn long_scratches_reach_both_sides_of_the_former_sum() {
         let mut random = Random::new(1);
         let words: Vec<usize> = (0..200).map(|_| long_scratch(&mut random).of(100, 300)).collect();
         assert!(words.iter().all(|words| (100..=308).contains(words)));

@@ -1,5 +1,5 @@
-//! The words of scratch that an image asks for, beside document 01's own sum,
-//! which document 02 made less; and which of them calls lend.
+//! The words of scratch that an image asks for, beside the larger sum before
+//! request Q-10, the former one; and which of them calls lend.
 
 use crate::limits::Limits;
 use crate::Answer;
@@ -10,7 +10,7 @@ use std::fmt;
 #[derive(Clone, Copy, Debug, PartialEq, Eq)]
 pub struct Scratch {
     pub required: usize,
-    /// By document 01's own sum; never fewer.
+    /// By the former sum; never fewer.
     pub former: usize,
 }
 
@@ -28,9 +28,9 @@ impl Scratch {
 pub struct Lent {
     pub exact: u64,
     pub one_short: u64,
-    /// Longer, and below document 01's sum.
+    /// Longer, and below the former sum.
     pub between: u64,
-    /// Longer, and not below document 01's sum.
+    /// Longer, and not below the former sum.
     pub former: u64,
 }
 
@@ -61,7 +61,7 @@ impl fmt::Display for Lent {
     fn fmt(&self, f: &mut fmt::Formatter) -> fmt::Result {
         let Lent { exact, one_short, between, former } = self;
         write!(f, "scratch exact in {exact} calls, one word short in {one_short}, ")?;
-        write!(f, "longer in {}, {between} of them below document 01's sum", between + former)
+        write!(f, "longer in {}, {between} of them below the former sum", between + former)
     }
 }
 

@@ -2,7 +2,7 @@
 //! reduces widths and fields, and tidies list and names.
 
 use image::memory_field::{FIRST_PORT, HAS_SECOND, SECOND_PORT, WORD_WIDTH};
-use image::{constant_words, kind, port_field, set_word, Image, ABSENT, HEADER_BYTES, MEMORY_FIELDS};
+use image::{constant_words, kind, port_field, set_word, word_at, Image, ABSENT, HEADER_BYTES, MEMORY_FIELDS};
 use std::time::{Duration, Instant};
 
 const MOST_ATTEMPTS: usize = 60_000;
@@ -411,11 +411,10 @@ fn field_count(image: &Image) -> usize {
 /// Makes one field of a record or one list word absent, 0, half, or one less.
 fn lower_field(image: &Image, place: usize) -> Vec<Image> {
     let bytes = image.encode();
-    let at = HEADER_BYTES + 4 * place;
     if place >= field_count(image) {
         return Vec::new();
     }
-    let value = u32::from_le_bytes([bytes[at], bytes[at + 1], bytes[at + 2], bytes[at + 3]]);
+    let value = word_at(&bytes, HEADER_BYTES / 4 + place);
     let absent_control = absent_from(image, place);
     let lower = [0, value / 2, value.saturating_sub(1)].into_iter().filter(|&lower| lower < value);
     let lowered = lower.filter_map(|lower| {

@@ -16,7 +16,7 @@ enum Fault {
     ReadsLess,
     /// A netlist that just fits is refused.
     EarlyRefusal,
-    /// Document 01's sum of scratch words is asked for.
+    /// The former sum of scratch words is asked for.
     FormerSum,
     /// A refusal's places are exchanged.
     PlacesExchanged,
@@ -61,7 +61,7 @@ impl Lister for Oracle {
     }
 }
 
-/// Document 01's sum; 0 for what is refused before it.
+/// The former sum; 0 for what is refused before it.
 fn former_scratch(input: &[u8]) -> usize {
     Scratch::of(input, 1_024).map_or(0, |scratch| scratch.former)
 }

@@ -12,7 +12,7 @@ pub struct Ranged {
     pub range: Option<(u64, u64)>,
     /// The width that an Add is narrowed to.
     pub adder_width: Option<usize>,
-    /// Whether it is document 02's rows that give it this width.
+    /// Whether it is the rows of request Q-5 that give it this width.
     pub by_rows: bool,
 }
 

@@ -1,13 +1,14 @@
 //! Child module of each copy of struo's lowering, so that it may use the private
-//! `Lowering`. It runs the lowering and encodes its netlist as document 01's
-//! nodes and records. Compiled once in each copy, on that copy's own types.
+//! `Lowering`. It runs the lowering and encodes its netlist as nodes and
+//! records of the netlist image (docs/FORMATS.md). Compiled once in each copy, on that copy's own types.
 
 use super::{
     ActiveLevel, EnableControl, IrClockEdge, IrMemoryPort, Lowering, MemoryCell, NetId, Netlist,
     NodeKind, RegisterCell, SynthesisError,
 };
-use crate::module_image::{ModuleImage, bit_name};
+use crate::module_image::ModuleImage;
 use crate::{ABSENT, Answer, rtl};
+use image::bit_name;
 use struo_rtl::Module;
 
 // Sorts of records, by their first word.
@@ -159,7 +160,7 @@ impl RecordOrder {
     }
 }
 
-/// The netlist's nodes and records in document 01's form.
+/// The netlist's nodes and records in the form of docs/FORMATS.md.
 pub(crate) fn encode(image: &ModuleImage, netlist: &Netlist, order: &[usize]) -> Answer {
     Answer::Netlist {
         nodes: nodes(image, netlist),
@@ -190,28 +191,18 @@ fn owners(image: &ModuleImage, netlist: &Netlist) -> Vec<Option<Owner>> {
         }
     }
     for (cell, (register, bit)) in netlist.registers().iter().zip(image.register_bits()) {
-        own(
-            cell.output(),
-            register,
-            bit,
-            image.register_bit_name(register, bit),
-        );
+        own(cell.output(), register, bit, image.register_bit_name(register, bit));
     }
     for (memory, cell) in (0..).zip(netlist.memories()) {
         let second = cell.second_port().map_or(&[][..], IrMemoryPort::read_data);
         for (bit, &net) in (0..).zip(cell.read_data().iter().chain(second)) {
-            own(net, memory, bit, image.memory_bit_name(memory, bit));
+            own(net, memory, bit, image.read_data_bit_name(memory, bit));
         }
     }
     for (index, cell) in (0..).zip(netlist.arithmetic()) {
         let width = number(cell.outputs().len());
         for (bit, &net) in (0..).zip(cell.outputs()) {
-            own(
-                net,
-                index,
-                bit,
-                bit_name(&format!("arith{index}"), width, bit),
-            );
+            own(net, index, bit, bit_name(&format!("arith{index}"), width, bit));
         }
     }
     for (index, cell) in (0..).zip(netlist.comparisons()) {

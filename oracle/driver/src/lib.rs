@@ -1,5 +1,6 @@
 //! The oracle: runs struo's own lowering on module images and gives its answers
-//! in the form of document 01 (netlist images, refusals, the listing's text).
+//! in the form of docs/RULES.md and docs/FORMATS.md (netlist images, refusals, the
+//! listing's text).
 //! Also holds two simulators that follow the step rule, one for modules and one
 //! for netlists.
 
@@ -15,8 +16,8 @@ mod rtl;
 mod simulation;
 mod words;
 
-// Copies of the lowering: `unchanged`; `plain`, with document 02's rows of Or and
-// Xor; `limited`, with these rows and limits.patch. `ranged` is the range
+// Copies of the lowering: `unchanged`; `plain`, with the rows of Or and Xor of
+// request Q-5; `limited`, with these rows and limits.patch. `ranged` is the range
 // analysis alone, with these rows and ranges.patch.
 include!(concat!(env!("OUT_DIR"), "/copies.rs"));
 
@@ -26,12 +27,12 @@ use std::panic::{AssertUnwindSafe, catch_unwind};
 pub use big_stack::with_big_stack;
 pub use building::{Built, Operation, build, digest};
 pub use expressions::{Fused, Ranged, expressions};
-pub use listing::{Check, LISTING_LIMITS, listing, words_listing};
+pub use listing::{Check, LISTING_LIMITS, listing};
 pub use module_sim::ModuleSim;
 pub use netlist_sim::NetlistSim;
 pub use prepared::{Lowered, Prepared};
-pub use simulation::{Contents, NoRun, Observation, Setting};
-pub use words::{answer_in, words};
+pub use simulation::{Contents, NoRun, Observation, Setting, random_word};
+pub use words::words;
 
 use module_image::ModuleImage;
 
@@ -54,8 +55,8 @@ pub enum Answer {
     Crash(String),
 }
 
-/// Lowers an image that passes checks 3 and 4 with the Rust and document 02's
-/// rows. `observable` is the value of `resolve_observable_dependencies`.
+/// Lowers an image that passes checks 3 and 4 with the Rust and the rows
+/// of request Q-5. `observable` is the value of `resolve_observable_dependencies`.
 #[must_use]
 pub fn lower(image: &[u8], observable: bool) -> Answer {
     guarded(|| plain::inside::lower(image, observable))

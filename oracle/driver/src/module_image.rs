@@ -1,16 +1,10 @@
-//! The module image of documents 01 and 02, read into plain records. Only what keeps the
-//! reading itself in bounds is tested here; the image's rules are not.
+//! The records of a module image by the names of their fields (docs/FORMATS.md).
+//! Only what keeps the reading itself in bounds is tested here; the image's rules
+//! are not.
+
+use image::{Image, bit_name, memory_field, read_data_bit_name};
 
 use crate::ABSENT;
-
-const EDITION: u32 = 2;
-const HEADER_FIELDS: usize = 16;
-const SIGNAL_FIELDS: usize = 4;
-const EXPRESSION_FIELDS: usize = 5;
-const ASSIGNMENT_FIELDS: usize = 4;
-const REGISTER_FIELDS: usize = 12;
-const MEMORY_FIELDS: usize = 27;
-const PORT_FIELDS: usize = 10;
 
 pub(crate) const INPUT: u32 = 1;
 pub(crate) const OUTPUT: u32 = 2;
@@ -91,26 +85,14 @@ pub(crate) struct Port {
 impl ModuleImage {
     /// Reads an image; an error says what could not be read.
     pub fn decode(bytes: &[u8]) -> Result<Self, String> {
-        let header = fields(bytes, 0, HEADER_FIELDS)?;
-        if header[0] != EDITION {
-            return Err(format!("edition {} is not {EDITION}", header[0]));
-        }
-        let section = |number: usize| {
-            let (count, offset) = (header[2 + 2 * number], header[3 + 2 * number]);
-            (count as usize, offset as usize)
-        };
-        let (name_bytes, name_offset) = section(6);
-        let names = bytes
-            .get(name_offset..name_offset + name_bytes)
-            .ok_or("the names lie outside the image")?;
-        let (list_words, list_offset) = section(2);
+        let image = &Image::decode(bytes).ok_or("the header does not lay out an image")?;
         Ok(Self {
-            signals: records(bytes, section(0), SIGNAL_FIELDS, |f| signal(names, f))?,
-            expressions: records(bytes, section(1), EXPRESSION_FIELDS, expression)?,
-            list: fields(bytes, list_offset, list_words)?,
-            assignments: records(bytes, section(3), ASSIGNMENT_FIELDS, assignment)?,
-            registers: records(bytes, section(4), REGISTER_FIELDS, |f| register(names, f))?,
-            memories: records(bytes, section(5), MEMORY_FIELDS, |f| memory(names, f))?,
+            signals: all(&image.signals, |f| signal(image, f))?,
+            expressions: image.expressions.iter().map(expression).collect(),
+            list: image.list.clone(),
+            assignments: image.assignments.iter().map(assignment).collect(),
+            registers: all(&image.registers, |f| register(image, f))?,
+            memories: all(&image.memories, |f| memory(image, f))?,
         })
     }
 
@@ -156,89 +138,53 @@ impl ModuleImage {
         bit_name(&register.name, width, bit)
     }
 
-    /// The name of a read data bit; the second port's bits number on.
-    pub fn memory_bit_name(&self, memory: u32, bit: u32) -> String {
+    pub fn read_data_bit_name(&self, memory: u32, bit: u32) -> String {
         let memory = &self.memories[memory as usize];
-        let width = memory.word;
-        if bit < width {
-            bit_name(&memory.name, width, bit)
-        } else {
-            bit_name(&format!("{}_b", memory.name), width, bit - width)
-        }
+        read_data_bit_name(&memory.name, memory.word, bit)
     }
 }
 
-/// A bit's name: the plain name of a one-bit word, else with its number.
-pub(crate) fn bit_name(name: &str, width: u32, bit: u32) -> String {
-    if width == 1 {
-        name.to_string()
-    } else {
-        format!("{name}[{bit}]")
-    }
+fn all<R, T>(records: &[R], read: impl Fn(&R) -> Result<T, String>) -> Result<Vec<T>, String> {
+    records.iter().map(read).collect()
 }
 
-fn fields(bytes: &[u8], offset: usize, count: usize) -> Result<Vec<u32>, String> {
-    let bytes = bytes
-        .get(offset..offset + 4 * count)
-        .ok_or_else(|| format!("{count} fields from byte {offset} are not in the image"))?;
-    Ok(bytes
-        .chunks(4)
-        .map(|field| u32::from_le_bytes([field[0], field[1], field[2], field[3]]))
-        .collect())
+fn name(image: &Image, record: &[u32]) -> Result<String, String> {
+    let name = image.name_of(record).ok_or("a name lies outside the names or is no text")?;
+    Ok(name.to_string())
 }
 
-fn records<T>(
-    bytes: &[u8],
-    (count, offset): (usize, usize),
-    size: usize,
-    read: impl Fn(&[u32]) -> Result<T, String>,
-) -> Result<Vec<T>, String> {
-    fields(bytes, offset, count * size)?
-        .chunks(size)
-        .map(read)
-        .collect()
-}
-
-fn name(names: &[u8], offset: u32, length: u32) -> Result<String, String> {
-    let offset = offset as usize;
-    let bytes = names
-        .get(offset..offset + length as usize)
-        .ok_or("a name lies outside the names")?;
-    String::from_utf8(bytes.to_vec()).map_err(|_| "a name is not ASCII".to_string())
-}
-
-fn signal(names: &[u8], f: &[u32]) -> Result<Signal, String> {
+fn signal(image: &Image, f: &[u32; 4]) -> Result<Signal, String> {
     Ok(Signal {
-        name: name(names, f[0], f[1])?,
+        name: name(image, f)?,
         width: f[2],
         direction: f[3],
     })
 }
 
-fn expression(f: &[u32]) -> Result<Expression, String> {
-    Ok(Expression {
+fn expression(f: &[u32; 5]) -> Expression {
+    Expression {
         kind: f[0],
         width: f[1],
         operands: [f[2], f[3], f[4]],
-    })
+    }
 }
 
-fn assignment(f: &[u32]) -> Result<Assignment, String> {
-    Ok(Assignment {
+fn assignment(f: &[u32; 4]) -> Assignment {
+    Assignment {
         signal: f[0],
         lsb: f[1],
         width: f[2],
         value: f[3],
-    })
+    }
 }
 
 fn control(signal: u32, polarity: u32) -> Option<Control> {
     (signal != ABSENT).then_some(Control { signal, polarity })
 }
 
-fn register(names: &[u8], f: &[u32]) -> Result<Register, String> {
+fn register(image: &Image, f: &[u32; 12]) -> Result<Register, String> {
     Ok(Register {
-        name: name(names, f[0], f[1])?,
+        name: name(image, f)?,
         target: f[2],
         next: f[3],
         clock: f[4],
@@ -252,18 +198,17 @@ fn register(names: &[u8], f: &[u32]) -> Result<Register, String> {
     })
 }
 
-fn memory(names: &[u8], f: &[u32]) -> Result<Memory, String> {
-    let (first, rest) = f[6..].split_at(PORT_FIELDS);
-    let mut ports = vec![port(first)?];
-    if rest[0] == 1 {
-        ports.push(port(&rest[1..])?);
+fn memory(image: &Image, f: &[u32; image::MEMORY_FIELDS]) -> Result<Memory, String> {
+    let mut ports = vec![port(&f[memory_field::FIRST_PORT..])?];
+    if f[memory_field::HAS_SECOND] == 1 {
+        ports.push(port(&f[memory_field::SECOND_PORT..])?);
     }
     Ok(Memory {
-        name: name(names, f[0], f[1])?,
-        depth: f[2],
-        word: f[3],
-        style: f[4],
-        latency: f[5],
+        name: name(image, f)?,
+        depth: f[memory_field::DEPTH],
+        word: f[memory_field::WORD_WIDTH],
+        style: f[memory_field::STYLE],
+        latency: f[memory_field::LATENCY],
         ports,
     })
 }

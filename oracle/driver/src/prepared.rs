@@ -23,7 +23,7 @@ impl Prepared {
         rtl::module(&image).map(Prepared)
     }
 
-    /// `Lowering::new` and `Lowering::lower`, with document 02's rows.
+    /// `Lowering::new` and `Lowering::lower`, with the rows of request Q-5.
     #[must_use]
     pub fn lower(&self) -> Lowered {
         Lowered {

@@ -2,6 +2,8 @@
 
 use std::collections::BTreeMap;
 
+use image::Random;
+
 /// The bits of every input, by signal number.
 pub type Setting = BTreeMap<u32, Vec<bool>>;
 
@@ -14,6 +16,29 @@ pub struct Contents {
     pub read_data: Vec<Vec<Vec<bool>>>,
     /// By memory, address and bit.
     pub memories: Vec<Vec<Vec<bool>>>,
+}
+
+impl Contents {
+    /// The same shape with random words.
+    pub fn randomise(&mut self, random: &mut Random) {
+        let mut fill = |word: &mut Vec<bool>| *word = random_word(word.len() as u32, random);
+        self.registers.iter_mut().for_each(&mut fill);
+        self.read_data.iter_mut().flatten().for_each(&mut fill);
+        self.memories.iter_mut().flatten().for_each(&mut fill);
+    }
+}
+
+/// Any bits; sometimes only few low ones, or all equal but a few.
+pub fn random_word(width: u32, random: &mut Random) -> Vec<bool> {
+    let base = random.flag();
+    let low = random.range(1, width.min(8));
+    match random.below(4) {
+        0 if width > 1 => (0..width).map(|bit| bit < low && random.flag()).collect(),
+        1 if width > 1 => (0..width)
+            .map(|_| base ^ (random.below(width as usize) == 0))
+            .collect(),
+        _ => (0..width).map(|_| random.flag()).collect(),
+    }
 }
 
 /// What can be seen after a setting.

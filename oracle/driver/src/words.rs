@@ -1,10 +1,9 @@
 //! The netlist image as the words of the caller's buffer.
 
+use image::netlist::{EDITION, HEADER_WORDS, NODE_WORDS};
+
 use crate::Answer;
 
-const EDITION: u32 = 1;
-const HEADER_WORDS: usize = 16;
-const NODE_WORDS: usize = 6;
 const SORTS: usize = 5;
 
 /// The `16 + 6n + p` required words of the netlist buffer: the image after
@@ -56,52 +55,4 @@ fn record_counts(records: &[Vec<u32>]) -> [u32; SORTS] {
 
 fn number(value: usize) -> u32 {
     u32::try_from(value).expect("netlist images fit 32 bits")
-}
-
-/// The netlist that these words of a buffer hold. `None` where they are no
-/// netlist image.
-#[must_use]
-pub fn answer_in(words: &[u32]) -> Option<Answer> {
-    if words.first() != Some(&EDITION) {
-        return None;
-    }
-    let section = |count: usize, offset: usize, size: usize| {
-        let (count, offset) = (*words.get(count)? as usize, *words.get(offset)? as usize);
-        words.get(offset..)?.get(..size * count)
-    };
-    let nodes = section(1, 2, NODE_WORDS)?.as_chunks().0.to_vec();
-    let mut list = section(3, 4, 1)?;
-    let mut records = Vec::new();
-    while !list.is_empty() {
-        let (record, rest) = list.split_at_checked(record_length(list)?)?;
-        records.push(record.to_vec());
-        list = rest;
-    }
-    Some(Answer::Netlist { nodes, records })
-}
-
-/// Words of the first record of a list.
-fn record_length(list: &[u32]) -> Option<usize> {
-    let word = |at: usize| list.get(at).map(|&word| word as usize);
-    Some(match word(0)? {
-        0 => 3 + word(2)?,
-        1 => 13,
-        2 => memory_length(list)?,
-        3 => 4 + 3 * word(2)?,
-        4 => 4 + 2 * word(2)?,
-        _ => return None,
-    })
-}
-
-/// "memory (2, index, depth, style, latency, port count; per port four widths,
-/// four net lists in field order, two controls, clock, edge)".
-fn memory_length(list: &[u32]) -> Option<usize> {
-    const CONTROLS_CLOCK_EDGE: usize = 6;
-    let mut length = 6;
-    for _ in 0..*list.get(5)? {
-        let widths = list.get(length..)?.get(..4)?;
-        let nets: usize = widths.iter().map(|&width| width as usize).sum();
-        length += 4 + nets + CONTROLS_CLOCK_EDGE;
-    }
-    Some(length)
 }

@@ -1,11 +1,7 @@
 //! The `oracle` program: its answers, and one line for bad input.
 
-mod common;
-
 use std::path::{Path, PathBuf};
 use std::process::{Command, Output};
-
-use common::*;
 
 fn oracle(arguments: &[&str]) -> Output {
     let program = env!("CARGO_BIN_EXE_oracle");
@@ -39,12 +35,8 @@ fn complaint(arguments: &[&str]) -> String {
 }
 
 fn inverter(name: &str) -> PathBuf {
-    let mut b = Builder::default();
-    let a = b.input_read("a", 1);
-    let inverse = b.unary(BIT_NOT, a);
-    b.output("y", inverse);
     let path = Path::new(env!("CARGO_TARGET_TMPDIR")).join(name);
-    std::fs::write(&path, b.image()).expect("a writable folder");
+    std::fs::write(&path, image::inverter().encode()).expect("a writable folder");
     path
 }
 
@@ -61,6 +53,23 @@ fn images_are_lowered_and_listed() {
     assert_eq!(answer(&["lower", path, "0", "7"]), "refused 1 0 0\n");
     assert!(answer(&["list", path]).starts_with("nets 3 list 8\n0 input a\n"));
     assert!(answer(&["--help"]).contains("oracle lower IMAGE N P"));
+}
+
+#[test]
+fn words_are_written_to_a_file() {
+    let image = inverter("written.image");
+    let image = image.to_str().expect("a plain path");
+    let file = Path::new(env!("CARGO_TARGET_TMPDIR")).join("written.words");
+    let _ = std::fs::remove_file(&file);
+    let target = file.to_str().expect("a plain path");
+    for words in [["no-such-file", "3", "8"], [image, "2", "8"], [image, "0", "8"], [image, "x", "8"]] {
+        complaint(&["lower", words[0], words[1], words[2], "-o", target]);
+        assert!(!file.exists(), "{words:?}");
+    }
+    assert_eq!(answer(&["lower", image, "3", "8", "-o", target]), "");
+    let words = std::fs::read(&file).expect("words");
+    let words = words.chunks(4).map(|word| format!("{}\n", u32::from_le_bytes(word.try_into().expect("a word"))));
+    assert_eq!(words.collect::<String>(), answer(&["lower", image, "3", "8"]));
 }
 
 #[test]

@@ -1,14 +1,20 @@
 //! The copy with limits against the one without: the same answers and the same
 //! record order where no limit is met, and 9 and 10 exactly at the limits.
 
-mod common;
-
-use common::random::{Random, image};
-use common::*;
 use driver::{Answer, lower, lower_limited, with_big_stack, words};
+use image::{ABSENT, Random, Size, assemble, deepest, generate, inverter};
 
 const IMAGES: u64 = 4_000;
 const NO_LIMIT: u32 = u32::MAX;
+
+fn image(seed: u64) -> Vec<u8> {
+    let size = if seed.is_multiple_of(2) { Size::Tiny } else { Size::Small };
+    generate(seed, size).encode()
+}
+
+fn assembled(text: &str) -> Vec<u8> {
+    assemble(text).unwrap_or_else(|error| panic!("{error}: {text}"))
+}
 
 fn list_words(records: &[Vec<u32>]) -> u32 {
     records.iter().map(|record| record.len() as u32).sum()
@@ -19,7 +25,7 @@ fn without_limits_both_copies_agree() {
     let mut outcomes = [0; 9];
     with_big_stack(|| {
         for seed in 0..IMAGES {
-            let image = image(&mut Random::new(seed));
+            let image = image(seed);
             assert_eq!(
                 reference::check(&image, 1, 0, usize::MAX, usize::MAX),
                 [0; 3]
@@ -66,7 +72,7 @@ fn limits_are_exact() {
     with_big_stack(|| {
         for seed in 0..IMAGES / 4 {
             let random = &mut Random::new(seed);
-            let image = image(random);
+            let image = image(seed);
             let answer = lower(&image, false);
             let Answer::Netlist { nodes, records } = &answer else {
                 continue;
@@ -82,7 +88,7 @@ fn limits_are_exact() {
                 "seed {seed}"
             );
             for _ in 0..10 {
-                let (n, p) = (random.below(n), random.below(p));
+                let (n, p) = (random.below(n as usize) as u32, random.below(p as usize) as u32);
                 if let Some(refusal) = refusal_with(n, p, records) {
                     assert_eq!(limited(n, p), Answer::Refused(refusal), "seed {seed}");
                     both_short[refusal[0] as usize - 9] += 1;
@@ -100,7 +106,7 @@ fn a_limit_met_before_another_refusal_comes_first() {
     let mut refused = 0;
     with_big_stack(|| {
         for seed in 0..IMAGES / 4 {
-            let image = image(&mut Random::new(seed));
+            let image = image(seed);
             let answer = lower(&image, false);
             if !matches!(answer, Answer::Refused(_)) {
                 continue;
@@ -116,38 +122,23 @@ fn a_limit_met_before_another_refusal_comes_first() {
 
 #[test]
 fn nodes_are_made_before_their_record() {
-    let mut b = Builder::default();
-    b.input("a", 2);
-    assert_eq!(
-        lower_limited(&b.image(), 1, 0, false),
-        Answer::Refused([9, 0, 0])
-    );
-    let mut b = Builder::default();
-    b.input("a", 1);
-    assert_eq!(
-        lower_limited(&b.image(), 1, 0, false),
-        Answer::Refused([10, 0, 0])
-    );
-    assert!(matches!(
-        lower_limited(&b.image(), 1, 4, false),
-        Answer::Netlist { .. }
-    ));
+    let two = assembled("input a 2\n");
+    assert_eq!(lower_limited(&two, 1, 0, false), Answer::Refused([9, 0, 0]));
+    let one = assembled("input a 1\n");
+    assert_eq!(lower_limited(&one, 1, 0, false), Answer::Refused([10, 0, 0]));
+    assert!(matches!(lower_limited(&one, 1, 4, false), Answer::Netlist { .. }));
 }
 
 /// Cells that no register reads still stand before the register that made them.
 #[test]
 fn records_of_unread_cells_keep_their_place() {
-    let mut b = Builder::default();
-    let clock = b.input("clk", 1);
-    let (x, y) = (b.input_read("x", 2), b.input_read("y", 2));
-    for (name, lhs, rhs) in [("q", x, y), ("r", y, x)] {
-        let target = b.signal(name, 1, OUTPUT);
-        let (less, zero) = (b.binary(LESS_UNSIGNED, lhs, rhs), b.constant(1, 0));
-        let next = b.binary(AND, zero, less);
-        b.register(name, [target, next, clock, 0, ABSENT, 0, ABSENT, 0, 0, 0]);
-    }
-    let answer = lower(&b.image(), false);
-    assert_eq!(answer, lower_limited(&b.image(), NO_LIMIT, NO_LIMIT, false));
+    let image = assembled(
+        "input clk 1\ninput x 2\ninput y 2\noutput q 1\noutput r 1\n\
+         register q target q next (and 1'd0 (ltu x y)) clock clk\n\
+         register r target r next (and 1'd0 (ltu y x)) clock clk\n",
+    );
+    let answer = lower(&image, false);
+    assert_eq!(answer, lower_limited(&image, NO_LIMIT, NO_LIMIT, false));
     let Answer::Netlist { records, .. } = answer else {
         panic!("accepted")
     };
@@ -158,49 +149,21 @@ fn records_of_unread_cells_keep_their_place() {
 /// Reset bit 0 constant, bit 1 not: the record of bit 0 is pushed in between.
 #[test]
 fn a_reset_bit_is_judged_after_the_records_before_it() {
-    let mut b = Builder::default();
-    let (clock, reset) = (b.input("clk", 1), b.input("rst", 1));
-    let a = b.input_read("a", 1);
-    let q = b.signal("q", 2, OUTPUT);
-    let one = b.constant(1, 1);
-    let value = b.concat(&[a, one]);
-    let next = b.read(q);
-    b.register("r", [q, next, clock, 0, ABSENT, 0, reset, 0, 0, value]);
+    let image = assembled(
+        "input clk 1\ninput rst 1\ninput a 1\noutput q 2\n\
+         register r target q next q clock clk reset rst value (concat a 1'd1)\n",
+    );
     let ports = 3 * 4;
-    assert_eq!(
-        lower_limited(&b.image(), 100, ports + 13, false),
-        Answer::Refused([8, 0, 1])
-    );
-    assert_eq!(
-        lower_limited(&b.image(), 100, ports + 12, false),
-        Answer::Refused([10, 0, 0])
-    );
+    assert_eq!(lower_limited(&image, 100, ports + 13, false), Answer::Refused([8, 0, 1]));
+    assert_eq!(lower_limited(&image, 100, ports + 12, false), Answer::Refused([10, 0, 0]));
 }
 
 /// The deepest chain: every bit of a word rests on the bit below through all
 /// expressions. It overflows usual stacks.
 #[test]
 fn the_deepest_chain_is_answered() {
-    let (width, depth) = (32, 1_000);
-    let mut b = Builder::default();
-    let a = b.input_read("a", 1);
-    let s = b.signal("s", width, INTERNAL);
-    let mut word = b.read(s);
-    for _ in 0..depth {
-        word = b.unary(BIT_NOT, word);
-    }
-    b.assign(s, 0, a);
-    for bit in 0..width - 1 {
-        let taken = b.slice(word, bit, 1);
-        b.assign(s, bit + 1, taken);
-    }
-    let top = b.read_slice(s, width - 1, 1);
-    b.output("y", top);
-    let image = b.image();
-    assert_eq!(
-        reference::check(&image, 1, 0, usize::MAX, usize::MAX),
-        [0; 3]
-    );
+    let image = deepest(32, 1_000).encode();
+    assert_eq!(reference::check(&image, 1, 0, usize::MAX, usize::MAX), [0; 3]);
     let answer = lower(&image, false);
     assert!(matches!(answer, Answer::Netlist { .. }));
     assert_eq!(answer, lower_limited(&image, NO_LIMIT, NO_LIMIT, false));
@@ -208,11 +171,7 @@ fn the_deepest_chain_is_answered() {
 
 #[test]
 fn words_hold_header_nodes_and_list() {
-    let mut b = Builder::default();
-    let a = b.input_read("a", 1);
-    let inverse = b.unary(BIT_NOT, a);
-    b.output("y", inverse);
-    let answer = lower(&b.image(), false);
+    let answer = lower(&inverter().encode(), false);
     let mut expected = vec![1, 3, 16, 8, 40, 2, 0, 0, 0, 0, 0, 0, 0, 0, 0, 0];
     expected.extend([0, 0, 0, ABSENT, ABSENT, ABSENT]);
     expected.extend([5, ABSENT, ABSENT, 0, ABSENT, ABSENT]);

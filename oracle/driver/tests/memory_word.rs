@@ -1,22 +1,19 @@
 //! `Memory::word` is the record's word width: struo's own validation holds it
 //! against the read and the write data.
 
-mod common;
-
-use common::*;
 use driver::{Answer, lower, validate};
+use image::assemble;
 
 /// Two ports on words of `read` bits, 4 of them, with the word width written.
 fn memory(read: u32, written: u32) -> Vec<u8> {
-    let mut b = Builder::default();
-    let clock = b.input("clk", 1);
-    let address = b.input_read("a", 2);
-    let data = b.input_read("d", read);
-    let (first, second) = (b.signal("q", read, OUTPUT), b.signal("r", read, OUTPUT));
-    let port = |read_data| plain_port(address, read_data, data, (clock, 0), clock);
-    b.memory("m", 4, &port(first), Some(&port(second)));
-    b.memories[0][3] = written;
-    b.image()
+    let port = |data: &str| format!("port raddr a rdata {data} waddr a wdata d wenable clk clock clk");
+    let text = format!(
+        "input clk 1\ninput a 2\ninput d {read}\noutput q {read}\noutput r {read}\n\
+         memory m depth 4 width {written} {} {}\n",
+        port("q"),
+        port("r")
+    );
+    assemble(&text).expect("a right text")
 }
 
 fn checked(image: &[u8]) -> [u32; 3] {

@@ -1,44 +1,7 @@
-//! What the command lines share: files in, one file out, one line on trouble.
-
-use std::fs;
-use std::path::Path;
-use std::process::ExitCode;
+//! The files that the commands read.
 
 use image::Image;
-
-/// Runs a command with the process's words; a problem is told in one line.
-pub fn main(
-    program: &str,
-    help: &str,
-    command: impl FnOnce(&[&str]) -> Result<(), String>,
-) -> ExitCode {
-    let words: Vec<String> = std::env::args().skip(1).collect();
-    let words: Vec<&str> = words.iter().map(String::as_str).collect();
-    if let ["--help" | "-h"] = words[..] {
-        println!("{help}");
-        return ExitCode::SUCCESS;
-    }
-    match command(&words) {
-        Ok(()) => ExitCode::SUCCESS,
-        Err(problem) => {
-            eprintln!("{program}: {problem}");
-            ExitCode::FAILURE
-        }
-    }
-}
-
-/// The answer to words that fit no command.
-pub fn unknown(program: &str) -> String {
-    format!("unknown arguments; see {program} --help")
-}
-
-pub fn read(path: &str) -> Result<Vec<u8>, String> {
-    fs::read(path).map_err(|error| format!("{path}: {error}"))
-}
-
-pub fn write(path: &str, bytes: &[u8]) -> Result<(), String> {
-    fs::write(Path::new(path), bytes).map_err(|error| format!("{path}: {error}"))
-}
+use image::command::read;
 
 /// A module image that passes checks 3 and 4.
 pub fn read_image(path: &str) -> Result<Image, String> {

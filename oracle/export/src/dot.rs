@@ -4,10 +4,11 @@
 use std::collections::BTreeSet;
 use std::fmt::Write;
 
+use image::netlist::{Control, Memory, MemoryPort, Net, Netlist, Node, Port};
 use image::Image;
 
+use crate::fit::check_fit;
 use crate::module_verilog::name;
-use crate::netlist::{Control, Memory, MemoryPort, Net, Netlist, Node, Port};
 use crate::verilog::digits;
 
 const HEAD: &str = "digraph netlist {\n  rankdir=LR;\n  node [shape=record, fontsize=10, height=0.2];\n  \
@@ -20,7 +21,7 @@ const HEAD: &str = "digraph netlist {\n  rankdir=LR;\n  node [shape=record, font
 /// Says where image and netlist do not fit.
 pub fn dot(netlist: &Netlist, image: Option<&Image>) -> Result<String, String> {
     if let Some(image) = image {
-        netlist.check_fit(image)?;
+        check_fit(netlist, image)?;
     }
     let mut picture = Picture {
         netlist,
@@ -58,12 +59,7 @@ impl Picture<'_> {
         let _ = writeln!(self.text, "  subgraph {{ rank={rank};");
         let netlist = self.netlist;
         for port in netlist.ports.iter().filter(|port| port.input == input) {
-            let label = self.named(|image| {
-                (
-                    image.signals[port.signal as usize][0],
-                    image.signals[port.signal as usize][1],
-                )
-            });
+            let label = self.named(|image| &image.signals[port.signal as usize]);
             let label = label.unwrap_or_else(|| format!("s{}", port.signal));
             self.port(port, &label);
         }
@@ -103,12 +99,9 @@ impl Picture<'_> {
         }
     }
 
-    /// The image's name at the offset and length that `place` picks.
-    fn named(&self, place: impl Fn(&Image) -> (u32, u32)) -> Option<String> {
-        self.image.map(|image| {
-            let (offset, length) = place(image);
-            name(image, offset, length)
-        })
+    /// The name of the image's record that `pick` picks.
+    fn named(&self, pick: impl Fn(&Image) -> &[u32]) -> Option<String> {
+        self.image.map(|image| name(image, pick(image)))
     }
 
     /// Where edges from a net begin.
@@ -207,12 +200,7 @@ impl Picture<'_> {
                 );
             }
             left.extend(controls);
-            let label = self.named(|image| {
-                (
-                    image.registers[register as usize][0],
-                    image.registers[register as usize][1],
-                )
-            });
+            let label = self.named(|image| &image.registers[register as usize]);
             self.draw(Box {
                 node: format!("r{register}"),
                 label: label.unwrap_or_else(|| format!("r{register}")),
@@ -226,7 +214,7 @@ impl Picture<'_> {
     fn memories(&mut self) {
         let netlist = self.netlist;
         for (number, memory) in netlist.memories.iter().enumerate() {
-            let label = self.named(|image| (image.memories[number][0], image.memories[number][1]));
+            let label = self.named(|image| &image.memories[number]);
             let label = label.unwrap_or_else(|| format!("m{number}"));
             let (mut left, mut events) = (Vec::new(), Vec::new());
             for (port, letter) in memory.ports.iter().zip(["a", "b"]) {

@@ -37,7 +37,7 @@ impl<'a> Writer<'a> {
     fn new(image: &'a Image, style: Style) -> Result<Self, String> {
         let mut names = Names::default();
         let signals = image.signals.iter();
-        let signals = signals.map(|signal| names.escaped(&name(image, signal[0], signal[1])));
+        let signals = signals.map(|signal| names.escaped(&name(image, signal)));
         let signals: Vec<String> = signals.collect();
         let numbers = 0..image.expressions.len();
         let expressions = numbers
@@ -66,7 +66,7 @@ impl<'a> Writer<'a> {
         }
         let mut memories = Vec::new();
         for memory in &self.image.memories {
-            let name = self.names.escaped(&name(self.image, memory[0], memory[1]));
+            let name = self.names.escaped(&name(self.image, memory));
             text += &self.memory(memory, &name);
             memories.push(name);
         }
@@ -193,7 +193,7 @@ impl<'a> Writer<'a> {
             asynchronous: record[10] == 1,
             value: self.expressions[record[11] as usize].clone(),
         });
-        let name = name(self.image, record[0], record[1]);
+        let name = name(self.image, record);
         let block = clocked::register(&clocked::Register {
             target: self.signals[record[2] as usize].clone(),
             next: self.expressions[record[3] as usize].clone(),
@@ -322,15 +322,14 @@ fn events(image: &Image) -> Result<Vec<Event>, String> {
 }
 
 /// A name of the image.
-pub fn name(image: &Image, offset: u32, length: u32) -> String {
-    let (offset, length) = (offset as usize, length as usize);
-    String::from_utf8_lossy(&image.names[offset..offset + length]).into_owned()
+pub fn name(image: &Image, record: &[u32]) -> String {
+    image.name_of(record).expect("a name of a checked image").to_string()
 }
 
 /// Names of all signals, by number.
 pub fn signal_names(image: &Image) -> BTreeMap<u32, String> {
     let signals = (0..).zip(&image.signals);
     signals
-        .map(|(number, signal)| (number, name(image, signal[0], signal[1])))
+        .map(|(number, signal)| (number, name(image, signal)))
         .collect()
 }

@@ -1,6 +1,7 @@
 //! Which assignments a module's outputs, registers and memories need. What a
-//! Slice takes is read by bit, and a driver is needed whole (document 01, step
-//! rule). The others may hold loops or undriven bits and are not written.
+//! Slice takes is read by bit, and a driver is needed whole (docs/RULES.md,
+//! needed bits), stated here a second time, apart from the driver. The others may
+//! hold loops or undriven bits and are not written.
 
 use image::memory_field::{FIRST_PORT, HAS_SECOND, SECOND_PORT};
 use image::{ABSENT, Image, MEMORY_FIELDS, kind};

@@ -3,14 +3,15 @@
 
 use std::collections::{BTreeMap, BTreeSet};
 
+use image::netlist::{
+    Arithmetic, Comparison, Control, Memory, MemoryPort, Net, Netlist, Node, RegisterBit,
+};
 use image::Image;
 
 use crate::clocked;
+use crate::fit::check_fit;
 use crate::module_verilog::{name, signal_names};
 use crate::names::Names;
-use crate::netlist::{
-    Arithmetic, Comparison, Control, Memory, MemoryPort, Net, Netlist, Node, RegisterBit,
-};
 use crate::verilog::{Event, EventPort, Style, Verilog, module_head, range, select};
 
 /// The Verilog of a netlist; names come from the module image if it is given.
@@ -26,7 +27,7 @@ pub fn netlist_verilog(
     style: Style,
 ) -> Result<Verilog, String> {
     if let Some(image) = image {
-        netlist.check_fit(image)?;
+        check_fit(netlist, image)?;
     }
     Writer::new(netlist, image, style)?.write(module)
 }
@@ -193,7 +194,7 @@ impl<'a> Writer<'a> {
 
     fn output_lines(&self) -> String {
         let outputs = self.netlist.ports.iter().filter(|port| !port.input);
-        let line = |port: &crate::netlist::Port| {
+        let line = |port: &image::netlist::Port| {
             format!(
                 "  assign {} = {};\n",
                 self.ports[&port.signal],
@@ -342,7 +343,7 @@ fn register_names(names: &mut Names, netlist: &Netlist, image: Option<&Image>) -
         Some(image) => image
             .registers
             .iter()
-            .map(|r| names.escaped(&name(image, r[0], r[1])))
+            .map(|r| names.escaped(&name(image, r)))
             .collect(),
         None => numbered(names, "r", netlist.register_widths().len()),
     }
@@ -353,7 +354,7 @@ fn memory_names(names: &mut Names, netlist: &Netlist, image: Option<&Image>) -> 
         Some(image) => image
             .memories
             .iter()
-            .map(|m| names.escaped(&name(image, m[0], m[1])))
+            .map(|m| names.escaped(&name(image, m)))
             .collect(),
         None => numbered(names, "m", netlist.memories.len()),
     }

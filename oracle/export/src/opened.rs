@@ -44,10 +44,7 @@ impl Opener {
     fn show(&mut self, expression: u32) {
         let width = self.image.expressions[expression as usize][1];
         let name = format!("\x7e{}", self.image.signals.len());
-        let (offset, length) = (self.image.names.len() as u32, name.len() as u32);
-        self.image.names.extend(name.bytes());
-        let signal = self.image.signals.len() as u32;
-        self.image.signals.push([offset, length, width, 2]);
+        let signal = self.image.add_signal(name, width, 2);
         self.image.assignments.push([signal, 0, width, expression]);
     }
 

@@ -1,12 +1,12 @@
 //! Holds images to outside tools: Icarus runs module and netlist and must show
 //! what our simulators show; Yosys proves both equal for all settings.
 
-use driver::{Answer, Contents, ModuleSim, NetlistSim, NoRun, Observation, Setting, lower, words};
+use image::netlist::Netlist;
+use driver::{Answer, ModuleSim, NetlistSim, NoRun, Observation, lower, words};
 use image::memory_field::{DEPTH, WORD_WIDTH};
 use image::{Image, MEMORY_FIELDS, MOST_LIMIT, Random, disassemble, kind};
 
 use crate::bench::{Run, bench};
-use crate::netlist::Netlist;
 use crate::opened::opened;
 use crate::tools::{Proof, Workplace, prove_equal, simulate};
 use crate::verilog::{Style, Verilog};
@@ -144,9 +144,8 @@ fn our_run(
 ) -> Result<Option<Run>, String> {
     let module = ModuleSim::new(&image.encode())?;
     let mut first = module.zero_contents();
-    randomise(&mut first, random);
-    let inputs: Vec<(u32, u32)> = module.inputs().collect();
-    let settings: Vec<Setting> = (0..count).map(|_| setting(&inputs, random)).collect();
+    first.randomise(random);
+    let settings = module.random_settings(count, random);
     let observations = match module.run(&first, &settings) {
         Err(NoRun::ControlNotInput) => return Ok(None),
         run => run.map_err(|problem| format!("no run of the module: {problem:?}"))?,
@@ -159,33 +158,6 @@ fn our_run(
         settings,
         observations,
     }))
-}
-
-fn randomise(contents: &mut Contents, random: &mut Random) {
-    let mut fill = |word: &mut Vec<bool>| *word = random_word(word.len() as u32, random);
-    contents.registers.iter_mut().for_each(&mut fill);
-    contents.read_data.iter_mut().flatten().for_each(&mut fill);
-    contents.memories.iter_mut().flatten().for_each(&mut fill);
-}
-
-fn setting(inputs: &[(u32, u32)], random: &mut Random) -> Setting {
-    inputs
-        .iter()
-        .map(|&(signal, width)| (signal, random_word(width, random)))
-        .collect()
-}
-
-/// Any bits; sometimes only few low ones, or all equal but a few.
-fn random_word(width: u32, random: &mut Random) -> Vec<bool> {
-    let base = random.flag();
-    let low = random.range(1, width.min(8));
-    match random.below(4) {
-        0 if width > 1 => (0..width).map(|bit| bit < low && random.flag()).collect(),
-        1 if width > 1 => (0..width)
-            .map(|_| base ^ (random.below(width as usize) == 0))
-            .collect(),
-        _ => (0..width).map(|_| random.flag()).collect(),
-    }
 }
 
 /// The first line in which they differ, if there is one.

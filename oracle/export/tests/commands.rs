@@ -5,18 +5,19 @@ use std::fs;
 use std::path::PathBuf;
 use std::process::{Command, Output};
 
-const LOWER: &str = env!("CARGO_BIN_EXE_lower-to-words");
 const NETLIST: &str = env!("CARGO_BIN_EXE_netlist-to-verilog");
 const MODULE: &str = env!("CARGO_BIN_EXE_module-to-verilog");
 const DOT: &str = env!("CARGO_BIN_EXE_netlist-to-dot");
 const WITNESS: &str = env!("CARGO_BIN_EXE_witness");
 
-/// A directory of this test with the listing example's image in it.
+/// A directory of this test with the listing example's image and words in it.
 fn directory(name: &str) -> PathBuf {
     let path = std::env::temp_dir().join(format!("export-{}-{name}", std::process::id()));
     fs::create_dir_all(&path).expect("a directory");
-    let bytes = image::assemble("input a 1\noutput y 1\nassign y = not a\n").expect("an image");
-    fs::write(path.join("a.img"), bytes).expect("a file");
+    let image = image::inverter().encode();
+    let words = driver::words(&driver::lower(&image, false), 3, 8).into_iter();
+    fs::write(path.join("a.words"), words.flat_map(u32::to_le_bytes).collect::<Vec<u8>>()).expect("a file");
+    fs::write(path.join("a.img"), image).expect("a file");
     path
 }
 
@@ -31,8 +32,7 @@ fn run(directory: &PathBuf, program: &str, arguments: &[&str]) -> Output {
 #[test]
 fn files_are_written() {
     let directory = directory("good");
-    let commands: [(&str, &[&str], &str); 7] = [
-        (LOWER, &["a.img", "3", "8", "-o", "a.words"], "a.words"),
+    let commands: [(&str, &[&str], &str); 6] = [
         (NETLIST, &["a.words", "-o", "a.v"], "a.v"),
         (
             NETLIST,
@@ -60,10 +60,6 @@ fn files_are_written() {
         );
         assert!(directory.join(file).exists(), "{file}");
     }
-    assert_eq!(
-        fs::read(directory.join("a.words")).expect("words").len(),
-        4 * (16 + 6 * 3 + 8)
-    );
     fs::remove_dir_all(directory).expect("removed");
 }
 
@@ -72,12 +68,7 @@ fn bad_input_is_told_in_one_line_and_nothing_is_written() {
     let directory = directory("bad");
     fs::write(directory.join("short"), [1, 2, 3]).expect("a file");
     fs::write(directory.join("zeros"), [0; 400]).expect("a file");
-    let commands: [(&str, &[&str]); 12] = [
-        (LOWER, &["none.img", "3", "8", "-o", "out"]),
-        (LOWER, &["a.img", "2", "8", "-o", "out"]),
-        (LOWER, &["a.img", "0", "8", "-o", "out"]),
-        (LOWER, &["a.img", "x", "8", "-o", "out"]),
-        (LOWER, &["zeros", "3", "8", "-o", "out"]),
+    let commands: [(&str, &[&str]); 7] = [
         (NETLIST, &["short", "-o", "out"]),
         (NETLIST, &["zeros", "-o", "out"]),
         (NETLIST, &["a.img", "-o", "out"]),

@@ -5,7 +5,7 @@ use image::{Image, assemble};
 
 const LIMIT: u32 = 1_024;
 
-/// The listing example of document 01.
+/// The listing's example in docs/RULES.md.
 const LISTING: &str = "input a 1\noutput y 1\nassign y = not a\n";
 
 fn image(text: &str) -> Image {

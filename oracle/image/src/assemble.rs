@@ -159,11 +159,7 @@ impl Assembler {
         };
         Ok(match name {
             NameAt::Stretch(offset, length) => (offset, length),
-            NameAt::Append(bytes) => {
-                let offset = self.image.names.len() as u32;
-                self.image.names.extend_from_slice(&bytes);
-                (offset, bytes.len() as u32)
-            }
+            NameAt::Append(bytes) => self.image.add_name(bytes).into(),
         })
     }
 

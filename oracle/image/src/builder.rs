@@ -93,11 +93,13 @@ impl Builder {
     }
 
     pub fn finish(mut self) -> Image {
-        for (record, name) in self.image.registers.iter_mut().zip(&self.register_names) {
-            (record[0], record[1]) = push_name(&mut self.image.names, name);
+        for (number, name) in self.register_names.iter().enumerate() {
+            let place = self.image.add_name(name);
+            self.image.registers[number][..2].copy_from_slice(&place);
         }
-        for (record, name) in self.image.memories.iter_mut().zip(&self.memory_names) {
-            (record[0], record[1]) = push_name(&mut self.image.names, name);
+        for (number, name) in self.memory_names.iter().enumerate() {
+            let place = self.image.add_name(name);
+            self.image.memories[number][..2].copy_from_slice(&place);
         }
         self.image
     }
@@ -105,9 +107,7 @@ impl Builder {
     // Signals.
 
     pub fn signal(&mut self, name: &str, width: u32, direction: u32) -> Signal {
-        let (offset, length) = push_name(&mut self.image.names, name.as_bytes());
-        self.image.signals.push([offset, length, width, direction]);
-        Signal(self.image.signals.len() as u32 - 1)
+        Signal(self.image.add_signal(name, width, direction))
     }
 
     pub fn wire(&mut self, name: &str, width: u32) -> Signal {
@@ -291,12 +291,6 @@ operators! {
     shift_left binary 16;
     shift_right binary 17;
     shift_right_arithmetic binary 18;
-}
-
-fn push_name(names: &mut Vec<u8>, name: &[u8]) -> (u32, u32) {
-    let offset = names.len() as u32;
-    names.extend_from_slice(name);
-    (offset, name.len() as u32)
 }
 
 fn control_fields(control: Option<Control>) -> [u32; 2] {

@@ -3,7 +3,7 @@
 use crate::builder::{Builder, Expr};
 use crate::format::Image;
 
-/// A signal of `width` bits whose bit i + 1 hangs on bit i through `length`
+/// A signal of `width` bits whose bit i + 1 depends on bit i through `length`
 /// inversions of the whole signal: the walk goes through all of them for
 /// every bit. 32 and 1,000 stay within the limits.
 pub fn deepest(width: u32, length: u32) -> Image {

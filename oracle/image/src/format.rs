@@ -124,6 +124,20 @@ impl Image {
         ]
     }
 
+    /// Appends a name to the names: its place and length.
+    pub fn add_name(&mut self, name: impl AsRef<[u8]>) -> [u32; 2] {
+        let place = [self.names.len() as u32, name.as_ref().len() as u32];
+        self.names.extend_from_slice(name.as_ref());
+        place
+    }
+
+    /// Appends a signal and its name: its number.
+    pub fn add_signal(&mut self, name: impl AsRef<[u8]>, width: u32, direction: u32) -> u32 {
+        let [offset, length] = self.add_name(name);
+        self.signals.push([offset, length, width, direction]);
+        self.signals.len() as u32 - 1
+    }
+
     /// The header that fits the records.
     pub fn header(&self) -> [u32; HEADER_FIELDS] {
         let mut header = [0; HEADER_FIELDS];
@@ -183,6 +197,13 @@ impl Image {
         })
     }
 
+    /// The name that the first two fields of a record place. `None` where it
+    /// lies outside the names or is no text.
+    pub fn name_of(&self, record: &[u32]) -> Option<&str> {
+        let rest = self.names.get(record[0] as usize..)?;
+        std::str::from_utf8(rest.get(..record[1] as usize)?).ok()
+    }
+
     /// The width of a memory's read data, its first port's; 0 if there is no
     /// such signal.
     pub fn read_data_width(&self, memory: &[u32; MEMORY_FIELDS]) -> u32 {
@@ -219,8 +240,8 @@ impl Image {
             + 64
     }
 
-    /// Scratch words by document 01's own sum, with two for each expression
-    /// bit, which document 02 made one.
+    /// Scratch words by the sum before request Q-10, with two for each
+    /// expression bit.
     pub fn former_scratch_words(&self, n: u32) -> usize {
         self.scratch_words(n) + self.expression_bits()
     }
@@ -235,6 +256,11 @@ pub fn netlist_words(n: u32, p: u32) -> usize {
 pub fn read_header(bytes: &[u8]) -> Option<[u32; HEADER_FIELDS]> {
     let fields = words(bytes.get(..HEADER_BYTES)?);
     fields.try_into().ok()
+}
+
+/// Field `index` of the bytes, counted in words from the start.
+pub fn word_at(bytes: &[u8], index: usize) -> u32 {
+    words(&bytes[4 * index..4 * index + 4])[0]
 }
 
 /// Overwrites field `index` of the bytes, counted in words from the start.

@@ -1,24 +1,29 @@
 //! Module images of edition 2: the records, their bytes, and tools to make,
-//! write, read and damage them. Nothing here judges an image.
+//! write, read and damage them; nothing here judges a module image. Also a reader
+//! of netlist images, and their listing.
 
 mod assemble;
 mod borders;
 mod builder;
 mod chain;
+pub mod command;
+pub mod corpus;
 mod disassemble;
 mod edition;
 mod format;
 mod generate;
 pub mod heavy;
 mod input;
+mod listing;
 mod mutate;
+pub mod netlist;
 mod random;
 mod shapes;
 mod tables;
 mod text;
 
 pub use assemble::{assemble, AsmError};
-pub use borders::{borders, port, Border};
+pub use borders::{borders, inverter, port, Border};
 pub use builder::{Builder, Control, Expr, Memory, Port, Register, Reset, Signal};
 pub use chain::{deepest, deepest_behind};
 pub use disassemble::disassemble;
@@ -26,6 +31,7 @@ pub use edition::{from_edition_1, to_edition_1};
 pub use format::*;
 pub use generate::{generate, Size};
 pub use input::read;
+pub use listing::{bit_name, listing, read_data_bit_name};
 pub use mutate::mutate;
 pub use random::Random;
 pub use tables::table;

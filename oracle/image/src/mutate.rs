@@ -82,7 +82,7 @@ fn header_field(random: &mut Random, bytes: &mut [u8]) {
         return;
     }
     let field = random.below(HEADER_FIELDS);
-    let old = word(bytes, field);
+    let old = word_at(bytes, field);
     let new = match random.below(5) {
         0 => border_value(random),
         1 => old.wrapping_add(1),
@@ -130,7 +130,7 @@ fn word_width(random: &mut Random, bytes: &mut [u8]) {
     }
     let memory = start / 4 + random.below(count) * MEMORY_FIELDS;
     let field = memory + memory_field::WORD_WIDTH;
-    let old = word(bytes, field);
+    let old = word_at(bytes, field);
     let new = match random.below(4) {
         0 => border_value(random),
         1 => old.wrapping_add(1),
@@ -144,13 +144,13 @@ fn word_width(random: &mut Random, bytes: &mut [u8]) {
 fn some_width(random: &mut Random, header: &[u32; HEADER_FIELDS], bytes: &[u8]) -> Option<u32> {
     let (count, start) = (header[2] as usize, header[3] as usize);
     let signal = (count > 0).then(|| start / 4 + random.below(count) * 4)?;
-    (4 * (signal + 3) <= bytes.len()).then(|| word(bytes, signal + 2))
+    (4 * (signal + 3) <= bytes.len()).then(|| word_at(bytes, signal + 2))
 }
 
 fn nudge(random: &mut Random, bytes: &mut [u8]) {
     if let Some((start, fields)) = some_record(random, bytes) {
         let field = start + random.below(fields);
-        let old = word(bytes, field);
+        let old = word_at(bytes, field);
         let new = if random.flag() {
             old.wrapping_add(1)
         } else {
@@ -164,7 +164,7 @@ fn swap_records(random: &mut Random, bytes: &mut [u8]) {
     let pair = (some_record(random, bytes), some_record(random, bytes));
     if let (Some((one, fields)), Some((other, others))) = pair {
         for field in 0..fields.min(others) {
-            let (first, second) = (word(bytes, one + field), word(bytes, other + field));
+            let (first, second) = (word_at(bytes, one + field), word_at(bytes, other + field));
             set_word(bytes, one + field, second);
             set_word(bytes, other + field, first);
         }
@@ -175,7 +175,7 @@ fn copy_record(random: &mut Random, bytes: &mut [u8]) {
     let pair = (some_record(random, bytes), some_record(random, bytes));
     if let (Some((one, fields)), Some((other, others))) = pair {
         for field in 0..fields.min(others) {
-            let value = word(bytes, one + field);
+            let value = word_at(bytes, one + field);
             set_word(bytes, other + field, value);
         }
     }
@@ -239,9 +239,4 @@ fn drop_last_record(random: &mut Random, bytes: &mut Vec<u8>) {
         _ => drop(image.names.pop()),
     }
     *bytes = image.encode();
-}
-
-fn word(bytes: &[u8], index: usize) -> u32 {
-    let at = 4 * index;
-    u32::from_le_bytes([bytes[at], bytes[at + 1], bytes[at + 2], bytes[at + 3]])
 }

@@ -319,7 +319,7 @@ impl Maker {
         }
     }
 
-    /// A signal whose bit i + 1 hangs on its bit i: a cycle of the vector,
+    /// A signal whose bit i + 1 depends on its bit i: a cycle of the vector,
     /// not of its bits, as long as it is read through Slices.
     fn ripple(&mut self) {
         let Some((number, width)) = self.untouched() else {

@@ -46,7 +46,7 @@ fn every_header_field_and_section_is_a_place() {
 }
 
 #[test]
-fn known_borders_are_judged_as_written_in_the_documents() {
+fn known_borders_are_judged_as_the_rules_say() {
     let answers: BTreeMap<String, [u32; 3]> = answers().into_iter().collect();
     for (name, expected) in [
         ("limits 0 0", [1, 0, 0]),

@@ -1,12 +1,11 @@
 //! Every text of the corpus assembles and comes out as its `# expect` lines
-//! say, by the reference checks and by struo's own lowering with document 02's
-//! rows, and as its `# struo` lines say by the unchanged lowering.
+//! say, by the reference checks and by struo's own lowering with the rows of
+//! request Q-5, and as its `# struo` lines say by the unchanged lowering.
 
 use driver::Answer;
-use image::{assemble, netlist_words, Image};
+use image::corpus::{self, Text};
+use image::{netlist_words, Image};
 use std::collections::BTreeMap;
-use std::fs;
-use std::path::{Path, PathBuf};
 
 /// Limits and buffers of one call.
 #[derive(Clone, Copy)]
@@ -28,19 +27,12 @@ enum Rust {
 fn every_case_comes_out_as_expected() {
     let mut wrong = Vec::new();
     let mut lines = 0;
-    for path in texts() {
-        let text = fs::read_to_string(&path).expect("a readable text");
-        let name = path
-            .file_stem()
-            .expect("a name")
-            .to_string_lossy()
-            .into_owned();
-        let bytes = assemble(&text).unwrap_or_else(|error| panic!("{name}: {error}"));
+    for Text { name, text, image } in texts() {
         let expectations = expectations(&text);
         assert!(!expectations.is_empty(), "{name} expects nothing");
         for (call, expected) in expectations {
             lines += 1;
-            if let Err(found) = judge(&bytes, call, &expected) {
+            if let Err(found) = judge(&image, call, &expected) {
                 wrong.push(format!(
                     "{name}, limits {} {}: expected {expected}, found {found}",
                     call.n, call.p
@@ -52,28 +44,19 @@ fn every_case_comes_out_as_expected() {
     assert!(lines > 100, "only {lines} expectations");
 }
 
-fn texts() -> Vec<PathBuf> {
-    let corpus = Path::new(env!("CARGO_MANIFEST_DIR")).join("../../corpus");
-    let entries = fs::read_dir(corpus).expect("the corpus");
-    let mut paths: Vec<PathBuf> = entries
-        .map(|entry| entry.expect("an entry").path())
-        .collect();
-    paths.retain(|path| path.extension().is_some_and(|extension| extension == "txt"));
-    paths.sort();
-    paths
+fn texts() -> Vec<Text> {
+    corpus::texts(&corpus::folder()).unwrap_or_else(|problem| panic!("{problem}"))
 }
 
 #[test]
 fn the_unchanged_rust_differs_where_a_text_says_so() {
     let mut lines = 0;
-    for path in texts() {
-        let text = fs::read_to_string(&path).expect("a readable text");
-        let bytes = assemble(&text).expect("a right text");
+    for Text { name, text, image } in texts() {
         for (call, expected) in expectations(&text) {
             if call.rust == Rust::Unchanged {
                 lines += 1;
                 let with_rows = Call { rust: Rust::WithRows, ..call };
-                assert!(judge(&bytes, with_rows, &expected).is_err(), "{path:?}: {expected}");
+                assert!(judge(&image, with_rows, &expected).is_err(), "{name}: {expected}");
             }
         }
     }
@@ -210,13 +193,11 @@ fn values(
     let image = Image::decode(bytes).expect("an image");
     let outputs = runs[0].outputs.iter();
     outputs
-        .map(|(signal, bits)| (name(&image, *signal), value(bits)))
+        .map(|(signal, bits)| {
+            let name = image.name_of(&image.signals[*signal as usize]).expect("a name");
+            (name.to_string(), value(bits))
+        })
         .collect()
-}
-
-fn name(image: &Image, signal: u32) -> String {
-    let [offset, length, ..] = image.signals[signal as usize].map(|field| field as usize);
-    String::from_utf8_lossy(&image.names[offset..offset + length]).into_owned()
 }
 
 fn value(bits: &[bool]) -> u128 {

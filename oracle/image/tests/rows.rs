@@ -1,5 +1,5 @@
-//! Document 02's rows of Or and Xor in the Rust that everything is compared
-//! with: they are the document's, nothing else changes, and random images and
+//! The rows of Or and Xor of request Q-5 in the Rust that everything is compared
+//! with: they are the request's, nothing else changes, and random images and
 //! tables meet them often.
 
 use driver::{expressions, lower, lower_unchanged, with_big_stack};

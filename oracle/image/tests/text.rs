@@ -8,7 +8,7 @@ fn image(text: &str) -> Image {
 }
 
 #[test]
-fn statements_give_the_records_of_document_01() {
+fn statements_give_the_records_of_the_format() {
     let image = image(
         "input a 4\noutput y 8\nwire t 8 name \"t[0]\"\nexpr k = const 8 0xfe\nexpr e = signal a[2:1]\n\
          assign y[7:4] = (concat e e)\nassign t = k\n",

@@ -1,15 +1,13 @@
-//! Refusals 1 to 5, written from document 01 and requests Q-1 and Q-10 of document
-//! 02 alone, as a second reading of their rules beside `oracle/reference`: two
-//! readings made apart, held against each other, show where one of them misread a
-//! sentence or where a sentence can be read in two ways. Nothing here is taken
-//! from another implementation, except the numbers that document 01 does not give
-//! (`declared`, see QUESTIONS.md).
+//! A second reading of refusals 1 to 5 (docs/RULES.md), made from the sentences of
+//! the rules alone. It shares no code with `reference`: two readings held against
+//! each other show where one of them misreads a sentence or where a sentence can be
+//! read in two ways. Only the numbers that the sentences leave to the Rust are
+//! taken from elsewhere (`declared`, see QUESTIONS.md).
 //!
-//! Each rule carries the words that it stands for. Those in comments follow the
-//! name of the place they are in: "Image" is "The module image" of document 01,
-//! "Refusals" its "Refusals, by who can cause them", "Q-1" and "Q-10" the requests
-//! of document 02; those of the rules of header and records are handed back with a
-//! refusal by 3 or 4 (`cause`).
+//! Each rule carries the sentence that it stands for, in quotes. Before those in
+//! comments is what they are about: "Image" the module image, "Refusals" the
+//! refusals and their places, "Q-1" and "Q-10" the requests; those of header and
+//! records are handed back with a refusal by 3 or 4 (`cause`).
 
 use std::collections::HashSet;
 
@@ -70,10 +68,10 @@ const EDGES: u32 = 2;
 const POLARITIES: u32 = 2;
 const MODES: u32 = 2;
 
-/// What document 01 leaves to the Rust: "Where no number is given, an enum's
+/// What the rules leave to the Rust: "Where no number is given, an enum's
 /// values number from 0 in the Rust's declared order", "Kinds 0 to 6 follow
 /// `ExprKind`", "Operators are numbered from 0 in declared order". These numbers
-/// are the only ones here that do not come from document 01 (QUESTIONS.md, 1).
+/// are the only ones here that do not come from the rules (QUESTIONS.md, 1).
 mod declared {
     pub const SIGNAL: u32 = 0;
     pub const CONSTANT: u32 = 1;
@@ -119,8 +117,8 @@ mod declared {
     pub const STYLES: u32 = 3;
 }
 
-/// The number in document 01 of the first refusal among 1 to 5 that applies to
-/// a call, with its two places; `[0, 0, 0]` if none of them applies.
+/// The number of the first refusal among 1 to 5 that applies to a call, with its
+/// two places; `[0, 0, 0]` if none of them applies.
 ///
 /// Refusals: "Checks run 1, 2, 3, 4, 5"; "The two place numbers are 0 where
 /// none is named."
@@ -152,8 +150,8 @@ pub fn refusal(
 pub struct Cause {
     /// Number and place.
     pub refusal: [u32; 3],
-    /// The words of document 01 or Q-1 that the field or the record breaks. A
-    /// record that breaks several rules has one of them here.
+    /// The sentence that the field or the record breaks. A record that breaks
+    /// several rules has one of them here.
     pub rule: &'static str,
 }
 
@@ -281,7 +279,7 @@ fn records<const COUNT: usize>(section: &[u8]) -> Vec<[u32; COUNT]> {
     section.chunks_exact(4 * COUNT).map(fields::<COUNT>).collect()
 }
 
-// The records, by the names of their fields in document 01 and Q-1.
+// The records, by the names of their fields (docs/FORMATS.md).
 
 struct Name {
     offset: u32,
@@ -395,17 +393,53 @@ struct Module<'a> {
     names: &'a [u8],
 }
 
+impl Signal {
+    fn read([offset, length, width, direction]: [u32; 4]) -> Signal {
+        Signal { name: Name { offset, length }, width, direction }
+    }
+}
+
+impl Register {
+    fn read(record: [u32; 12]) -> Register {
+        let [offset, length, target, next, clock, edge, ..] = record;
+        let [.., enable, enable_polarity, reset, reset_polarity, reset_mode, reset_value] = record;
+        Register {
+            name: Name { offset, length },
+            target,
+            next,
+            clock,
+            edge,
+            enable: Control { signal: enable, polarity: enable_polarity },
+            reset: Control { signal: reset, polarity: reset_polarity },
+            reset_mode,
+            reset_value,
+        }
+    }
+}
+
+impl Memory {
+    fn read(record: [u32; 27]) -> Memory {
+        let mut first_port = [0; 10];
+        let mut second_port = [0; 10];
+        first_port.copy_from_slice(&record[6..16]);
+        second_port.copy_from_slice(&record[17..27]);
+        Memory {
+            name: Name { offset: record[0], length: record[1] },
+            depth: record[2],
+            word_width: record[3],
+            style: record[4],
+            latency: record[5],
+            first_port,
+            second_port_present: record[16],
+            second_port,
+        }
+    }
+}
+
 impl<'a> Module<'a> {
     fn read(image: &'a [u8], header: &Header) -> Module<'a> {
         Module {
-            signals: records(header.section(image, 0))
-                .into_iter()
-                .map(|[offset, length, width, direction]| Signal {
-                    name: Name { offset, length },
-                    width,
-                    direction,
-                })
-                .collect(),
+            signals: records(header.section(image, 0)).into_iter().map(Signal::read).collect(),
             expressions: records(header.section(image, 1))
                 .into_iter()
                 .map(|[kind, width, a, b, c]| Expression { kind, width, operands: [a, b, c] })
@@ -415,54 +449,8 @@ impl<'a> Module<'a> {
                 .into_iter()
                 .map(|[signal, lsb, width, value]| Assignment { signal, lsb, width, value })
                 .collect(),
-            registers: records(header.section(image, 4))
-                .into_iter()
-                .map(
-                    |[
-                        offset,
-                        length,
-                        target,
-                        next,
-                        clock,
-                        edge,
-                        enable,
-                        enable_polarity,
-                        reset,
-                        reset_polarity,
-                        reset_mode,
-                        reset_value,
-                    ]| Register {
-                        name: Name { offset, length },
-                        target,
-                        next,
-                        clock,
-                        edge,
-                        enable: Control { signal: enable, polarity: enable_polarity },
-                        reset: Control { signal: reset, polarity: reset_polarity },
-                        reset_mode,
-                        reset_value,
-                    },
-                )
-                .collect(),
-            memories: records(header.section(image, 5))
-                .into_iter()
-                .map(|record: [u32; 27]| {
-                    let mut first_port = [0; 10];
-                    let mut second_port = [0; 10];
-                    first_port.copy_from_slice(&record[6..16]);
-                    second_port.copy_from_slice(&record[17..27]);
-                    Memory {
-                        name: Name { offset: record[0], length: record[1] },
-                        depth: record[2],
-                        word_width: record[3],
-                        style: record[4],
-                        latency: record[5],
-                        first_port,
-                        second_port_present: record[16],
-                        second_port,
-                    }
-                })
-                .collect(),
+            registers: records(header.section(image, 4)).into_iter().map(Register::read).collect(),
+            memories: records(header.section(image, 5)).into_iter().map(Memory::read).collect(),
             names: header.section(image, 6),
         }
     }
@@ -498,7 +486,7 @@ fn each<Record>(
     Ok(())
 }
 
-/// A rule is broken: its words in document 01 or Q-1.
+/// A rule is broken: its sentence.
 struct Broken(&'static str);
 
 type Judgement = Result<(), Broken>;
@@ -581,43 +569,15 @@ impl<'a> Check<'a> {
             }
             // Image: "Constant: list start, 2 × ceil(width / 64) words".
             declared::CONSTANT => {
-                unused(b)?;
-                unused(c)?;
+                unused(b).and(unused(c))?;
                 self.list_words(a, 2 * width.div_ceil(64)).map(|_| ())
             }
             declared::UNARY => {
                 unused(c)?;
-                let operator = declared::unary(a).ok_or(Broken(ONE_THAT_IS_THERE))?;
-                let operand = self.operand(b, number)?;
-                match operator {
-                    declared::Unary::BitNot => rule(EQUAL_THE_RESULT, operand.width == width),
-                    declared::Unary::Judging => rule(GIVE_1, width == 1),
-                }
+                self.unary(number, width, a, b)
             }
-            declared::BINARY => {
-                let operator = declared::binary(a).ok_or(Broken(ONE_THAT_IS_THERE))?;
-                let left = self.operand(b, number)?;
-                let right = self.operand(c, number)?;
-                match operator {
-                    declared::Binary::Plain => {
-                        rule(EQUAL_THE_RESULT, left.width == width && right.width == width)
-                    }
-                    declared::Binary::Comparison => {
-                        rule(GIVE_1, width == 1)?;
-                        rule("compared sides are equal", left.width == right.width)
-                    }
-                    declared::Binary::Shift => {
-                        rule("A shift keeps its left width, the amount any width", left.width == width)
-                    }
-                }
-            }
-            declared::MUX => {
-                let condition = self.operand(a, number)?;
-                let one = self.operand(b, number)?;
-                let other = self.operand(c, number)?;
-                rule(ARE_1_WIDE, condition.width == 1)?;
-                rule(EQUAL_THE_RESULT, one.width == width && other.width == width)
-            }
+            declared::BINARY => self.binary(number, width, expression.operands),
+            declared::MUX => self.mux(number, width, expression.operands),
             declared::SLICE => {
                 unused(c)?;
                 let taken_from = self.operand(a, number)?;
@@ -625,17 +585,56 @@ impl<'a> Check<'a> {
             }
             // Image: "Concat: list start, count".
             declared::CONCAT => {
-                const HAS_A_PART: &str = "Concat has a part, and the parts sum";
                 unused(c)?;
-                rule(HAS_A_PART, b >= 1)?;
-                let mut sum = 0;
-                for part in self.list_words(a, b)? {
-                    sum += u64::from(self.operand(*part, number)?.width);
-                }
-                rule(HAS_A_PART, sum == u64::from(width))
+                self.concat(number, width, a, b)
             }
             _ => Err(Broken("Kinds 0 to 6 follow `ExprKind`")),
         }
+    }
+
+    fn unary(&self, number: u32, width: u32, operator: u32, operand: u32) -> Judgement {
+        let operator = declared::unary(operator).ok_or(Broken(ONE_THAT_IS_THERE))?;
+        let operand = self.operand(operand, number)?;
+        match operator {
+            declared::Unary::BitNot => rule(EQUAL_THE_RESULT, operand.width == width),
+            declared::Unary::Judging => rule(GIVE_1, width == 1),
+        }
+    }
+
+    fn binary(&self, number: u32, width: u32, [operator, left, right]: [u32; 3]) -> Judgement {
+        let operator = declared::binary(operator).ok_or(Broken(ONE_THAT_IS_THERE))?;
+        let left = self.operand(left, number)?;
+        let right = self.operand(right, number)?;
+        match operator {
+            declared::Binary::Plain => {
+                rule(EQUAL_THE_RESULT, left.width == width && right.width == width)
+            }
+            declared::Binary::Comparison => {
+                rule(GIVE_1, width == 1)?;
+                rule("compared sides are equal", left.width == right.width)
+            }
+            declared::Binary::Shift => {
+                rule("A shift keeps its left width, the amount any width", left.width == width)
+            }
+        }
+    }
+
+    fn mux(&self, number: u32, width: u32, [condition, one, other]: [u32; 3]) -> Judgement {
+        let condition = self.operand(condition, number)?;
+        let one = self.operand(one, number)?;
+        let other = self.operand(other, number)?;
+        rule(ARE_1_WIDE, condition.width == 1)?;
+        rule(EQUAL_THE_RESULT, one.width == width && other.width == width)
+    }
+
+    fn concat(&self, number: u32, width: u32, start: u32, count: u32) -> Judgement {
+        const HAS_A_PART: &str = "Concat has a part, and the parts sum";
+        rule(HAS_A_PART, count >= 1)?;
+        let mut sum = 0;
+        for part in self.list_words(start, count)? {
+            sum += u64::from(self.operand(*part, number)?.width);
+        }
+        rule(HAS_A_PART, sum == u64::from(width))
     }
 
     fn assignment(&mut self, assignment: &Assignment) -> Judgement {

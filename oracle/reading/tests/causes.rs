@@ -1,5 +1,5 @@
-//! The words of document 01 and of Q-1 in document 02 that come with a refusal by
-//! 3 or 4: one text for each rule of the header and the records.
+//! The sentences that come with a refusal by 3 or 4: one for each rule of the
+//! header and the records.
 
 use image::memory_field::{DEPTH, FIRST_PORT, HAS_SECOND, LATENCY, WORD_WIDTH};
 use image::{MEMORY_FIELDS, assemble};

@@ -2,9 +2,7 @@
 //! field, and each two header fields, exchanged for values at which a rule
 //! turns. The command `compare` holds both on all its images.
 
-use image::{Image, Size, generate};
-
-const HEADER_FIELDS: usize = 16;
+use image::{HEADER_FIELDS, Image, Size, generate, set_word, word_at};
 
 #[test]
 fn each_field() {
@@ -12,7 +10,7 @@ fn each_field() {
         let image = generate(seed, Size::Tiny).encode();
         alike(&image);
         for number in 0..image.len() / 4 {
-            for value in turning(field(&image, number)) {
+            for value in turning(word_at(&image, number)) {
                 alike(&with_field(&image, number, value));
             }
         }
@@ -23,10 +21,10 @@ fn each_field() {
 fn each_two_header_fields() {
     for image in [Image::default(), generate(3, Size::Tiny)].map(|image| image.encode()) {
         for one in 0..HEADER_FIELDS {
-            for value in turning(field(&image, one)) {
+            for value in turning(word_at(&image, one)) {
                 let changed = with_field(&image, one, value);
                 for other in one + 1..HEADER_FIELDS {
-                    for value in turning(field(&image, other)) {
+                    for value in turning(word_at(&image, other)) {
                         alike(&with_field(&changed, other, value));
                     }
                 }
@@ -50,12 +48,8 @@ fn turning(value: u32) -> impl Iterator<Item = u32> {
     near.into_iter().chain(ends).chain([1 << 31, u32::MAX - 1, u32::MAX])
 }
 
-fn field(image: &[u8], number: usize) -> u32 {
-    u32::from_le_bytes(image[4 * number..4 * number + 4].try_into().unwrap())
-}
-
 fn with_field(image: &[u8], number: usize, value: u32) -> Vec<u8> {
     let mut image = image.to_vec();
-    image[4 * number..4 * number + 4].copy_from_slice(&value.to_le_bytes());
+    set_word(&mut image, number, value);
     image
 }

@@ -1,6 +1,10 @@
 //! Each refusal from 1 to 5 and its place, each limit at its most and one past
-//! it, on small images built by hand from the text of document 01 and of Q-1 and
-//! Q-10 in document 02. The reference checks must answer alike on each of them.
+//! it, on small images built by hand from the sentences of the rules. The reference
+//! checks must answer alike on each of them.
+
+use image::kind::{BINARY, CONCAT, CONSTANT, MUX, SIGNAL, SLICE, UNARY};
+use image::memory_field::{DEPTH, FIRST_PORT, HAS_SECOND, LATENCY, SECOND_PORT, STYLE, WORD_WIDTH};
+use image::{ABSENT, EDITION, Image, MEMORY_FIELDS, constant_words, set_word, to_edition_1, word_at};
 
 /// This reading's answer, once the reference has given the same.
 fn refusal(image: &[u8], n: u32, p: u32, netlist_words: usize, scratch_words: usize) -> [u32; 3] {
@@ -10,23 +14,11 @@ fn refusal(image: &[u8], n: u32, p: u32, netlist_words: usize, scratch_words: us
     read
 }
 
-const ABSENT: u32 = 4_294_967_295;
-
-const EDITION: u32 = 2;
-
 const INTERNAL: u32 = 0;
 const INPUT: u32 = 1;
 const OUTPUT: u32 = 2;
 
-// Kinds and operators in the Rust's declared order.
-const SIGNAL: u32 = 0;
-const CONSTANT: u32 = 1;
-const UNARY: u32 = 2;
-const BINARY: u32 = 3;
-const MUX: u32 = 4;
-const CONCAT: u32 = 5;
-const SLICE: u32 = 6;
-
+// Operators in the Rust's declared order.
 const BIT_NOT: u32 = 0;
 const ONE_WIDE_UNARY: [u32; 4] = [1, 2, 3, 4];
 const UNARY_OPERATORS: u32 = 5;
@@ -38,16 +30,7 @@ const BINARY_OPERATORS: u32 = 19;
 
 const STYLES: u32 = 3;
 
-// Fields of a memory, and those of a port from its first.
-const MEMORY_FIELDS: usize = 27;
-const DEPTH: usize = 2;
-const WORD_WIDTH: usize = 3;
-const STYLE: usize = 4;
-const LATENCY: usize = 5;
-const FIRST_PORT: usize = 6;
-const HAS_SECOND: usize = 16;
-const SECOND_PORT: usize = 17;
-
+// Fields of a port.
 const READ_ADDRESS: usize = 0;
 const READ_DATA: usize = 1;
 const WRITE_ADDRESS: usize = 4;
@@ -60,95 +43,33 @@ const AMPLE: usize = 1 << 20;
 
 const ACCEPTED: [u32; 3] = [0, 0, 0];
 
-#[derive(Clone, Default)]
-struct Image {
-    signals: Vec<[u32; 4]>,
-    expressions: Vec<[u32; 5]>,
-    list: Vec<u32>,
-    assignments: Vec<[u32; 4]>,
-    registers: Vec<[u32; 12]>,
-    memories: Vec<[u32; MEMORY_FIELDS]>,
-    names: Vec<u8>,
+/// Records put into an image one by one.
+trait Made {
+    fn expression(&mut self, kind: u32, width: u32, operands: [u32; 3]) -> u32;
+
+    /// An expression of a width: a constant of zeros at the list's start.
+    fn value(&mut self, width: u32) -> u32;
+
+    fn judged(&self) -> [u32; 3];
 }
 
-impl Image {
-    fn name(&mut self, name: &str) -> [u32; 2] {
-        let offset = self.names.len() as u32;
-        self.names.extend_from_slice(name.as_bytes());
-        [offset, name.len() as u32]
-    }
-
-    fn signal(&mut self, name: &str, width: u32, direction: u32) -> u32 {
-        let [offset, length] = self.name(name);
-        self.signals.push([offset, length, width, direction]);
-        self.signals.len() as u32 - 1
-    }
-
+impl Made for Image {
     fn expression(&mut self, kind: u32, width: u32, operands: [u32; 3]) -> u32 {
         let [a, b, c] = operands;
         self.expressions.push([kind, width, a, b, c]);
         self.expressions.len() as u32 - 1
     }
 
-    /// An expression of a width: a constant of zeros at the list's start.
     fn value(&mut self, width: u32) -> u32 {
-        let words = 2 * width.div_ceil(64) as usize;
+        let words = constant_words(width);
         if self.list.len() < words {
             self.list.resize(words, 0);
         }
         self.expression(CONSTANT, width, [0, 0, 0])
     }
 
-    fn sections(&self) -> [(usize, Vec<u8>); 7] {
-        fn bytes<const COUNT: usize>(records: &[[u32; COUNT]]) -> (usize, Vec<u8>) {
-            let fields = records.iter().flatten();
-            (records.len(), fields.flat_map(|field| field.to_le_bytes()).collect())
-        }
-        let list: Vec<[u32; 1]> = self.list.iter().map(|word| [*word]).collect();
-        [
-            bytes(&self.signals),
-            bytes(&self.expressions),
-            bytes(&list),
-            bytes(&self.assignments),
-            bytes(&self.registers),
-            bytes(&self.memories),
-            (self.names.len(), self.names.clone()),
-        ]
-    }
-
-    fn bytes(&self) -> Vec<u8> {
-        let sections = self.sections();
-        let total = 64 + sections.iter().map(|(_, bytes)| bytes.len()).sum::<usize>();
-        let mut image = Vec::new();
-        image.extend_from_slice(&EDITION.to_le_bytes());
-        image.extend_from_slice(&(total as u32).to_le_bytes());
-        let mut offset = 64;
-        for (count, bytes) in &sections {
-            image.extend_from_slice(&(*count as u32).to_le_bytes());
-            image.extend_from_slice(&(offset as u32).to_le_bytes());
-            offset += bytes.len();
-        }
-        for (_, bytes) in sections {
-            image.extend_from_slice(&bytes);
-        }
-        image
-    }
-
-    /// The bytes in edition 1, where a memory has no word width.
-    fn edition_1(&self) -> Vec<u8> {
-        image::to_edition_1(&image::Image {
-            signals: self.signals.clone(),
-            expressions: self.expressions.clone(),
-            list: self.list.clone(),
-            assignments: self.assignments.clone(),
-            registers: self.registers.clone(),
-            memories: self.memories.clone(),
-            names: self.names.clone(),
-        })
-    }
-
     fn judged(&self) -> [u32; 3] {
-        judged(&self.bytes())
+        judged(&self.encode())
     }
 }
 
@@ -156,21 +77,17 @@ fn judged(image: &[u8]) -> [u32; 3] {
     refusal(image, N, P, NETLIST, AMPLE)
 }
 
-fn field(image: &[u8], number: usize) -> u32 {
-    u32::from_le_bytes(image[4 * number..4 * number + 4].try_into().unwrap())
-}
-
 fn with_field(image: &[u8], number: usize, value: u32) -> Vec<u8> {
     let mut image = image.to_vec();
-    image[4 * number..4 * number + 4].copy_from_slice(&value.to_le_bytes());
+    set_word(&mut image, number, value);
     image
 }
 
 /// Input a, output y, y = BitNot a.
 fn inverter() -> Image {
     let mut image = Image::default();
-    let a = image.signal("a", 1, INPUT);
-    let y = image.signal("y", 1, OUTPUT);
+    let a = image.add_signal("a", 1, INPUT);
+    let y = image.add_signal("y", 1, OUTPUT);
     let read = image.expression(SIGNAL, 1, [a, 0, 0]);
     let not = image.expression(UNARY, 1, [BIT_NOT, read, 0]);
     image.assignments.push([y, 0, 1, not]);
@@ -182,13 +99,13 @@ fn inverter() -> Image {
 /// one (1), with a register of enable and reset.
 fn register() -> Image {
     let mut image = Image::default();
-    let clock = image.signal("clock", 1, INPUT);
-    let control = image.signal("control", 1, INPUT);
-    let target = image.signal("target", 8, OUTPUT);
-    image.signal("free", 1, INTERNAL);
+    let clock = image.add_signal("clock", 1, INPUT);
+    let control = image.add_signal("control", 1, INPUT);
+    let target = image.add_signal("target", 8, OUTPUT);
+    image.add_signal("free", 1, INTERNAL);
     let next = image.value(8);
     image.value(1);
-    let [offset, length] = image.name("r");
+    let [offset, length] = image.add_name("r");
     image.registers.push([
         offset, length, target, next, clock, 0, control, 0, control, 0, 0, next,
     ]);
@@ -205,13 +122,13 @@ fn memory() -> Image {
 /// The same with data of another width.
 fn memory_of(width: u32) -> Image {
     let mut image = Image::default();
-    let clock = image.signal("clock", 1, INPUT);
-    let control = image.signal("control", 1, INPUT);
-    let first = image.signal("first", width, OUTPUT);
-    let second = image.signal("second", width, OUTPUT);
+    let clock = image.add_signal("clock", 1, INPUT);
+    let control = image.add_signal("control", 1, INPUT);
+    let first = image.add_signal("first", width, OUTPUT);
+    let second = image.add_signal("second", width, OUTPUT);
     let address = image.value(4);
     let data = image.value(width);
-    let [offset, length] = image.name("m");
+    let [offset, length] = image.add_name("m");
     let mut record = vec![offset, length, 16, width, 0, 1];
     record.extend([address, first, control, 0, address, data, control, 0, clock, 0]);
     record.push(1);
@@ -224,9 +141,9 @@ fn memory_of(width: u32) -> Image {
 fn another_memory(image: &mut Image) {
     let number = image.memories.len();
     let mut record = image.memories[0];
-    [record[0], record[1]] = image.name(&format!("m{number}"));
-    record[FIRST_PORT + READ_DATA] = image.signal(&format!("first{number}"), 8, INTERNAL);
-    record[SECOND_PORT + READ_DATA] = image.signal(&format!("second{number}"), 8, INTERNAL);
+    [record[0], record[1]] = image.add_name(&format!("m{number}"));
+    record[FIRST_PORT + READ_DATA] = image.add_signal(&format!("first{number}"), 8, INTERNAL);
+    record[SECOND_PORT + READ_DATA] = image.add_signal(&format!("second{number}"), 8, INTERNAL);
     image.memories.push(record);
 }
 
@@ -247,7 +164,7 @@ fn changed<const COUNT: usize>(
 
 #[test]
 fn net_limit() {
-    let image = Image::default().bytes();
+    let image = Image::default().encode();
     for n in [1, 2, 65_535] {
         assert_eq!(refusal(&image, n, 0, AMPLE, AMPLE), ACCEPTED);
     }
@@ -258,7 +175,7 @@ fn net_limit() {
 
 #[test]
 fn list_limit() {
-    let image = Image::default().bytes();
+    let image = Image::default().encode();
     for p in [0, 1, 65_535] {
         assert_eq!(refusal(&image, 1, p, AMPLE, AMPLE), ACCEPTED);
     }
@@ -269,7 +186,7 @@ fn list_limit() {
 
 #[test]
 fn netlist_buffer() {
-    let image = Image::default().bytes();
+    let image = Image::default().encode();
     for (n, p, words) in [(1, 0, 22), (1, 1, 23), (100, 200, 816), (65_535, 65_535, 458_761)] {
         assert_eq!(refusal(&image, n, p, words, AMPLE), ACCEPTED);
         assert_eq!(refusal(&image, n, p, words - 1, AMPLE), [2, 0, 0]);
@@ -282,21 +199,21 @@ fn order_of_checks() {
     // All five apply, then one fewer at a time.
     let mut bad = inverter();
     bad.signals[1][2] = 0;
-    let bad_record = bad.bytes();
+    let bad_record = bad.encode();
     let bad_header = with_field(&bad_record, 0, 1);
     assert_eq!(refusal(&bad_header, 0, 0, 0, 0), [1, 0, 0]);
     assert_eq!(refusal(&bad_header, 1, 0, 21, 0), [2, 0, 0]);
     assert_eq!(refusal(&bad_header, 1, 0, 22, 0), [3, 0, 0]);
     assert_eq!(refusal(&bad_record, 1, 0, 22, 0), [4, 0, 1]);
-    assert_eq!(refusal(&inverter().bytes(), 1, 0, 22, 0), [5, 0, 0]);
-    assert_eq!(refusal(&inverter().bytes(), 1, 0, 22, AMPLE), ACCEPTED);
+    assert_eq!(refusal(&inverter().encode(), 1, 0, 22, 0), [5, 0, 0]);
+    assert_eq!(refusal(&inverter().encode(), 1, 0, 22, AMPLE), ACCEPTED);
 }
 
 // 3: the header.
 
 #[test]
 fn under_64_bytes() {
-    let image = Image::default().bytes();
+    let image = Image::default().encode();
     assert_eq!(image.len(), 64);
     assert_eq!(judged(&image), ACCEPTED);
     for length in 0..64 {
@@ -306,8 +223,8 @@ fn under_64_bytes() {
 
 #[test]
 fn edition() {
-    let image = inverter().bytes();
-    assert_eq!(field(&image, 0), EDITION);
+    let image = inverter().encode();
+    assert_eq!(word_at(&image, 0), EDITION);
     assert_eq!(judged(&image), ACCEPTED);
     for edition in [0, 1, 3, 256, 258, 1 << 31 | 2, u32::MAX] {
         assert_eq!(judged(&with_field(&image, 0, edition)), [3, 0, 0]);
@@ -322,28 +239,28 @@ fn edition() {
 fn edition_1() {
     // Without memories the editions differ in field 0 alone.
     for image in [Image::default(), inverter(), register()] {
-        let old = image.edition_1();
+        let old = to_edition_1(&image);
         assert_eq!(judged(&old), [3, 0, 0]);
-        assert_eq!(with_field(&old, 0, EDITION), image.bytes());
-        assert_eq!(judged(&image.bytes()), ACCEPTED);
+        assert_eq!(with_field(&old, 0, EDITION), image.encode());
+        assert_eq!(judged(&image.encode()), ACCEPTED);
     }
     // With one, edition 2 wants a field more than there is.
     let mut image = memory();
-    let old = image.edition_1();
-    assert_eq!(old.len(), image.bytes().len() - 4);
+    let old = to_edition_1(&image);
+    assert_eq!(old.len(), image.encode().len() - 4);
     assert_eq!(judged(&old), [3, 0, 0]);
     assert_eq!(judged(&with_field(&old, 0, EDITION)), [3, 14, 0]);
-    assert_eq!(judged(&with_field(&image.bytes(), 0, 1)), [3, 0, 0]);
+    assert_eq!(judged(&with_field(&image.encode(), 0, 1)), [3, 0, 0]);
     // Also where its records were not right.
     image.memories[0][DEPTH] = 0;
-    assert_eq!(judged(&image.edition_1()), [3, 0, 0]);
-    assert_eq!(judged(&with_field(&image.edition_1(), 0, EDITION)), [3, 14, 0]);
+    assert_eq!(judged(&to_edition_1(&image)), [3, 0, 0]);
+    assert_eq!(judged(&with_field(&to_edition_1(&image), 0, EDITION)), [3, 14, 0]);
     // Where the first bytes of the names are given to the memory, the header is
     // right, and the style is read as the width.
     let mut image = memory();
     image.names.extend(b"more");
-    let old = image.edition_1();
-    let (count, offset) = (field(&old, 14), field(&old, 15));
+    let old = to_edition_1(&image);
+    let (count, offset) = (word_at(&old, 14), word_at(&old, 15));
     let old = with_field(&with_field(&old, 14, count - 4), 15, offset + 4);
     assert_eq!(judged(&old), [3, 0, 0]);
     assert_eq!(judged(&with_field(&old, 0, EDITION)), [4, 5, 0]);
@@ -351,8 +268,8 @@ fn edition_1() {
 
 #[test]
 fn total() {
-    let image = inverter().bytes();
-    let total = field(&image, 1);
+    let image = inverter().encode();
+    let total = word_at(&image, 1);
     assert_eq!(judged(&image), ACCEPTED);
     for wrong in [0, total - 1, total + 1, u32::MAX] {
         assert_eq!(judged(&with_field(&image, 1, wrong)), [3, 1, 0]);
@@ -368,7 +285,7 @@ fn total() {
 
 #[test]
 fn counts_one_past_their_most() {
-    let image = inverter().bytes();
+    let image = inverter().encode();
     let most = [512, 2_048, 8_192, 1_024, 256, 16, 16_384];
     for (section, most) in most.into_iter().enumerate() {
         let count = 2 + 2 * section;
@@ -388,10 +305,10 @@ fn counts_one_past_their_most() {
 fn counts_at_their_most() {
     let mut signals = Image::default();
     for number in 0..512 {
-        signals.signal(&format!("s{number}"), 8, INPUT);
+        signals.add_signal(&format!("s{number}"), 8, INPUT);
     }
     assert_eq!(signals.judged(), ACCEPTED);
-    signals.signal("s512", 8, INPUT);
+    signals.add_signal("s512", 8, INPUT);
     assert_eq!(signals.judged(), [3, 2, 0]);
 
     let mut expressions = Image::default();
@@ -408,7 +325,7 @@ fn counts_at_their_most() {
     assert_eq!(list.judged(), [3, 6, 0]);
 
     let mut assignments = Image::default();
-    let y = assignments.signal("y", 1_024, OUTPUT);
+    let y = assignments.add_signal("y", 1_024, OUTPUT);
     let value = assignments.value(1);
     for bit in 0..1_024 {
         assignments.assignments.push([y, bit, 1, value]);
@@ -418,12 +335,12 @@ fn counts_at_their_most() {
     assert_eq!(assignments.judged(), [3, 8, 0]);
 
     let mut registers = Image::default();
-    let clock = registers.signal("clock", 1, INPUT);
+    let clock = registers.add_signal("clock", 1, INPUT);
     let next = registers.value(1);
     for number in 0..257 {
         assert_eq!(registers.judged(), ACCEPTED);
-        let [offset, length] = registers.name(&format!("r{number}"));
-        let target = registers.signal(&format!("t{number}"), 1, INTERNAL);
+        let [offset, length] = registers.add_name(&format!("r{number}"));
+        let target = registers.add_signal(&format!("t{number}"), 1, INTERNAL);
         registers.registers.push([
             offset, length, target, next, clock, 0, ABSENT, 0, ABSENT, 0, 0, 0,
         ]);
@@ -447,11 +364,11 @@ fn counts_at_their_most() {
 #[test]
 fn offsets() {
     for image in [Image::default(), inverter(), register(), memory()] {
-        let image = image.bytes();
+        let image = image.encode();
         assert_eq!(judged(&image), ACCEPTED);
         for section in 0..7 {
             let number = 3 + 2 * section;
-            let offset = field(&image, number);
+            let offset = word_at(&image, number);
             for wrong in [0, offset - 1, offset + 1, offset + 4, u32::MAX] {
                 let place = [3, number as u32, 0];
                 assert_eq!(judged(&with_field(&image, number, wrong)), place);
@@ -465,8 +382,8 @@ fn offsets() {
 
 #[test]
 fn names_end_at_the_total() {
-    let image = inverter().bytes();
-    let count = field(&image, 14);
+    let image = inverter().encode();
+    let count = word_at(&image, 14);
     for wrong in [0, count - 1, count + 1, 16_384] {
         let wrong = with_field(&image, 14, wrong);
         assert_eq!(judged(&wrong), [3, 14, 0]);
@@ -474,7 +391,7 @@ fn names_end_at_the_total() {
         assert_eq!(judged(&with_field(&wrong, 15, 0)), [3, 14, 0]);
     }
     // Offset and count that lie about a gap before the names.
-    let offset = field(&image, 15);
+    let offset = word_at(&image, 15);
     let gap = with_field(&with_field(&image, 14, count - 1), 15, offset + 1);
     assert_eq!(judged(&gap), [3, 14, 0]);
 }
@@ -485,12 +402,12 @@ fn names_end_at_the_total() {
 fn name_lengths() {
     let long: String = "n".repeat(65);
     let mut image = Image::default();
-    image.signal(&long[..64], 1, INPUT);
+    image.add_signal(&long[..64], 1, INPUT);
     assert_eq!(image.judged(), ACCEPTED);
-    image.signal(&long, 1, INPUT);
+    image.add_signal(&long, 1, INPUT);
     assert_eq!(image.judged(), [4, 0, 1]);
     let mut image = Image::default();
-    image.signal("", 1, INPUT);
+    image.add_signal("", 1, INPUT);
     assert_eq!(image.judged(), [4, 0, 0]);
 }
 
@@ -543,7 +460,7 @@ fn equal_names() {
     second[11] = 1;
     image.registers.push(second);
     assert_eq!(image.judged(), [4, 4, 1]);
-    [image.registers[1][0], image.registers[1][1]] = image.name("r1");
+    [image.registers[1][0], image.registers[1][1]] = image.add_name("r1");
     assert_eq!(image.judged(), ACCEPTED);
 
     // Memories likewise.
@@ -551,11 +468,11 @@ fn equal_names() {
     [image.memories[0][0], image.memories[0][1]] = [image.signals[0][0], image.signals[0][1]];
     assert_eq!(image.judged(), ACCEPTED);
     let mut second = image.memories[0];
-    second[FIRST_PORT + READ_DATA] = image.signal("third", 8, INTERNAL);
+    second[FIRST_PORT + READ_DATA] = image.add_signal("third", 8, INTERNAL);
     second[HAS_SECOND..].fill(0);
     image.memories.push(second);
     assert_eq!(image.judged(), [4, 5, 1]);
-    [image.memories[1][0], image.memories[1][1]] = image.name("m1");
+    [image.memories[1][0], image.memories[1][1]] = image.add_name("m1");
     assert_eq!(image.judged(), ACCEPTED);
 }
 
@@ -581,7 +498,7 @@ fn signal_widths() {
         (u32::MAX, [4, 0, 0]),
     ] {
         let mut image = Image::default();
-        image.signal("s", width, INPUT);
+        image.add_signal("s", width, INPUT);
         assert_eq!(image.judged(), expected);
     }
 }
@@ -590,13 +507,13 @@ fn signal_widths() {
 fn signal_width_sum() {
     let mut image = Image::default();
     for name in ["a", "b", "c"] {
-        image.signal(name, 1_024, INPUT);
+        image.add_signal(name, 1_024, INPUT);
     }
-    image.signal("d", 1_023, INPUT);
-    image.signal("e", 1, INPUT);
+    image.add_signal("d", 1_023, INPUT);
+    image.add_signal("e", 1, INPUT);
     assert_eq!(image.judged(), ACCEPTED);
-    image.signal("f", 1, INPUT);
-    image.signal("g", 1, INPUT);
+    image.add_signal("f", 1, INPUT);
+    image.add_signal("g", 1, INPUT);
     assert_eq!(image.judged(), [4, 0, 5]);
     image.signals[4][2] = 2;
     assert_eq!(image.judged(), [4, 0, 4]);
@@ -608,7 +525,7 @@ fn directions() {
         [(0, ACCEPTED), (1, ACCEPTED), (2, ACCEPTED), (3, [4, 0, 0]), (ABSENT, [4, 0, 0])]
     {
         let mut image = Image::default();
-        image.signal("s", 1, direction);
+        image.add_signal("s", 1, direction);
         assert_eq!(image.judged(), expected);
     }
 }
@@ -659,8 +576,8 @@ fn kinds() {
 /// bits, 1 of 8 bits, 2 of 1 bit, 3 of 3 bits, and one to be judged as 4.
 fn with_expression(kind: u32, width: u32, operands: [u32; 3]) -> [u32; 3] {
     let mut image = Image::default();
-    image.signal("s", 8, INPUT);
-    image.signal("t", 3, INPUT);
+    image.add_signal("s", 8, INPUT);
+    image.add_signal("t", 3, INPUT);
     image.list = vec![0, 1, 2, 3, 4, 5, 3, 2, ABSENT, 3];
     for width in [8, 8, 1, 3] {
         image.value(width);
@@ -811,8 +728,8 @@ fn concats() {
 fn assignments() {
     let assigned = |assignment: [u32; 4]| {
         let mut image = Image::default();
-        image.signal("y", 8, OUTPUT);
-        image.signal("a", 8, INPUT);
+        image.add_signal("y", 8, OUTPUT);
+        image.add_signal("a", 8, INPUT);
         image.value(8);
         image.value(3);
         image.assignments.push(assignment);
@@ -838,8 +755,8 @@ fn assignments() {
 #[test]
 fn second_drivers() {
     let mut image = Image::default();
-    image.signal("y", 8, OUTPUT);
-    image.signal("z", 8, INTERNAL);
+    image.add_signal("y", 8, OUTPUT);
+    image.add_signal("z", 8, INTERNAL);
     image.value(8);
     image.value(3);
     image.assignments = vec![[0, 0, 3, 1], [0, 5, 3, 1], [1, 2, 3, 1]];
@@ -914,7 +831,7 @@ fn register_targets_drive() {
     assert_eq!(image.judged(), [4, 4, 0]);
     image.assignments.clear();
     let mut second = image.registers[0];
-    [second[0], second[1]] = image.name("r1");
+    [second[0], second[1]] = image.add_name("r1");
     image.registers.push(second);
     assert_eq!(image.judged(), [4, 4, 1]);
 }
@@ -1043,7 +960,7 @@ fn word_width_and_a_fault_elsewhere() {
     image.memories = vec![image.memories[0]; 16];
     assert_eq!(image.judged(), [4, 5, 0]);
     // Sections before the memories.
-    let [offset, length] = image.name("r");
+    let [offset, length] = image.add_name("r");
     image.registers.push([offset, length, 2, 1, 0, 2, ABSENT, 0, ABSENT, 0, 0, 0]);
     assert_eq!(image.judged(), [4, 4, 0]);
     image.assignments.push([2, 0, 7, 1]);
@@ -1053,20 +970,20 @@ fn word_width_and_a_fault_elsewhere() {
     image.signals[3][2] = 0;
     assert_eq!(image.judged(), [4, 0, 3]);
     // The header, and the checks before and after.
-    let bytes = image.bytes();
-    let total = field(&bytes, 1);
+    let bytes = image.encode();
+    let total = word_at(&bytes, 1);
     assert_eq!(judged(&with_field(&bytes, 1, total - 4)), [3, 1, 0]);
     let mut image = memory();
     image.memories[0][WORD_WIDTH] = 9;
-    assert_eq!(refusal(&image.bytes(), N, P, NETLIST - 1, 0), [2, 0, 0]);
-    assert_eq!(refusal(&image.bytes(), N, P, NETLIST, 0), [4, 5, 0]);
+    assert_eq!(refusal(&image.encode(), N, P, NETLIST - 1, 0), [2, 0, 0]);
+    assert_eq!(refusal(&image.encode(), N, P, NETLIST, 0), [4, 5, 0]);
 }
 
 #[test]
 fn word_widths_are_in_no_sum() {
     let mut image = memory_of(1_024);
-    image.signal("rest", 1_024, INPUT);
-    image.signal("last", 1_022, INPUT);
+    image.add_signal("rest", 1_024, INPUT);
+    image.add_signal("last", 1_022, INPUT);
     assert_eq!(image.judged(), ACCEPTED);
     image.signals[5][2] = 1_023;
     assert_eq!(image.judged(), [4, 0, 5]);
@@ -1164,7 +1081,7 @@ fn read_data_drives() {
     // A second memory.
     let mut image = memory();
     let mut second = image.memories[0];
-    [second[0], second[1]] = image.name("m1");
+    [second[0], second[1]] = image.add_name("m1");
     image.memories.push(second);
     assert_eq!(image.judged(), [4, 5, 1]);
 }
@@ -1189,21 +1106,21 @@ fn the_first_record_in_image_order() {
 #[test]
 fn scratch() {
     // Two signal bits, two expression bits, two expressions.
-    let image = inverter().bytes();
+    let image = inverter().encode();
     let words = 4 * 2 + 2 + 8 * 2 + 4 * 100 + 64;
     assert_eq!(refusal(&image, N, P, NETLIST, words), ACCEPTED);
     assert_eq!(refusal(&image, N, P, NETLIST, words - 1), [5, 0, 0]);
     // Nothing but the net limit.
-    let image = Image::default().bytes();
+    let image = Image::default().encode();
     assert_eq!(refusal(&image, 1, 0, AMPLE, 68), ACCEPTED);
     assert_eq!(refusal(&image, 1, 0, AMPLE, 67), [5, 0, 0]);
     assert_eq!(refusal(&image, 65_535, 0, AMPLE, 262_204), ACCEPTED);
     assert_eq!(refusal(&image, 65_535, 0, AMPLE, 262_203), [5, 0, 0]);
     // 18 signal bits and 12 expression bits in two expressions; then 11 and 9.
-    let image = memory().bytes();
+    let image = memory().encode();
     assert_eq!(refusal(&image, 1, 0, AMPLE, 168), ACCEPTED);
     assert_eq!(refusal(&image, 1, 0, AMPLE, 167), [5, 0, 0]);
-    let image = register().bytes();
+    let image = register().encode();
     assert_eq!(refusal(&image, 1, 0, AMPLE, 137), ACCEPTED);
     assert_eq!(refusal(&image, 1, 0, AMPLE, 136), [5, 0, 0]);
 }
@@ -1213,12 +1130,12 @@ fn scratch_at_its_most() {
     // 4,096 signal bits, 32,768 expression bits, 2,048 expressions.
     let mut image = Image::default();
     for name in ["a", "b", "c", "d"] {
-        image.signal(name, 1_024, INPUT);
+        image.add_signal(name, 1_024, INPUT);
     }
     for _ in 0..2_048 {
         image.value(16);
     }
-    let image = image.bytes();
+    let image = image.encode();
     let words = 4 * 4_096 + 32_768 + 8 * 2_048 + 4 * 65_535 + 64;
     assert_eq!(refusal(&image, 65_535, 0, AMPLE, words), ACCEPTED);
     assert_eq!(refusal(&image, 65_535, 0, AMPLE, words - 1), [5, 0, 0]);
@@ -1226,10 +1143,10 @@ fn scratch_at_its_most() {
 
 #[test]
 fn one_word_per_expression_bit() {
-    // One expression of 1,024 bits, which nothing uses; document 01's sum was 2,124.
+    // One expression of 1,024 bits, which nothing uses; the former sum is 2,124.
     let mut image = Image::default();
     image.value(1_024);
-    let image = image.bytes();
+    let image = image.encode();
     assert_eq!(refusal(&image, 1, 0, AMPLE, 1_099), [5, 0, 0]);
     for words in 1_100..=2_124 {
         assert_eq!(refusal(&image, 1, 0, AMPLE, words), ACCEPTED);
@@ -1247,7 +1164,7 @@ fn any_bytes() {
     };
     let values = [0, 1, 2, 64, 0x7fff_ffff, 0x8000_0000, ABSENT - 1, ABSENT];
     for image in [inverter(), register(), memory()] {
-        let good = image.bytes();
+        let good = image.encode();
         for number in 0..good.len() / 4 {
             for value in values {
                 judged(&with_field(&good, number, value));

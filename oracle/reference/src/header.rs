@@ -23,7 +23,7 @@ fn field_is_right(image: &[u8], field: usize) -> bool {
     }
 }
 
-/// "Edition 1 is no longer read" (document 02).
+/// "Edition 1 is no longer read" (request Q-1).
 fn edition_is_2(image: &[u8]) -> bool {
     header_field(image, 0) == 2
 }

@@ -1,4 +1,5 @@
-//! Refusals 1 to 5 of document 01, written from its sentences alone.
+//! A reading of refusals 1 to 5 (docs/RULES.md), made from the sentences of the
+//! rules alone, which stand in quotes. `reading` is another.
 //!
 //! This is the witness for the definitions of the port: not quick, only plain.
 //! Each rule is a short function named after its sentence, true where the
@@ -45,7 +46,7 @@ pub fn netlist_words(n: u32, p: u32) -> usize {
 }
 
 /// "5: scratch below" so many words: "4 × signal bits + expression bits + 8 ×
-/// expressions + 4N + 64" (document 02). `None` for an image that is refused by
+/// expressions + 4N + 64" (request Q-10). `None` for an image that is refused by
 /// 3 or 4.
 pub fn scratch_words(image: &[u8], n: u32) -> Option<usize> {
     let module = read(image).ok()?;

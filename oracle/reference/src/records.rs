@@ -331,7 +331,7 @@ fn depth_is_in_range(depth: u32) -> bool {
     (1..=65_536).contains(&depth)
 }
 
-/// "A width that differs from the read data's is refused under 4" (document 02).
+/// "A width that differs from the read data's is refused under 4" (request Q-1).
 fn word_width_is_the_read_datas(module: &Module, width: u32, read_data: u32) -> bool {
     module.signal_width(read_data) == Some(width)
 }

@@ -1,66 +1,11 @@
 //! Each rule of refusals 1 to 5, broken one at a time on an image that keeps
 //! them all, and the ties where more than one thing is wrong.
 
+use image::{set_word, Image, ABSENT};
 use reference::{check, netlist_words, scratch_words, FINE};
 
-const ABSENT: u32 = u32::MAX;
 const N: u32 = 100;
 const P: u32 = 50;
-
-/// An image's sections as rows of fields.
-#[derive(Clone, Default)]
-struct Rows {
-    signals: Vec<[u32; 4]>,
-    expressions: Vec<[u32; 5]>,
-    list: Vec<u32>,
-    assignments: Vec<[u32; 4]>,
-    registers: Vec<[u32; 12]>,
-    memories: Vec<[u32; 27]>,
-    names: Vec<u8>,
-}
-
-impl Rows {
-    fn bytes(&self) -> Vec<u8> {
-        let words: Vec<u32> = [
-            self.signals.concat(),
-            self.expressions.concat(),
-            self.list.clone(),
-            self.assignments.concat(),
-            self.registers.concat(),
-            self.memories.concat(),
-        ]
-        .concat();
-        let sizes = [
-            (self.signals.len(), 16),
-            (self.expressions.len(), 20),
-            (self.list.len(), 4),
-            (self.assignments.len(), 16),
-            (self.registers.len(), 48),
-            (self.memories.len(), 108),
-            (self.names.len(), 1),
-        ];
-        let mut header = vec![2, 64 + 4 * words.len() as u32 + self.names.len() as u32];
-        let mut offset = 64;
-        for (count, bytes) in sizes {
-            header.extend([count as u32, offset]);
-            offset += (count * bytes) as u32;
-        }
-        let fields = header.into_iter().chain(words);
-        fields.flat_map(u32::to_le_bytes).chain(self.names.iter().copied()).collect()
-    }
-
-    /// A name put at the end of the names section: offset and length.
-    fn name(&mut self, text: &str) -> [u32; 2] {
-        let offset = self.names.len() as u32;
-        self.names.extend(text.bytes());
-        [offset, text.len() as u32]
-    }
-
-    fn signal(&mut self, text: &str, width: u32, direction: u32) {
-        let [offset, length] = self.name(text);
-        self.signals.push([offset, length, width, direction]);
-    }
-}
 
 // Signals of `base`.
 const CLOCK: u32 = 0;
@@ -74,15 +19,15 @@ const SPARE: u32 = 6;
 const EXPRESSIONS: u32 = 13;
 
 /// Keeps every rule, with each sort of record and kind of expression.
-fn base() -> Rows {
-    let mut rows = Rows::default();
-    rows.signal("clk", 1, 1);
-    rows.signal("in", 8, 1);
-    rows.signal("out", 8, 2);
-    rows.signal("state", 8, 0);
-    rows.signal("data_a", 8, 0);
-    rows.signal("data_b", 8, 0);
-    rows.signal("spare", 8, 0);
+fn base() -> Image {
+    let mut rows = Image::default();
+    rows.add_signal("clk", 1, 1);
+    rows.add_signal("in", 8, 1);
+    rows.add_signal("out", 8, 2);
+    rows.add_signal("state", 8, 0);
+    rows.add_signal("data_a", 8, 0);
+    rows.add_signal("data_b", 8, 0);
+    rows.add_signal("spare", 8, 0);
     rows.list = vec![7, 0, 9, 10, 0, 0];
     rows.expressions = vec![
         [0, 8, INPUT, 0, 0],
@@ -100,9 +45,9 @@ fn base() -> Rows {
         [0, 1, CLOCK, 0, 0],
     ];
     rows.assignments = vec![[OUTPUT, 0, 4, 9], [OUTPUT, 4, 4, 8]];
-    let [offset, length] = rows.name("state");
+    let [offset, length] = rows.add_name("state");
     rows.registers = vec![[offset, length, STATE, 7, CLOCK, 0, CLOCK, 1, CLOCK, 0, 1, 1]];
-    let [offset, length] = rows.name("ram");
+    let [offset, length] = rows.add_name("ram");
     let port = |data| [8, data, ABSENT, 0, 9, 0, CLOCK, 0, CLOCK, 0];
     let memory = [vec![offset, length, 16, 8, 0, 1], port(DATA_A).to_vec(), vec![1], port(DATA_B).to_vec()].concat();
     rows.memories = vec![memory.try_into().unwrap()];
@@ -113,41 +58,37 @@ fn judge(image: &[u8]) -> [u32; 3] {
     check(image, N, P, netlist_words(N, P), 1 << 20)
 }
 
-fn judge_rows(rows: &Rows) -> [u32; 3] {
-    judge(&rows.bytes())
+fn judge_image(rows: &Image) -> [u32; 3] {
+    judge(&rows.encode())
 }
 
 /// What is answered for `base` after an edit.
-fn after(edit: impl Fn(&mut Rows)) -> [u32; 3] {
+fn after(edit: impl Fn(&mut Image)) -> [u32; 3] {
     let mut rows = base();
     edit(&mut rows);
-    judge_rows(&rows)
-}
-
-fn set_field(image: &mut [u8], field: usize, value: u32) {
-    image[4 * field..4 * field + 4].copy_from_slice(&value.to_le_bytes());
+    judge_image(&rows)
 }
 
 /// What is answered for `base` with some header fields set.
 fn with_header(fields: &[(usize, u32)]) -> [u32; 3] {
-    let mut image = base().bytes();
+    let mut image = base().encode();
     for &(field, value) in fields {
-        set_field(&mut image, field, value);
+        set_word(&mut image, field, value);
     }
     judge(&image)
 }
 
 #[test]
 fn base_and_no_records_are_fine() {
-    assert_eq!(judge_rows(&base()), FINE);
-    assert_eq!(judge_rows(&Rows::default()), FINE);
+    assert_eq!(judge_image(&base()), FINE);
+    assert_eq!(judge_image(&Image::default()), FINE);
 }
 
 // ---- 1, 2, 5 and the order of the checks ----
 
 #[test]
 fn limits() {
-    let image = base().bytes();
+    let image = base().encode();
     for (n, p, number) in [(0, 0, 1), (1, 0, 0), (65_535, 65_535, 0), (65_536, 0, 1), (1, 65_536, 1), (u32::MAX, u32::MAX, 1)] {
         assert_eq!(check(&image, n, p, usize::MAX, usize::MAX), [number, 0, 0], "N {n} P {p}");
     }
@@ -155,7 +96,7 @@ fn limits() {
 
 #[test]
 fn buffers() {
-    let image = base().bytes();
+    let image = base().encode();
     let need = 16 + 6 * 100 + 50;
     assert_eq!(netlist_words(N, P), need);
     let signal_bits = 1 + 6 * 8;
@@ -176,8 +117,8 @@ fn checks_run_in_order() {
     assert_eq!(check(&[], 0, P, 0, 0), [1, 0, 0]);
     assert_eq!(check(&[], N, P, need - 1, 0), [2, 0, 0]);
     assert_eq!(check(&[], N, P, need, 0), [3, 0, 0]);
-    assert_eq!(check(&bad_record.bytes(), N, P, need, 0), [4, 0, 0]);
-    assert_eq!(check(&base().bytes(), N, P, need, 0), [5, 0, 0]);
+    assert_eq!(check(&bad_record.encode(), N, P, need, 0), [4, 0, 0]);
+    assert_eq!(check(&base().encode(), N, P, need, 0), [5, 0, 0]);
 }
 
 // ---- 3 ----
@@ -192,7 +133,7 @@ fn header_fields_one_by_one() {
 
 #[test]
 fn short_and_wrong_length() {
-    let image = base().bytes();
+    let image = base().encode();
     assert_eq!(judge(&image[..63]), [3, 0, 0]);
     assert_eq!(judge(&image[..64]), [3, 1, 0]);
     assert_eq!(judge(&[&image[..], &[0]].concat()), [3, 1, 0]);
@@ -200,19 +141,19 @@ fn short_and_wrong_length() {
 
 #[test]
 fn edition_before_length() {
-    let mut image = base().bytes();
+    let mut image = base().encode();
     image.push(0);
-    set_field(&mut image, 0, 1);
+    set_word(&mut image, 0, 1);
     assert_eq!(judge(&image), [3, 0, 0]);
 }
 
 #[test]
 fn editions() {
-    let image = base().bytes();
+    let image = base().encode();
     assert_eq!(judge(&image), FINE);
     for edition in [0, 1, 3, 0x0102, 0x0200, 0x0200_0000, u32::MAX] {
         let mut image = image.clone();
-        set_field(&mut image, 0, edition);
+        set_word(&mut image, 0, edition);
         assert_eq!(judge(&image), [3, 0, 0], "edition {edition}");
     }
 }
@@ -229,15 +170,15 @@ fn most_of_each_section() {
     }
     let mut rows = base();
     rows.names.resize(16_384, 0);
-    assert_eq!(judge_rows(&rows), FINE);
+    assert_eq!(judge_image(&rows), FINE);
     rows.names.push(0);
-    assert_eq!(judge_rows(&rows), [3, 14, 0]);
+    assert_eq!(judge_image(&rows), [3, 14, 0]);
 }
 
 #[test]
 fn names_end_and_offset() {
     let names = base().names.len() as u32;
-    let mut image = base().bytes();
+    let mut image = base().encode();
     let offset = image.len() as u32 - names;
     assert_eq!(with_header(&[(14, names - 1)]), [3, 14, 0]);
     assert_eq!(with_header(&[(15, offset + 1)]), [3, 15, 0]);
@@ -245,7 +186,7 @@ fn names_end_and_offset() {
     assert_eq!(with_header(&[(14, names - 1), (15, offset + 1)]), [3, 14, 0]);
     // the total and the slice longer than the names' end
     image.push(b'x');
-    set_field(&mut image, 1, offset + names + 1);
+    set_word(&mut image, 1, offset + names + 1);
     assert_eq!(judge(&image), [3, 14, 0]);
 }
 
@@ -261,7 +202,7 @@ fn counts_before_later_offsets() {
 
 #[test]
 fn names_of_each_sort() {
-    let rename = |rows: &mut Rows, section: usize, name: [u32; 2]| match section {
+    let rename = |rows: &mut Image, section: usize, name: [u32; 2]| match section {
         0 => rows.signals[3][..2].copy_from_slice(&name),
         4 => rows.registers[0][..2].copy_from_slice(&name),
         _ => rows.memories[0][..2].copy_from_slice(&name),
@@ -270,7 +211,7 @@ fn names_of_each_sort() {
         let refused = [4, section as u32, record];
         let named = |text: &str| {
             after(|rows| {
-                let name = rows.name(text);
+                let name = rows.add_name(text);
                 rename(rows, section, name);
             })
         };
@@ -291,8 +232,8 @@ fn names_of_each_sort() {
 #[test]
 fn equal_names_count_against_the_later_record() {
     // by bytes, wherever they stand
-    let again = |rows: &mut Rows, text: &str| {
-        let [offset, length] = rows.name(text);
+    let again = |rows: &mut Image, text: &str| {
+        let [offset, length] = rows.add_name(text);
         rows.signals[5][..2].copy_from_slice(&[offset, length]);
     };
     assert_eq!(after(|rows| again(rows, "in")), [4, 0, 5]);
@@ -310,15 +251,15 @@ fn equal_names_of_registers_and_memories() {
     let mut rows = base();
     rows.registers.push(rows.registers[0]);
     rows.registers[1][2] = SPARE;
-    assert_eq!(judge_rows(&rows), [4, 4, 1]);
+    assert_eq!(judge_image(&rows), [4, 4, 1]);
     let mut rows = base();
     rows.memories[0][16..].fill(0);
     rows.memories.push(rows.memories[0]);
     rows.memories[1][7] = SPARE;
-    assert_eq!(judge_rows(&rows), [4, 5, 1]);
-    let name = rows.name("other");
+    assert_eq!(judge_image(&rows), [4, 5, 1]);
+    let name = rows.add_name("other");
     rows.memories[1][..2].copy_from_slice(&name);
-    assert_eq!(judge_rows(&rows), FINE);
+    assert_eq!(judge_image(&rows), FINE);
 }
 
 #[test]
@@ -340,26 +281,26 @@ fn signals() {
 
 #[test]
 fn signal_sum_counts_against_the_record_that_passes_it() {
-    let mut rows = Rows::default();
+    let mut rows = Image::default();
     for text in ["a", "b", "c", "d"] {
-        rows.signal(text, 1_024, 0);
+        rows.add_signal(text, 1_024, 0);
     }
-    assert_eq!(judge_rows(&rows), FINE);
-    rows.signal("e", 1, 0);
-    rows.signal("f", 1, 0);
-    assert_eq!(judge_rows(&rows), [4, 0, 4]);
+    assert_eq!(judge_image(&rows), FINE);
+    rows.add_signal("e", 1, 0);
+    rows.add_signal("f", 1, 0);
+    assert_eq!(judge_image(&rows), [4, 0, 4]);
     rows.signals[3][2] = 1_023;
-    assert_eq!(judge_rows(&rows), [4, 0, 5]);
+    assert_eq!(judge_image(&rows), [4, 0, 5]);
 }
 
 #[test]
 fn expression_sum_counts_against_the_record_that_passes_it() {
-    let mut rows = Rows { list: vec![0; 32], ..Rows::default() };
+    let mut rows = Image { list: vec![0; 32], ..Image::default() };
     rows.expressions = vec![[1, 1_024, 0, 0, 0]; 32];
-    assert_eq!(judge_rows(&rows), FINE);
+    assert_eq!(judge_image(&rows), FINE);
     rows.expressions.push([1, 1, 0, 0, 0]);
     rows.expressions.push([9, 1, 0, 0, 0]);
-    assert_eq!(judge_rows(&rows), [4, 1, 32]);
+    assert_eq!(judge_image(&rows), [4, 1, 32]);
 }
 
 // ---- 4: expressions ----
@@ -461,11 +402,11 @@ fn concats() {
 #[test]
 fn concat_of_all_list_words() {
     // 8,192 parts of 1,024 bits: no sum that wraps passes
-    let mut rows = Rows { list: vec![0; 8_192], ..Rows::default() };
+    let mut rows = Image { list: vec![0; 8_192], ..Image::default() };
     rows.expressions = vec![[1, 1_024, 0, 0, 0], [5, 1_024, 0, 8_192, 0]];
-    assert_eq!(judge_rows(&rows), [4, 1, 1]);
+    assert_eq!(judge_image(&rows), [4, 1, 1]);
     rows.expressions[1][3] = 1;
-    assert_eq!(judge_rows(&rows), FINE);
+    assert_eq!(judge_image(&rows), FINE);
 }
 
 #[test]
@@ -554,12 +495,12 @@ fn absent_controls_of_registers() {
 #[test]
 fn two_registers_of_one_target() {
     let mut rows = base();
-    let name = rows.name("second");
+    let name = rows.add_name("second");
     rows.registers.push(rows.registers[0]);
     rows.registers[1][..2].copy_from_slice(&name);
-    assert_eq!(judge_rows(&rows), [4, 4, 1]);
+    assert_eq!(judge_image(&rows), [4, 4, 1]);
     rows.registers[1][2] = SPARE;
-    assert_eq!(judge_rows(&rows), FINE);
+    assert_eq!(judge_image(&rows), FINE);
 }
 
 // ---- 4: memories ----
@@ -666,23 +607,23 @@ fn second_port() {
 
 #[test]
 fn first_record_in_image_order() {
-    let break_signal = |rows: &mut Rows| rows.signals[6][3] = 3;
-    let break_expression = |rows: &mut Rows| rows.expressions[2][4] = 1;
-    let break_later_expression = |rows: &mut Rows| rows.expressions[5][0] = 9;
-    let break_assignment = |rows: &mut Rows| rows.assignments[1][3] = 99;
-    let break_register = |rows: &mut Rows| rows.registers[0][5] = 2;
-    let break_memory = |rows: &mut Rows| rows.memories[0][5] = 0;
+    let break_signal = |rows: &mut Image| rows.signals[6][3] = 3;
+    let break_expression = |rows: &mut Image| rows.expressions[2][4] = 1;
+    let break_later_expression = |rows: &mut Image| rows.expressions[5][0] = 9;
+    let break_assignment = |rows: &mut Image| rows.assignments[1][3] = 99;
+    let break_register = |rows: &mut Image| rows.registers[0][5] = 2;
+    let break_memory = |rows: &mut Image| rows.memories[0][5] = 0;
     let mut rows = base();
     break_memory(&mut rows);
-    assert_eq!(judge_rows(&rows), [4, 5, 0]);
+    assert_eq!(judge_image(&rows), [4, 5, 0]);
     break_register(&mut rows);
-    assert_eq!(judge_rows(&rows), [4, 4, 0]);
+    assert_eq!(judge_image(&rows), [4, 4, 0]);
     break_assignment(&mut rows);
-    assert_eq!(judge_rows(&rows), [4, 3, 1]);
+    assert_eq!(judge_image(&rows), [4, 3, 1]);
     break_later_expression(&mut rows);
-    assert_eq!(judge_rows(&rows), [4, 1, 5]);
+    assert_eq!(judge_image(&rows), [4, 1, 5]);
     break_expression(&mut rows);
-    assert_eq!(judge_rows(&rows), [4, 1, 2]);
+    assert_eq!(judge_image(&rows), [4, 1, 2]);
     break_signal(&mut rows);
-    assert_eq!(judge_rows(&rows), [4, 0, 6]);
+    assert_eq!(judge_image(&rows), [4, 0, 6]);
 }

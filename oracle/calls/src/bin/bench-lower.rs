@@ -3,18 +3,16 @@
 
 use calls::speed::Race;
 use compare::args::{parse_number, Words};
-use compare::corpus;
 use compare::expect::netlist_use;
 use compare::scratch::Scratch;
-use image::heavy;
-use image::{generate, Image, Size};
+use image::{corpus, generate, heavy, Image, Size};
 use std::path::Path;
 
 const USAGE: &str = "bench-lower [images [IMAGE...] | growth | scratch CORPUS | repeat port|rust IMAGE CALLS]
     images   Times of the port's call and of struo's lowering, image by image.
     growth   The same against nets, expressions, signals and registers.
-    scratch  Words of scratch with nets that just serve, and by document 01's own
-             sum, of the same images and of those of the corpus that are accepted.
+    scratch  Words of scratch with nets that just serve, and by the sum before
+             request Q-10, of the same images and of those of the corpus that are accepted.
     repeat   Calls one of the two again and again, for a profiler.
 The port's call takes bytes: its time holds the checks and the clearing of both
 buffers. struo's is of Lowering::new and Lowering::lower on a module that stands
@@ -118,9 +116,10 @@ fn growth() {
 }
 
 fn scratch(words: &mut Words) -> Result<(), String> {
-    let mut corpus = corpus::images(Path::new(&words.value("scratch")?))?;
+    let texts = corpus::texts(Path::new(&words.value("scratch")?))?;
+    let mut corpus: Vec<Vec<u8>> = texts.into_iter().map(|text| text.image).collect();
     corpus.retain(|image| is_accepted(image));
-    println!("| image | nets | words by document 01 | words by document 02 | part |\n|---|---|---|---|---|");
+    println!("| image | nets | words by the former sum | words | part |\n|---|---|---|---|---|");
     for (name, images) in CASES {
         scratch_row(name, &images().iter().map(Image::encode).collect::<Vec<_>>());
     }

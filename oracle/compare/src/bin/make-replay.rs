@@ -1,10 +1,11 @@
 //! Makes the replay list, or describes one.
 
-use compare::args::{parse_number, Words};
+use compare::args::parse_number;
 use compare::replay::{make, read, write, Entry};
 use compare::scratch::Lent;
 use compare::ACCEPTED;
 use driver::{lower, lower_unchanged};
+use image::command;
 use reference::netlist_words;
 use std::process::ExitCode;
 
@@ -12,28 +13,13 @@ const USAGE: &str = "usage: make-replay SEED COUNT -o FILE
        make-replay describe FILE";
 
 fn main() -> ExitCode {
-    let words: Vec<String> = std::iter::from_fn({
-        let mut words = Words::of_process();
-        move || words.next()
-    })
-    .collect();
-    let words: Vec<&str> = words.iter().map(String::as_str).collect();
-    match driver::with_big_stack(|| execute(&words)) {
-        Ok(text) => {
-            print!("{text}");
-            ExitCode::SUCCESS
-        }
-        Err(error) => {
-            eprintln!("make-replay: {error}");
-            ExitCode::FAILURE
-        }
-    }
+    command::main("make-replay", USAGE, |words| driver::with_big_stack(|| execute(words)))
 }
 
 fn execute(words: &[&str]) -> Result<String, String> {
     match words {
         ["describe", file] => {
-            let bytes = std::fs::read(file).map_err(|error| format!("{file}: {error}"))?;
+            let bytes = command::read(file)?;
             let entries = read(&bytes).map_err(|error| format!("{file}: {error}"))?;
             Ok(describe(&entries, bytes.len()))
         }
@@ -43,10 +29,10 @@ fn execute(words: &[&str]) -> Result<String, String> {
             let count = u32::try_from(count).map_err(|_| format!("COUNT {count} is too large"))?;
             let entries = make(seed, count as usize)?;
             let bytes = write(&entries);
-            std::fs::write(file, &bytes).map_err(|error| format!("{file}: {error}"))?;
+            command::write(file, &bytes)?;
             Ok(describe(&entries, bytes.len()))
         }
-        _ => Err(format!("bad words\n{USAGE}")),
+        _ => Err(command::unknown("make-replay")),
     }
 }
 

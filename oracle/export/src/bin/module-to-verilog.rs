@@ -3,6 +3,7 @@
 use std::process::ExitCode;
 
 use export::{Style, cli, module_verilog};
+use image::command;
 
 const HELP: &str = "usage: module-to-verilog IMAGE [--step] -o FILE
 
@@ -13,16 +14,16 @@ are written as comments.
 that a bench can change all of them before the other inputs change.";
 
 fn main() -> ExitCode {
-    cli::main("module-to-verilog", HELP, |words| match words {
+    command::main("module-to-verilog", HELP, |words| match words {
         [image, "-o", target] => convert(image, Style::Plain, target),
         [image, "--step", "-o", target] => convert(image, Style::Step, target),
-        _ => Err(cli::unknown("module-to-verilog")),
+        _ => Err(command::unknown("module-to-verilog")),
     })
 }
 
-fn convert(path: &str, style: Style, target: &str) -> Result<(), String> {
+fn convert(path: &str, style: Style, target: &str) -> Result<String, String> {
     let image = cli::read_image(path)?;
     let verilog =
         module_verilog(&image, "rtl", style).map_err(|problem| format!("{path}: {problem}"))?;
-    cli::write(target, verilog.text.as_bytes())
+    command::write(target, verilog.text.as_bytes())
 }

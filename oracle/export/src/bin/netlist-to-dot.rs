@@ -3,23 +3,24 @@
 use std::process::ExitCode;
 
 use export::{cli, dot};
+use image::command;
 
 const HELP: &str = "usage: netlist-to-dot WORDS [--image IMAGE] -o FILE
 
-Writes the netlist words of WORDS (see lower-to-words) as a graph for dot:
+Writes the netlist words of WORDS (see oracle lower) as a graph for dot:
 inputs left, outputs right. Names come from the module image if it is given.";
 
 fn main() -> ExitCode {
-    cli::main("netlist-to-dot", HELP, |words| match words {
+    command::main("netlist-to-dot", HELP, |words| match words {
         [netlist, "-o", target] => convert(netlist, None, target),
         [netlist, "--image", image, "-o", target] => convert(netlist, Some(image), target),
-        _ => Err(cli::unknown("netlist-to-dot")),
+        _ => Err(command::unknown("netlist-to-dot")),
     })
 }
 
-fn convert(path: &str, image: Option<&str>, target: &str) -> Result<(), String> {
+fn convert(path: &str, image: Option<&str>, target: &str) -> Result<String, String> {
     let (netlist, image) = cli::read_netlist(path, image)?;
     let text =
         dot::dot(&netlist, image.as_ref()).map_err(|problem| format!("{path}: {problem}"))?;
-    cli::write(target, text.as_bytes())
+    command::write(target, text.as_bytes())
 }

@@ -1,13 +1,11 @@
 //! Runs the outside witness on random images and on the corpus. Stands outside
 //! the proof. `oracle/witness` builds and starts it.
 
-use std::fs;
-use std::path::{Path, PathBuf};
 use std::process::ExitCode;
 
 use export::tools::is_installed;
 use export::witness::{Counts, Effort, witness};
-use image::{Image, Random, Size, assemble, deepest, generate};
+use image::{Image, Random, Size, corpus, deepest, generate};
 
 const HELP: &str = "usage: witness [--images N] [--seed S] [--corpus] [--settings K] [--seconds T]
 
@@ -124,27 +122,13 @@ fn size(seed: u64) -> Size {
 
 /// The corpus texts that are images at all, and the two deepest chains.
 fn corpus() -> Result<Vec<(String, Image)>, String> {
-    let directory = Path::new(env!("CARGO_MANIFEST_DIR")).join("../../corpus");
-    let entries = fs::read_dir(&directory).map_err(|error| format!("the corpus: {error}"))?;
-    let mut paths: Vec<PathBuf> = entries
-        .filter_map(|entry| Some(entry.ok()?.path()))
-        .collect();
-    paths.retain(|path| path.extension().is_some_and(|extension| extension == "txt"));
-    paths.sort();
-    let mut images = Vec::new();
-    for path in paths {
-        let name = path
-            .file_stem()
-            .unwrap_or_default()
-            .to_string_lossy()
-            .into_owned();
-        let text = fs::read_to_string(&path).map_err(|error| format!("{name}: {error}"))?;
-        let bytes = assemble(&text).map_err(|error| format!("{name}: {error}"))?;
-        images.extend(Image::decode(&bytes).map(|image| (name, image)));
-    }
-    images.push(("deepest-32-1000".to_string(), deepest(32, 1_000)));
-    images.push(("deepest-128-250".to_string(), deepest(128, 250)));
-    Ok(images)
+    let texts = corpus::texts(&corpus::folder())?.into_iter();
+    let images = texts.filter_map(|text| Some((text.name, Image::decode(&text.image)?)));
+    let deepest = [
+        ("deepest-32-1000".to_string(), deepest(32, 1_000)),
+        ("deepest-128-250".to_string(), deepest(128, 250)),
+    ];
+    Ok(images.chain(deepest).collect())
 }
 
 fn print_counts(counts: &Counts) {

@@ -1,6 +1,7 @@
 //! gen: writes made images: random valid ones, damaged ones, the border
 //! cases and the deepest chain.
 
+use image::command::{self, write};
 use image::{Image, Size};
 use std::fs;
 use std::path::Path;
@@ -13,32 +14,19 @@ const HELP: &str = "usage: gen SEED SIZE -o IMAGE
 
 SEED SIZE writes the random valid image of that seed; SIZE is tiny, small,
 medium or large. mutate damages an image. deepest writes a signal of WIDTH
-bits, each hanging on the one below through LENGTH inversions, behind so many
+bits, each depending on the one below through LENGTH inversions, behind so many
 muxes, each the condition of the next. borders writes one file for each border
 case and a table cases.txt: file, net limit, list limit, netlist words, scratch
 words, description.";
 
 fn main() -> ExitCode {
-    let arguments: Vec<String> = std::env::args().skip(1).collect();
-    let words: Vec<&str> = arguments.iter().map(String::as_str).collect();
-    match run(&words) {
-        Ok(()) => ExitCode::SUCCESS,
-        Err(message) => {
-            eprintln!("{message}");
-            ExitCode::FAILURE
-        }
-    }
+    command::main("gen", HELP, run)
 }
 
-fn run(words: &[&str]) -> Result<(), String> {
+fn run(words: &[&str]) -> Result<String, String> {
     match words {
-        ["--help" | "-h"] => {
-            println!("{HELP}");
-            Ok(())
-        }
         ["mutate", seed, source, "-o", target] => {
-            let bytes = fs::read(source).map_err(|error| format!("{source}: {error}"))?;
-            write(target, &image::mutate(number(seed)?, &bytes))
+            write(target, &image::mutate(number(seed)?, &command::read(source)?))
         }
         ["deepest", width, length, "-o", target] => {
             write(target, &deepest(number(width)?, number(length)?, 0)?.encode())
@@ -51,7 +39,7 @@ fn run(words: &[&str]) -> Result<(), String> {
             let size: Size = size.parse()?;
             write(target, &image::generate(number(seed)?, size).encode())
         }
-        _ => Err(HELP.to_string()),
+        _ => Err(command::unknown("gen")),
     }
 }
 
@@ -68,11 +56,7 @@ fn deepest(width: u64, length: u64, conditions: u64) -> Result<Image, String> {
     }
 }
 
-fn write(target: &str, bytes: &[u8]) -> Result<(), String> {
-    fs::write(target, bytes).map_err(|error| format!("{target}: {error}"))
-}
-
-fn write_borders(directory: &Path) -> Result<(), String> {
+fn write_borders(directory: &Path) -> Result<String, String> {
     fs::create_dir_all(directory).map_err(|error| error.to_string())?;
     let mut table = String::new();
     for (number, (name, bytes, n, p, netlist, scratch)) in image::borders().into_iter().enumerate()
@@ -81,5 +65,6 @@ fn write_borders(directory: &Path) -> Result<(), String> {
         fs::write(directory.join(&file), bytes).map_err(|error| error.to_string())?;
         table += &format!("{file} {n} {p} {netlist} {scratch} {name}\n");
     }
-    fs::write(directory.join("cases.txt"), table).map_err(|error| error.to_string())
+    fs::write(directory.join("cases.txt"), table).map_err(|error| error.to_string())?;
+    Ok(String::new())
 }

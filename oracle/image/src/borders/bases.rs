@@ -3,7 +3,7 @@
 use crate::builder::{Builder, Control, Expr, Memory, Port, Register, Reset, Signal};
 use crate::format::{Image, BINARY_OPS, UNARY_OPS};
 
-/// y = BitNot a.
+/// Input a, output y, y = BitNot a: the listing's example.
 pub fn inverter() -> Image {
     let mut builder = Builder::new();
     let a = builder.input("a", 1);
@@ -26,12 +26,8 @@ pub fn full() -> Image {
     let y = builder.output("y", 8);
     let z = builder.output("z", 1);
     let w = builder.wire("w", 8);
-    let targets: Vec<Signal> = (0..4)
-        .map(|number| builder.wire(&format!("q{number}"), 8))
-        .collect();
-    let data: Vec<Signal> = (0..3)
-        .map(|number| builder.output(&format!("d{number}"), 8))
-        .collect();
+    let targets = [0, 1, 2, 3].map(|number| builder.wire(&format!("q{number}"), 8));
+    let data = [0, 1, 2].map(|number| builder.output(&format!("d{number}"), 8));
     let [value, bit] = operators(&mut builder, a, b, en);
     let address = builder.read(address);
     let low = builder.slice(value, 0, 4);
@@ -41,18 +37,9 @@ pub fn full() -> Image {
     builder.assign(z, bit);
     builder.assign_range(w, 0, low);
     builder.assign_range(w, 4, high);
-    let enable = Control {
-        signal: en,
-        low: true,
-    };
-    let reset = Reset {
-        control: Control {
-            signal: rst,
-            low: false,
-        },
-        asynchronous: true,
-        value: reset,
-    };
+    let enable = Control { signal: en, low: true };
+    let control = Control { signal: rst, low: false };
+    let reset = Reset { control, asynchronous: true, value: reset };
     for (number, target) in targets.into_iter().enumerate() {
         let mut register = Register::new(target, value, clk);
         register.falling = number == 3;
@@ -66,31 +53,18 @@ pub fn full() -> Image {
         read_enable,
         write_address: address,
         write_data: value,
-        write_enable: Control {
-            signal: en,
-            low: false,
-        },
+        write_enable: Control { signal: en, low: false },
         clock: clk,
         falling: false,
     };
-    let one = Memory {
-        depth: 16,
-        style: 1,
-        first: port(data[0], None),
-        second: None,
-    };
-    builder.memory("m0", one);
-    let second = Some(port(data[2], Some(enable)));
-    builder.memory(
-        "m1",
-        Memory {
-            depth: 9,
-            style: 2,
-            first: port(data[1], Some(enable)),
-            second,
-        },
-    );
+    memories(&mut builder, port(data[0], None), [port(data[1], Some(enable)), port(data[2], Some(enable))]);
     builder.finish()
+}
+
+/// A memory of one port and one of two.
+fn memories(builder: &mut Builder, only: Port, [first, second]: [Port; 2]) {
+    builder.memory("m0", Memory { depth: 16, style: 1, first: only, second: None });
+    builder.memory("m1", Memory { depth: 9, style: 2, first, second: Some(second) });
 }
 
 /// All operators over two signals; a word and a bit that need all of them.

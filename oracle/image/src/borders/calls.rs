@@ -65,7 +65,7 @@ fn buffers(cases: &mut Cases) {
     }
 }
 
-/// Next to what is required, and to what document 01 asked for.
+/// Next to what is required, and to the former sum.
 fn scratch_lengths(image: &Image, n: u32) -> BTreeSet<usize> {
     let (required, former) = (image.scratch_words(n), image.former_scratch_words(n));
     BTreeSet::from([0, 63, required - 1, required, required + 1, former - 1, former])

@@ -11,6 +11,7 @@ mod memories;
 mod names;
 mod widths;
 
+pub use bases::inverter;
 pub use memories::port;
 
 use crate::format::{netlist_words, Image};

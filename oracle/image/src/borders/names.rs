@@ -55,8 +55,7 @@ fn bytes(cases: &mut Cases) {
 
 /// Gives record 1 of a section a name at the end of the names.
 fn set_name(image: &mut Image, section: usize, name: &[u8]) {
-    let place = [image.names.len() as u32, name.len() as u32];
-    image.names.extend_from_slice(name);
+    let place = image.add_name(name);
     match section {
         SIGNALS => image.signals[1][..2].copy_from_slice(&place),
         REGISTERS => image.registers[1][..2].copy_from_slice(&place),

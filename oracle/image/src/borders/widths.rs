@@ -164,24 +164,25 @@ fn variants(
 
 /// Stretches of signals, slices and assignments at their ends, with sums
 /// that would wrap.
+const STRETCHES: [(u32, u32); 14] = [
+    (0, 8),
+    (0, 9),
+    (1, 7),
+    (1, 8),
+    (7, 1),
+    (8, 1),
+    (8, 0),
+    (0, 0),
+    (ABSENT, 1),
+    (ABSENT, 2),
+    (ABSENT - 6, 8),
+    (0x8000_0000, 8),
+    (ABSENT - 7, 8),
+    (1, ABSENT),
+];
+
 fn ranges(cases: &mut Cases) {
-    let stretches = [
-        (0, 8),
-        (0, 9),
-        (1, 7),
-        (1, 8),
-        (7, 1),
-        (8, 1),
-        (8, 0),
-        (0, 0),
-        (ABSENT, 1),
-        (ABSENT, 2),
-        (ABSENT - 6, 8),
-        (0x8000_0000, 8),
-        (ABSENT - 7, 8),
-        (1, ABSENT),
-    ];
-    for (lsb, width) in stretches {
+    for (lsb, width) in STRETCHES {
         let mut builder = Builder::new();
         let a = builder.input("a", 8);
         let y = builder.output("y", 8);

@@ -4,12 +4,12 @@
 
 use compare::args::{parse_number, Words};
 use compare::parts::{BuildPlan, Parts};
+use compare::timing::least_of;
 use image::Random;
-use parts::Trial;
+use parts::Library;
 use std::collections::HashSet;
 use std::hint::black_box;
 use std::num::NonZeroU32;
-use std::time::Instant;
 use struo_ir::{NetId, Netlist};
 
 const USAGE: &str = "bench-builder [repeat port|rust NETS LIMIT LOOKUPS]
@@ -26,7 +26,7 @@ const MOST_NETS: u32 = 65_535;
 /// Ten million lookups, in runs; the least time counts, since the machine may
 /// be shared.
 const LOOKUPS: usize = 50_000;
-const RUNS: usize = 200;
+const RUNS: u64 = 200;
 /// Lookups that one run may repeat.
 const MOST_LOOKUPS: usize = 1_000_000;
 
@@ -162,13 +162,8 @@ fn row(name: &str, n: u32, port: f64, rust: f64, operations: usize) {
 }
 
 /// The least time of all runs.
-fn least_seconds<T>(mut run: impl FnMut() -> T) -> f64 {
-    let time = || {
-        let start = Instant::now();
-        black_box(run());
-        start.elapsed().as_secs_f64()
-    };
-    std::iter::repeat_with(time).take(RUNS).fold(f64::INFINITY, f64::min)
+fn least_seconds<T>(run: impl FnMut() -> T) -> f64 {
+    least_of(RUNS, 1, run) / 1e9
 }
 
 /// The buffers that the port's builder is lent.
@@ -187,7 +182,7 @@ impl Port {
 
     fn run(&mut self, operations: &Operations, turns: usize) -> &[u32] {
         let plan = BuildPlan { n: self.n, operations, turns, pool: &[] };
-        let end = Trial.build(&plan, &mut self.netlist, &mut self.index, &mut self.answers);
+        let end = Library.build(&plan, &mut self.netlist, &mut self.index, &mut self.answers);
         assert_eq!(end, [0, 0]);
         &self.answers
     }

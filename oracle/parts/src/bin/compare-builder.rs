@@ -4,7 +4,7 @@
 use compare::args::Words;
 use compare::builds::run;
 use compare::plan::Command;
-use parts::Trial;
+use parts::Library;
 use std::process::ExitCode;
 
 const COMMAND: Command = Command {
@@ -15,7 +15,7 @@ const COMMAND: Command = Command {
 };
 
 fn main() -> ExitCode {
-    COMMAND.execute(Words::of_process(), |plan| match run(&Trial, plan) {
+    COMMAND.execute(Words::of_process(), |plan| match run(&Library, plan) {
         Ok(tally) => Ok(tally.to_string()),
         Err(failure) => Err((failure.number, failure.to_string())),
     })

@@ -4,9 +4,9 @@
 use calls::Library;
 use compare::limits::Limits;
 use compare::subject::Subject;
+use compare::timing::least_time;
 use image::{memory_field, port_field, Image, ABSENT, MEMORY_FIELDS};
 use std::hint::black_box;
-use std::time::Instant;
 
 const USAGE: &str = "bench
     Times struo_check of the port's library beside the reference checks.";
@@ -38,26 +38,10 @@ fn images() -> Vec<(&'static str, Vec<u8>)> {
 
 fn row(name: &str, image: &[u8]) {
     let limits = Limits { n: 65535, p: 65535, netlist_words: 458_761, scratch_words: 500_000 };
-    let port = nanoseconds(|| Library.check(black_box(image), &limits));
+    let port = least_time(|| Library.check(black_box(image), &limits));
     let reference =
-        nanoseconds(|| reference::check(black_box(image), limits.n, limits.p, limits.netlist_words, limits.scratch_words));
+        least_time(|| reference::check(black_box(image), limits.n, limits.p, limits.netlist_words, limits.scratch_words));
     println!("{name:<32} {:>8} {port:>12.0} {reference:>12.0} {:>7.2}", image.len(), port / reference);
-}
-
-/// The least time of a call over some rounds of about 50 ms each.
-fn nanoseconds<T>(mut call: impl FnMut() -> T) -> f64 {
-    let once = Instant::now();
-    black_box(call());
-    let calls = (50_000_000 / once.elapsed().as_nanos().max(20)).clamp(1, 1_000_000) as u32;
-    (0..5)
-        .map(|_| {
-            let start = Instant::now();
-            for _ in 0..calls {
-                black_box(call());
-            }
-            start.elapsed().as_nanos() as f64 / f64::from(calls)
-        })
-        .fold(f64::INFINITY, f64::min)
 }
 
 /// An image with the most records of each section: 512 names of 32 bytes that

@@ -5,11 +5,11 @@ use std::io::Write;
 use std::path::PathBuf;
 use std::process::{Command, Output, Stdio};
 
-/// Document 01's example, byte for byte.
+/// The example of docs/RULES.md, listing, byte for byte.
 const LISTING: &str = "nets 3 list 8\n0 input a\n1 not 0\n2 output y 1\nport a 0\nport y 2\n";
 
 fn corpus(name: &str) -> String {
-    let path = PathBuf::from(env!("CARGO_MANIFEST_DIR")).join("../../corpus").join(name);
+    let path = PathBuf::from(env!("CARGO_MANIFEST_DIR")).join("../corpus").join(name);
     path.to_str().expect("a path of text").to_string()
 }
 
@@ -60,7 +60,7 @@ fn expect(source: &str, options: &[&str], status: i32, printed: &str) {
 const INVERTER: &str = "input a 1\noutput y 1\nexpr n = not a\nassign y = n\n";
 
 #[test]
-fn the_example_of_document_01() {
+fn the_example_of_the_rules() {
     expect(INVERTER, &[], 0, LISTING);
     let output = run(&[&corpus("listing.txt")], b"");
     assert_eq!((text(&output.stdout), output.status.code()), (LISTING, Some(0)));
@@ -139,7 +139,7 @@ fn refusals_of_records() {
 /// Images that edition 1's assembler wrote, and the texts they come from.
 #[test]
 fn images_of_edition_1() {
-    let stored = PathBuf::from(env!("CARGO_MANIFEST_DIR")).join("../image/tests/edition-1");
+    let stored = PathBuf::from(env!("CARGO_MANIFEST_DIR")).join("../oracle/image/tests/edition-1");
     let mut images = 0;
     for entry in std::fs::read_dir(stored).expect("stored images") {
         let path = entry.expect("an entry").path();
@@ -189,6 +189,13 @@ fn refusals_by_a_limit() {
     expect("input a 1\ninput b 1\noutput y 1\n", &["--nets", "1"], 1, never);
 }
 
+/// Neither struo's sources nor what drives or compares them.
+#[test]
+fn packages_that_are_linked() {
+    let names: Vec<&str> = include_str!("../Cargo.lock").lines().filter_map(|line| line.strip_prefix("name = ")).collect();
+    assert_eq!(names, ["\"command\"", "\"image\"", "\"port\"", "\"reading\""]);
+}
+
 #[test]
 fn help() {
     for words in [&["--help"][..], &["-h"], &["file", "--help"]] {
@@ -196,6 +203,15 @@ fn help() {
         assert!(text(&output.stdout).starts_with("usage: ./lower FILE "), "{words:?}");
         assert_eq!((text(&output.stderr), output.status.code()), ("", Some(0)), "{words:?}");
     }
+}
+
+/// The script prints it where there is no library to link.
+#[test]
+fn help_of_the_script() {
+    let script = concat!(env!("CARGO_MANIFEST_DIR"), "/../lower");
+    let output = Command::new(script).args(["file", "-h"]).env("STRUO_LIBRARY", "/nowhere").output().expect("the script runs");
+    assert_eq!((text(&output.stdout), text(&output.stderr)), (command::arguments::HELP, ""));
+    assert!(output.status.success());
 }
 
 /// One line on standard error, nothing on standard output, end 2.

@@ -1,5 +1,5 @@
 //! A refusal in words: which limit, buffer, field, record, signal or register,
-//! and which rule of documents 01 and 02.
+//! and which rule of docs/RULES.md and docs/FORMATS.md.
 
 use crate::arguments::Wish;
 use crate::lowering::{Room, taken};
@@ -33,7 +33,7 @@ pub fn in_words(answer: Answer, image: &[u8], wish: &Wish, room: &Room) -> Strin
         8 => (format!("{} is no constant", reset_bit(image, first, second)), None),
         9 => (too_many("nets", "--nets", wish.nets, taken(image).map(|(nets, _)| nets)), None),
         10 => (too_many("list words", "--words", wish.words, taken(image).map(|(_, words)| words)), None),
-        _ => ("an answer that document 01 does not know".to_string(), None),
+        _ => ("an answer that docs/RULES.md does not know".to_string(), None),
     };
     let record = record.map_or(String::new(), |line| format!("  {line}\n"));
     format!("refused {number} {first} {second}: {words}\n{record}")
@@ -68,7 +68,7 @@ fn scratch_short(image: &[u8], wish: &Wish, room: &Room) -> String {
 
 // Whoever writes the image.
 
-/// The rule that a header field or a record breaks, in the documents' words.
+/// The rule that a header field or a record breaks, in the words it is written in.
 fn rule(image: &[u8]) -> String {
     reading::cause(image).map_or(String::new(), |cause| format!(": \"{}\"", cause.rule))
 }
@@ -122,20 +122,14 @@ fn record_name(image: &[u8], section: u32, number: u32) -> Option<String> {
     let image = Image::decode(image)?;
     let number = number as usize;
     let name = match section {
-        0 => name(&image, image.signals.get(number)?),
-        3 => name(&image, image.signals.get(image.assignments.get(number)?[0] as usize)?),
-        4 => name(&image, image.registers.get(number)?),
-        5 => name(&image, image.memories.get(number)?),
+        0 => image.name_of(image.signals.get(number)?),
+        3 => image.name_of(image.signals.get(image.assignments.get(number)?[0] as usize)?),
+        4 => image.name_of(image.registers.get(number)?),
+        5 => image.name_of(image.memories.get(number)?),
         _ => None,
     };
-    name.filter(|name| (1..=64).contains(&name.len()) && name.bytes().all(|byte| (33..=126).contains(&byte)))
-}
-
-/// The name of a record whose first fields place it.
-fn name(image: &Image, record: &[u32]) -> Option<String> {
-    let rest = image.names.get(record[0] as usize..)?;
-    let bytes = rest.get(..record[1] as usize)?;
-    String::from_utf8(bytes.to_vec()).ok()
+    let is_printable = |name: &&str| (1..=64).contains(&name.len()) && name.bytes().all(|byte| (33..=126).contains(&byte));
+    name.filter(is_printable).map(str::to_string)
 }
 
 /// The record as the disassembler writes it: one line for each record, those of

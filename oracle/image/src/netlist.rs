@@ -1,13 +1,14 @@
-//! Document 01's netlist image, read into nodes and records. Whatever would
-//! make a wrong drawing or wrong Verilog is refused with one line of text.
+//! The netlist image (docs/FORMATS.md), read from its words alone into nodes and
+//! records. Whatever would make a wrong value, listing, drawing or Verilog is
+//! refused with one line of text.
 
+use crate::format::ABSENT;
 use std::collections::BTreeSet;
 
-use image::Image;
-
-const ABSENT: u32 = u32::MAX;
-const HEADER_WORDS: usize = 16;
-const NODE_WORDS: usize = 6;
+/// The edition of a netlist image, header word 0.
+pub const EDITION: u32 = 1;
+pub const HEADER_WORDS: usize = 16;
+pub const NODE_WORDS: usize = 6;
 
 /// A net's number.
 pub type Net = u32;
@@ -21,6 +22,8 @@ pub struct Netlist {
     pub memories: Vec<Memory>,
     pub arithmetic: Vec<Arithmetic>,
     pub comparisons: Vec<Comparison>,
+    /// The words of each record, in the order of the list.
+    pub records: Vec<Vec<u32>>,
 }
 
 /// What makes a net.
@@ -145,9 +148,11 @@ impl Netlist {
             nets: netlist.nodes.len(),
         };
         while !list.words.is_empty() {
-            let place = words[3] as usize - list.words.len();
+            let (from, place) = (list.words, words[3] as usize - list.words.len());
             let record = netlist.read_record(&mut list);
             record.map_err(|error| format!("record at list word {place}: {error}"))?;
+            let taken = from.len() - list.words.len();
+            netlist.records.push(from[..taken].to_vec());
         }
         netlist.check_counts(&words[5..10])?;
         netlist.check_owners()?;
@@ -231,20 +236,8 @@ impl Netlist {
                 self.port_node(port, bit, net)
             }));
         }
-        for RegisterBit {
-            register,
-            bit,
-            output,
-            ..
-        } in &self.registers
-        {
-            nodes.push((
-                *output,
-                Node::RegisterOutput {
-                    register: *register,
-                    bit: *bit,
-                },
-            ));
+        for &RegisterBit { register, bit, output, .. } in &self.registers {
+            nodes.push((output, Node::RegisterOutput { register, bit }));
         }
         for (memory, record) in (0..).zip(&self.memories) {
             let nets: Vec<Net> = record
@@ -309,36 +302,6 @@ impl Netlist {
         }
     }
 
-    /// The netlist has the image's ports, registers and memories.
-    ///
-    /// # Errors
-    ///
-    /// Says that it has not.
-    pub fn check_fit(&self, image: &Image) -> Result<(), String> {
-        let signals = (0..)
-            .zip(&image.signals)
-            .filter(|(_, signal)| signal[3] != 0);
-        let expected: BTreeSet<_> = signals
-            .map(|(number, s)| (number, s[2] as usize, s[3] == 1))
-            .collect();
-        let found: BTreeSet<_> = self
-            .ports
-            .iter()
-            .map(|p| (p.signal, p.nets.len(), p.input))
-            .collect();
-        let targets = image.registers.iter().map(|register| register[2]);
-        let widths: Vec<u32> = targets
-            .map(|signal| image.signals[signal as usize][2])
-            .collect();
-        if expected != found
-            || self.register_widths() != widths
-            || self.memories.len() != image.memories.len()
-        {
-            return Err("the image is not the one of this netlist".to_string());
-        }
-        Ok(())
-    }
-
     /// How many registers there are, and the width of each.
     pub fn register_widths(&self) -> Vec<u32> {
         let count = self
@@ -383,8 +346,8 @@ fn sections(words: &[u32]) -> Result<(&[u32], &[u32]), String> {
     }
     let [edition, nets, node_offset, list_words, list_offset] =
         [0, 1, 2, 3, 4].map(|at| words[at] as usize);
-    if edition != 1 {
-        return Err(format!("edition {edition} is not 1"));
+    if words[0] != EDITION {
+        return Err(format!("edition {edition} is not {EDITION}"));
     }
     if node_offset != HEADER_WORDS {
         return Err(format!("node offset {node_offset} is not {HEADER_WORDS}"));
@@ -425,20 +388,9 @@ fn read_node(number: u32, words: &[u32]) -> Result<Node, String> {
         3 => Node::Or(first, second),
         4 => Node::Xor(first, second),
         5 => Node::Not(first),
-        6 => Node::Mux {
-            condition: first,
-            then: second,
-            otherwise: third,
-        },
-        7 => Node::RegisterOutput {
-            register: owner,
-            bit,
-        },
-        8 => Node::Output {
-            signal: owner,
-            bit,
-            input: first,
-        },
+        6 => Node::Mux { condition: first, then: second, otherwise: third },
+        7 => Node::RegisterOutput { register: owner, bit },
+        8 => Node::Output { signal: owner, bit, input: first },
         9 => Node::MemoryOutput { memory: owner, bit },
         10 => Node::ArithmeticOutput { cell: owner, bit },
         11 if bit == 0 => Node::ComparisonOutput { cell: owner },

@@ -1,5 +1,6 @@
 //! The command `lower`: lowers a module by the port's library and lists its
-//! netlist, or says in words why it is refused. Stands outside the proof.
+//! netlist, or says in words why it is refused. Stands outside the proof, and
+//! links nothing of struo.
 
 pub mod arguments;
 pub mod input;

@@ -6,16 +6,21 @@ use command::lowering::{Outcome, lower};
 use command::refusal::in_words;
 use command::{ACCEPTED, Answer};
 use std::io::{ErrorKind, Write};
+use std::panic::resume_unwind;
 use std::process::ExitCode;
+use std::thread;
 
 const REFUSED: u8 = 1;
 const NO_GOOD: u8 = 2;
 
+/// More than the deepest image needs (`STRUO_STACK_KB` in include/struo.h): texts may nest deeper.
+const STACK_BYTES: usize = 512 << 20;
+
 fn main() -> ExitCode {
     let words: Vec<String> = std::env::args().skip(1).collect();
     let ended = match request(&words) {
-        Ok(Request::Help) => print(&format!("{HELP}\n")).map(|()| ACCEPTED),
-        Ok(Request::Lower(wish)) => driver::with_big_stack(|| run(&wish)),
+        Ok(Request::Help) => print(HELP).map(|()| ACCEPTED),
+        Ok(Request::Lower(wish)) => on_deep_stack(|| run(&wish)),
         Err(problem) => Err(format!("{problem}; see ./lower --help")),
     };
     match ended {
@@ -26,6 +31,13 @@ fn main() -> ExitCode {
             ExitCode::from(NO_GOOD)
         }
     }
+}
+
+fn on_deep_stack<T: Send>(work: impl FnOnce() -> T + Send) -> T {
+    thread::scope(|scope| {
+        let thread = thread::Builder::new().stack_size(STACK_BYTES).spawn_scoped(scope, work);
+        thread.expect("a thread can be started").join().unwrap_or_else(|payload| resume_unwind(payload))
+    })
 }
 
 fn run(wish: &Wish) -> Result<Answer, String> {
@@ -41,7 +53,7 @@ fn run(wish: &Wish) -> Result<Answer, String> {
     if let Some(file) = &wish.words_out {
         write(file, &words.iter().flat_map(|word| word.to_le_bytes()).collect::<Vec<u8>>())?;
     }
-    let listing = driver::words_listing(&image, &words);
+    let listing = image::listing(&image, &words);
     print(&listing.ok_or("the netlist's words cannot be read")?)?;
     Ok(answer)
 }

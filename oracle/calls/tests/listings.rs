@@ -1,4 +1,4 @@
-//! The listing from the netlist's words is that of struo's own netlist, on the
+//! What the command ./lower prints is the listing of struo's own netlist, on the
 //! corpus and on random images; and every refusal of these is said in words.
 
 use command::arguments::{Request, Wish, request};
@@ -21,7 +21,7 @@ fn printed(image: &[u8]) -> (Answer, String) {
     let wish = wish();
     let outcome = lower(image, &wish);
     if outcome.answer == ACCEPTED {
-        return (ACCEPTED, driver::words_listing(image, &outcome.words).expect("a netlist"));
+        return (ACCEPTED, image::listing(image, &outcome.words).expect("a netlist"));
     }
     let words = in_words(outcome.answer, image, &wish, &outcome.room);
     let (numbers, meaning) = words.split_once(": ").expect("numbers and words");
@@ -85,6 +85,6 @@ fn words_that_are_no_netlist() {
     let cut_record = [1, 0, 5, 3, 5, 0, 0, 1];
     let shapes = [&[][..], &[0; 5], &[u32::MAX; 40], &[1, 9, 16, 0, 16, 0, 0]];
     for words in shapes.into_iter().chain([&no_kind[..], &no_signal, &no_sort, &cut_record]) {
-        assert_eq!(driver::words_listing(&image, words), None, "{words:?}");
+        assert_eq!(image::listing(&image, words), None, "{words:?}");
     }
 }

@@ -2,33 +2,7 @@
 
 use crate::MOST;
 
-pub const HELP: &str = "\
-usage: ./lower FILE [--nets N] [--words P] [--image-out F] [--words-out F]
-       ./lower --from-edition-1 IMAGE [--image-out F] ..
-
-Lowers the module in FILE and prints its netlist, or why it is refused.
-FILE is a text of the form in corpus/README.md or a module image: a file whose
-name ends in .img, or any file with a byte 0. - is standard input.
-
-  --nets N         at most N nets (65535)
-  --words P        at most P list words (65535)
-  --image-out F    also writes the module image to F
-  --from-edition-1 takes FILE for a module image of edition 1, which is no longer
-                   read, and turns it into one of edition 2: each memory gets its
-                   word width. With --image-out F, F is the image of edition 2
-  --words-out F    also writes the netlist's 16 + 6N + P words to F, four bytes
-                   each, low first, if the module is accepted
-  --netlist W      lends a netlist buffer of W words (as many as needed)
-  --scratch W      lends a scratch of W words (as many as needed)
-  --help           prints this text
-
-The netlist is printed as document 01's listing: the number of nets and of list
-words, a line for each net (number, kind, name or value or cell, inputs), a line
-for each port, register bit, memory and cell. A refusal is printed as its three
-numbers (include/struo.h) and what they mean.
-
-Ends with 0 if the module is accepted, 1 if it is refused, 2 if the command line
-or the file is no good.";
+pub const HELP: &str = include_str!("../help.txt");
 
 /// What is asked for.
 #[derive(Clone, Debug, PartialEq, Eq)]
