@@ -27,8 +27,7 @@ use Rattle.law_walk.specs.Kept.{Any}
 use Rattle.law_phases.specs.Outputs.{Lowered, lowered}
 use Rattle.law_call.specs.Calls.{is-good, buffer-is, passes, ended}
 use Rattle.law_owners.specs.Ends.{All}
-use Rattle.law_owners.specs.Kept.{Throughout}
-use Rattle.law_owners.specs.Owners.{Owned, OfSignal, owners}
+use Rattle.law_owners.specs.Owners.{Throughout, Owned, OfSignal, owners}
 use Rattle.listing_whole.specs.Length.{AllSmall, Named, PortsNamed, listing-short}
 
 -- ---- names of the module's records ----

@@ -1,5 +1,6 @@
 -- Refusal 11: what a netlist image that is taken back in must be, and its first wrong word (docs/RULES.md, change request Q-2). Each rule
--- is a test that is true where a word breaks it; it looks only at words that are judged before that one. A word past the end is 0.
+-- is a test that is true where a word breaks it; it looks only at that word and words judged before it, but for a record's first, which
+-- is wrong where the record does not fit. A word past the end is 0.
 use Prim.Native.Nat.{ℕ, zero, suc, _+_, _*_, _-_, _/_, _%_, min}
 use mathlib.Core.Bool.{Bool, false, not}
 use mathlib.Core.List.{List, [], _∷_, _++_}

@@ -39,7 +39,8 @@ isNode ws n = n <? nets ws
 unfoldable pub nodeGiven : List ℕ → ℕ → List ℕ
 nodeGiven ws n = pick (isNode ws n) (nodeWord ws n 0 ∷ nodeWord ws n 1 ∷ nodeWord ws n 2 ∷ nodeWord ws n 3 ∷ nodeWord ws n 4 ∷ nodeWord ws n 5 ∷ []) (0 ∷ 0 ∷ 0 ∷ 0 ∷ 0 ∷ 0 ∷ [])
 
--- the list words used from list word p on begin with a record; its sort, its length and the list word after it; three times 0 where they do not
+-- the list words used from list word p on can be read as a record that fits; its sort, its length and the list word after it; three times 0
+-- where they cannot. Of an accepted image such places are 0 and each list word after a record; another word is taken as it stands
 unfoldable pub isRecord : List ℕ → ℕ → Bool
 isRecord ws p = let l = listFrom ws p in p <? used ws and getD l 0 0 <? 5 and not (length l <? recordLength l)
 

@@ -1,0 +1,1 @@
+// A netlist whose nodes and records are listed is accepted: laws only, in specs/.

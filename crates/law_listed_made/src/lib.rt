@@ -1,0 +1,1 @@
+// The lowering lists each node and record: laws only, in specs/.

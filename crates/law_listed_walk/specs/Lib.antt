@@ -1,0 +1,4 @@
+-- What the walk adds to a netlist.
+pub mod Shape
+pub mod Keeps
+pub mod Walked

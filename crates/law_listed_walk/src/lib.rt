@@ -1,0 +1,1 @@
+// What the builder and the walk keep of a netlist's fields: laws only, in specs/.
