@@ -50,7 +50,7 @@ pub fn node_word(net: &[u32], n: u32, f: u32) -> u32
 }
 
 // The words of a memory's port that a list begins with.
-fn port_length(p: &[u32]) -> usize
+pub fn port_length(p: &[u32]) -> usize
     ensures { λ r. ⌜ (r ≡ image.portLength (now (p .entry))) × (r ≤ 17179869194) ⌝ }
 {
     let lists = word_at(p, 0) as usize

@@ -1,0 +1,2 @@
+-- What the given record tells.
+pub mod Records

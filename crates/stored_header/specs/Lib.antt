@@ -1,0 +1,2 @@
+-- What a header and a length that pass tell.
+pub mod Header

@@ -1,0 +1,3 @@
+-- A memory's record: its words, and those of its ports.
+pub mod Ports
+pub mod Memory
