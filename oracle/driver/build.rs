@@ -3,7 +3,8 @@
 //! ours. The first copy is otherwise unchanged. The plain copy has the rows that
 //! request Q-5 adds (`docs/struo-ranges-or-xor.patch`); the limited copy has
 //! these and `limits.patch`; a copy of `ranges.rs` alone has these and
-//! `ranges.patch`. Every patch must fit exactly.
+//! `ranges.patch`. Every patch must fit exactly. A copy of the netlist alone gets a
+//! child module too and is otherwise unchanged.
 
 use std::collections::BTreeMap;
 use std::fs;
@@ -32,6 +33,8 @@ fn main() {
     write_copy(&out.join("plain"), &plain, &children);
     write_copy(&out.join("limited"), &limited, &children);
     write(&out.join("ranged").join(RANGES), &ranged[RANGES]);
+    let rebuilt = format!("#[path = {:?}] pub(crate) mod rebuilt;\n", driver.join("src/rebuilt.rs"));
+    write(&out.join("opened").join(IR), &(unchanged[IR].clone() + &rebuilt));
     write(&out.join("copies.rs"), &copies(&out));
 }
 
@@ -89,6 +92,7 @@ fn copies(out: &Path) -> String {
         + &module("limited", out.join("limited").join(SYNTH))
         + &module("limited_ir", out.join("limited").join(IR))
         + &module("ranged", out.join("ranged").join(RANGES))
+        + &module("opened_ir", out.join("opened").join(IR))
 }
 
 /// Applies a unified diff to the sources. Every context line must be there.

@@ -1,13 +1,35 @@
 //! The calls of the port's library as what is compared and timed.
 
+mod guarded;
 pub mod speed;
 
 use compare::limits::Limits;
+use compare::netlists::run::Reader;
 use compare::subject::Subject;
 use compare::Answer;
+use guarded::Guarded;
 
-/// The library's two calls.
+/// The library's calls.
 pub struct Library;
+
+/// The library's calls that take a netlist back in. Each sees its slice at the end
+/// of memory that can be read: a word read past it ends the program.
+#[derive(Default)]
+pub struct NetlistLibrary(Guarded);
+
+impl Reader for NetlistLibrary {
+    fn check(&self, slice: &[u32]) -> Answer {
+        self.0.with(slice, port::netlist_check)
+    }
+
+    fn node(&self, slice: &[u32], net: u32) -> (u32, [u32; 6]) {
+        self.0.with(slice, |slice| port::netlist_node_numbers(slice, net))
+    }
+
+    fn record(&self, slice: &[u32], at: u32) -> (u32, [u32; 3]) {
+        self.0.with(slice, |slice| port::netlist_record_numbers(slice, at))
+    }
+}
 
 impl Subject for Library {
     fn check(&self, image: &[u8], limits: &Limits) -> Answer {

@@ -1,6 +1,7 @@
 //! Comparing the port with docs/RULES.md: cases, limits, the call with guarded
-//! buffers, what must be in them afterwards, shrinking, and the replay list; and
-//! parts of the port with struo's own functions. Also how calls are timed.
+//! buffers, what must be in them afterwards, shrinking, and the replay list; parts
+//! of the port with struo's own functions; and netlists taken back in with the
+//! reading of refusal 11. Also how calls are timed.
 
 pub mod args;
 pub mod builds;
@@ -11,6 +12,7 @@ pub mod faults;
 pub mod inputs;
 pub mod limits;
 pub mod listings;
+pub mod netlists;
 pub mod parts;
 pub mod plan;
 pub mod replay;

@@ -14,11 +14,12 @@ mod netlist_sim;
 mod prepared;
 mod rtl;
 mod simulation;
+mod validated;
 mod words;
 
 // Copies of the lowering: `unchanged`; `plain`, with the rows of Or and Xor of
 // request Q-5; `limited`, with these rows and limits.patch. `ranged` is the range
-// analysis alone, with these rows and ranges.patch.
+// analysis alone, with these rows and ranges.patch. `opened_ir` is the netlist alone.
 include!(concat!(env!("OUT_DIR"), "/copies.rs"));
 
 use std::any::Any;
@@ -32,6 +33,7 @@ pub use module_sim::ModuleSim;
 pub use netlist_sim::NetlistSim;
 pub use prepared::{Lowered, Prepared};
 pub use simulation::{Contents, NoRun, Observation, Setting, random_word};
+pub use validated::Rebuilt;
 pub use words::words;
 
 use module_image::ModuleImage;

@@ -1,6 +1,6 @@
 //! Module images of edition 2: the records, their bytes, and tools to make,
 //! write, read and damage them; nothing here judges a module image. Also a reader
-//! of netlist images, and their listing.
+//! of netlist images, their listing, and netlist images put together from parts.
 
 mod assemble;
 mod borders;
@@ -17,6 +17,8 @@ mod input;
 mod listing;
 mod mutate;
 pub mod netlist;
+mod netlist_borders;
+pub mod netlist_parts;
 mod random;
 mod shapes;
 mod tables;
@@ -31,7 +33,8 @@ pub use edition::{from_edition_1, to_edition_1};
 pub use format::*;
 pub use generate::{generate, Size};
 pub use input::read;
-pub use listing::{bit_name, listing, read_data_bit_name};
+pub use listing::{bit_name, listing, read_data_bit_name, KINDS, SORTS};
 pub use mutate::mutate;
+pub use netlist_borders::{every_kind, netlist_borders};
 pub use random::Random;
 pub use tables::table;

@@ -6,7 +6,7 @@ use crate::netlist::{Netlist, HEADER_WORDS, NODE_WORDS};
 use std::fmt::Write;
 
 /// Kinds of nets, in number order.
-const KINDS: [&str; 12] = [
+pub const KINDS: [&str; 12] = [
     "input",
     "constant",
     "and",
@@ -22,7 +22,7 @@ const KINDS: [&str; 12] = [
 ];
 
 /// Sorts of list records, in number order.
-const SORTS: [&str; 5] = ["port", "register", "memory", "arithmetic", "comparison"];
+pub const SORTS: [&str; 5] = ["port", "register", "memory", "arithmetic", "comparison"];
 
 /// The listing of the netlist that an accepted image's buffer holds. `None`
 /// where the words are no netlist image of it.

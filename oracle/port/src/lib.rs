@@ -3,4 +3,4 @@
 #[path = "../../../examples/rust/struo.rs"]
 mod struo;
 
-pub use struo::{check, lower, most_scratch_words, netlist_words, Answer, ACCEPTED};
+pub use struo::*;

@@ -45,8 +45,9 @@ impl Drop for Folder {
 }
 
 #[test]
-fn the_library_exports_both_calls() {
-    assert_eq!(exports(&library(), &["struo_check", "struo_lower"]), Ok(()));
+fn the_library_exports_its_calls() {
+    let calls = ["struo_check", "struo_lower", "struo_netlist_check", "struo_netlist_node", "struo_netlist_record"];
+    assert_eq!(exports(&library(), &calls), Ok(()));
 }
 
 #[test]

@@ -1,5 +1,6 @@
 //! A reading of refusals 1 to 5 (docs/RULES.md), made from the sentences of the
-//! rules alone, which stand in quotes. `reading` is another.
+//! rules alone, which stand in quotes. `reading` is another. Also one of refusal 11,
+//! that of a netlist taken back in (`netlist_answer`).
 //!
 //! This is the witness for the definitions of the port: not quick, only plain.
 //! Each rule is a short function named after its sentence, true where the
@@ -8,9 +9,12 @@
 
 mod header;
 mod layout;
+mod netlist;
 mod records;
 
 use layout::Module;
+
+pub use netlist::{netlist_answer, netlist_node, netlist_record};
 
 /// A refusal: number and two places. `FINE` where nothing is refused.
 pub type Answer = [u32; 3];
