@@ -1,22 +1,25 @@
-/* libstruo: checks a module image (bytes) and lowers it into a netlist image (32-bit words) in lent buffers.
+/* libstruo: checks a module image (bytes) and lowers it into a netlist image (32-bit words) in lent buffers; checks a stored netlist image,
+ * and gives its nodes and records one by one.
  *
  * `rt staticlib struo` writes target/staticlib/libstruo.a, for x86-64 Linux. The functions ask for no memory and keep nothing between
  * calls, so threads may call them at the same time; of the C library the compiler uses memcpy and memset. Each is proved to end, and to
  * keep its contract, for all bytes, limits and buffer lengths. The contracts stand in crates/struo/src/lib.rt and
  * crates/spec_rules/specs/Promise.antt; here they are in words. The formats: docs/FORMATS.md. The rules: docs/RULES.md.
  *
- * Nothing is asked of the image's bytes: any bytes are answered.
+ * Nothing is asked of the bytes of a module image and of the words of a stored netlist: any are answered.
  *
  * What is asked of the caller, since a contract cannot say it:
  * - No pointer is null, also where its length is 0.
- * - `image` can be read for `image_len` bytes, `netlist` and `scratch` can be read and written for their lengths, `answer` for 3 words.
- * - `netlist`, `scratch` and `answer` are aligned to 4 bytes. `image` may stand anywhere.
+ * - `image` can be read for `image_len` bytes, `netlist` and `scratch` can be read and written for their lengths (a netlist that is const
+ *   is only read), `answer` and `record` for 3 words, `node` for 6.
+ * - `netlist`, `scratch`, `answer`, `node` and `record` are aligned to 4 bytes. `image` may stand anywhere.
  * - `image_len` is below 2^63, `netlist_len` and `scratch_len` are below 2^63 / 4.
- * - None of the four overlaps another, and nothing else writes them during the call.
- * - The thread has STRUO_STACK_KB of stack left: the lowering calls itself as deep as expressions and signals of the module nest. No
- *   theorem bounds the stack of compiled code; the figure is counted, from the levels that an image can have and the library's frames.
+ * - Of what one call is lent, none overlaps another, and nothing else writes it during the call.
+ * - The thread has STRUO_STACK_KB of stack left for struo_check and struo_lower: the lowering calls itself as deep as expressions and
+ *   signals of the module nest. For the netlist calls it has STRUO_NETLIST_STACK_KB. No theorem bounds the stack of compiled code; the
+ *   figures are counted from the library's frames, the first also from the levels that an image can have.
  *
- * struo_try_check and struo_try_lower below test what of this can be tested before they call.
+ * The forms struo_try_.. below test what of this can be tested before they call.
  */
 #ifndef STRUO_H
 #define STRUO_H
@@ -46,7 +49,10 @@ enum struo_answer {
     STRUO_RESET = 8,    /* a bit of a reset value is no constant net. Place: the register, the bit. */
     /* Designer and caller. */
     STRUO_TOO_MANY_NETS = 9, /* net n + 1 would be made */
-    STRUO_LIST_FULL = 10     /* a list record would pass p list words */
+    STRUO_LIST_FULL = 10,    /* a list record would pass p list words */
+    /* Whoever stores the netlist. */
+    STRUO_NETLIST_WORD = 11 /* a stored netlist image breaks a rule. Place: the number of the first wrong word in the slice, then 0; the
+                               slice's length where it ends too early. docs/RULES.md, stored netlist, has the rules and the order. */
 };
 
 /* Words that the netlist buffer must have for net limit n and list limit p. */
@@ -60,9 +66,13 @@ enum struo_answer {
 /* Words of scratch that serve every image with net limit n. */
 #define STRUO_SCRATCH_MOST(n) STRUO_SCRATCH_WORDS(4096, 32768, 2048, n)
 
-/* A stack that serves every image, in units of 1,024 bytes (docs/BENCH.md, Stack; oracle/stack-bound counts it anew from the library);
- * modules that nest less take less. */
+/* A stack that serves every image, in units of 1,024 bytes (docs/BENCH.md, Stack; oracle/stack-bound counts this one and the next anew from
+ * the library); modules that nest less take less. */
 #define STRUO_STACK_KB 7680
+
+/* A stack that serves struo_netlist_check, struo_netlist_node and struo_netlist_record for every netlist, in units of 1,024 bytes: the
+ * check's tables are local arrays. */
+#define STRUO_NETLIST_STACK_KB 512
 
 /* Checks an image: refusals 1, 2, 3, 4, 5, in this order, for net limit n, list limit p and buffers of so many words.
  *
@@ -119,8 +129,44 @@ enum struo_kind {
     STRUO_COMPARISON_OUTPUT = 11
 };
 
+/* A list record's sort. */
+enum struo_sort {
+    STRUO_PORT_RECORD = 0,
+    STRUO_REGISTER_RECORD = 1, /* one bit of a register */
+    STRUO_MEMORY_RECORD = 2,
+    STRUO_ARITHMETIC_RECORD = 3,
+    STRUO_COMPARISON_RECORD = 4
+};
+
 /* A node's input, or a record's control, that is not there. */
 #define STRUO_ABSENT UINT32_C(4294967295)
+
+/* Checks a netlist image that was stored: refusal 11.
+ *
+ * netlist is the image from its first word on, in the machine's byte order. The net limit n it was made with follows from its word 4;
+ * words past the list words used are not read, so the slice may be longer, and need not have the unused list words. answer is 0 0 0 for
+ * acceptance, or 11, the number of the first wrong word, 0. Nothing else is written. Every netlist image that struo_lower leaves is
+ * accepted. The time is linear in nets and list words, but for slices made against the hash that finds equal nodes (docs/BENCH.md). */
+void struo_netlist_check(const uint32_t *netlist, size_t netlist_len, uint32_t answer[3]);
+
+/* Gives the node of a net.
+ *
+ * If net is below the net count (word 1 of netlist), the answer is 1 and node holds the node's six words: kind, owner or constant value,
+ * bit, three inputs; a word past the slice's end reads as 0. Else the answer is 0, and node holds six zeros. The nodes begin at the word
+ * that word 2 of netlist names, whatever it holds; the check asks for 16. Of a slice that struo_netlist_check accepts, the nets 0, 1, ..
+ * below the net count give the nodes of docs/FORMATS.md. */
+uint32_t struo_netlist_node(const uint32_t *netlist, size_t netlist_len, uint32_t net, uint32_t node[6]);
+
+/* Gives the list record that begins at list word at, counted from the list's begin.
+ *
+ * The answer is 1 and record holds its sort (enum struo_sort), its length in words, and the list word at which the next one begins. The
+ * answer is 0, and record holds three zeros, if at is not below the list words used (word 3 of netlist), if the sort is above 4, or if
+ * the record does not fit into the list words used that the slice has from there on. Words 3 and 4 of netlist are taken as they stand, and
+ * a memory record has the length of two ports if its port count is 2, else of one.
+ *
+ * Of a slice that struo_netlist_check accepts, list word 0 and then the next ones up to the first answer 0 give exactly its records; a list
+ * word inside a record is taken as a first one, as it stands. Word k of a record is netlist[netlist[STRUO_LIST_AT] + at + k]. */
+uint32_t struo_netlist_record(const uint32_t *netlist, size_t netlist_len, uint32_t at, uint32_t record[3]);
 
 /* ---- Checked forms: they test every pointer and length, and call only if all are right. ---- */
 
@@ -128,9 +174,9 @@ enum struo_kind {
 enum struo_found {
     STRUO_CALLED = 0,
     STRUO_NULL = 1,      /* a pointer is null */
-    STRUO_UNALIGNED = 2, /* netlist, scratch or answer is not aligned to 4 bytes */
+    STRUO_UNALIGNED = 2, /* a pointer to words is not aligned to 4 bytes */
     STRUO_TOO_LONG = 3,  /* a length is 2^63 bytes or more, or passes the end of the addresses */
-    STRUO_OVERLAP = 4    /* two of image, netlist, scratch and answer overlap */
+    STRUO_OVERLAP = 4    /* two of the stretches that are lent overlap */
 };
 
 /* A stretch of memory, in bytes. */
@@ -198,6 +244,50 @@ static inline enum struo_found struo_try_lower(const uint8_t *image, size_t imag
         found = STRUO_OVERLAP;
     if (found == STRUO_CALLED)
         struo_lower(image, image_len, n, p, netlist, netlist_len, scratch, scratch_len, answer);
+    return found;
+}
+
+/* Tests a stored netlist and two stretches of words that are written. */
+static inline enum struo_found struo_test_stored(const uint32_t *netlist, size_t netlist_len, const uint32_t *first, size_t first_len,
+                                                 const uint32_t *second, size_t second_len)
+{
+    struct struo_stretch lent[3];
+    enum struo_found found = struo_stretch_of(netlist, netlist_len, sizeof *netlist, &lent[0]);
+    if (found == STRUO_CALLED)
+        found = struo_stretch_of(first, first_len, sizeof *first, &lent[1]);
+    if (found == STRUO_CALLED)
+        found = struo_stretch_of(second, second_len, sizeof *second, &lent[2]);
+    if (found == STRUO_CALLED && struo_overlap(lent, 3))
+        found = STRUO_OVERLAP;
+    return found;
+}
+
+/* struo_netlist_check, after the tests. */
+static inline enum struo_found struo_try_netlist_check(const uint32_t *netlist, size_t netlist_len, uint32_t *answer)
+{
+    enum struo_found found = struo_test_stored(netlist, netlist_len, answer, 3, answer, 0);
+    if (found == STRUO_CALLED)
+        struo_netlist_check(netlist, netlist_len, answer);
+    return found;
+}
+
+/* struo_netlist_node, after the tests; its answer, 1 or 0, is written to given. */
+static inline enum struo_found struo_try_netlist_node(const uint32_t *netlist, size_t netlist_len, uint32_t net, uint32_t *node,
+                                                      uint32_t *given)
+{
+    enum struo_found found = struo_test_stored(netlist, netlist_len, node, 6, given, 1);
+    if (found == STRUO_CALLED)
+        *given = struo_netlist_node(netlist, netlist_len, net, node);
+    return found;
+}
+
+/* struo_netlist_record, after the tests; its answer, 1 or 0, is written to given. */
+static inline enum struo_found struo_try_netlist_record(const uint32_t *netlist, size_t netlist_len, uint32_t at, uint32_t *record,
+                                                        uint32_t *given)
+{
+    enum struo_found found = struo_test_stored(netlist, netlist_len, record, 3, given, 1);
+    if (found == STRUO_CALLED)
+        *given = struo_netlist_record(netlist, netlist_len, at, record);
     return found;
 }
 

@@ -9,6 +9,8 @@ pub const HELP: &str = include_str!("../help.txt");
 pub enum Request {
     Help,
     Lower(Wish),
+    /// A file with a stored netlist to check.
+    CheckNetlist(String),
 }
 
 /// A file to lower, and how.
@@ -52,6 +54,7 @@ pub fn request(words: &[String]) -> Result<Request, String> {
         return Ok(Request::Help);
     }
     let mut wish = Wish::of("");
+    let mut check_netlist = false;
     let mut files = Vec::new();
     let mut words = words.iter();
     while let Some(word) = words.next() {
@@ -61,6 +64,7 @@ pub fn request(words: &[String]) -> Result<Request, String> {
             "--words" => wish.words = number(word, &value()?)?,
             "--netlist" => wish.netlist = Some(room(word, &value()?)?),
             "--scratch" => wish.scratch = Some(room(word, &value()?)?),
+            "--check-netlist" => check_netlist = true,
             "--from-edition-1" => wish.from_edition_1 = true,
             "--image-out" => wish.image_out = Some(value()?),
             "--words-out" => wish.words_out = Some(value()?),
@@ -68,10 +72,17 @@ pub fn request(words: &[String]) -> Result<Request, String> {
             file => files.push(file.to_string()),
         }
     }
+    if check_netlist && wish != Wish::of("") {
+        return Err("--check-netlist takes a file and no other option".to_string());
+    }
     match <[String; 1]>::try_from(files) {
+        Ok([file]) if check_netlist => Ok(Request::CheckNetlist(file)),
         Ok([file]) => Ok(Request::Lower(Wish { file, ..wish })),
         Err(files) if files.is_empty() => Err("no file is named".to_string()),
-        Err(files) => Err(format!("one file is lowered, not {}: {}", files.len(), files.join(", "))),
+        Err(files) => {
+            let done = if check_netlist { "checked" } else { "lowered" };
+            Err(format!("one file is {done}, not {}: {}", files.len(), files.join(", ")))
+        }
     }
 }
 

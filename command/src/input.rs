@@ -1,4 +1,5 @@
-//! The module image in a file: its bytes, or those of an assembled text.
+//! What is in a file: a module image, its bytes or those of an assembled text, or
+//! the words of a stored netlist.
 
 /// The image in a file; `-` is standard input.
 ///
@@ -22,6 +23,20 @@ pub fn image_in(file: &str) -> Result<Vec<u8>, String> {
 pub fn image_of_edition_1_in(file: &str) -> Result<Vec<u8>, String> {
     let image = image::from_edition_1(&bytes_in(file)?);
     image.map(|image| image.encode()).ok_or(format!("{file}: no module image of edition 1"))
+}
+
+/// The words in a file, four bytes each, low first.
+///
+/// # Errors
+///
+/// Says in one line what is wrong with the file.
+pub fn words_in(file: &str) -> Result<Vec<u32>, String> {
+    let bytes = bytes_in(file)?;
+    let (words, rest) = bytes.as_chunks();
+    if !rest.is_empty() {
+        return Err(format!("{file}: {} bytes are no whole words of four bytes", bytes.len()));
+    }
+    Ok(words.iter().map(|&word| u32::from_le_bytes(word)).collect())
 }
 
 fn bytes_in(file: &str) -> Result<Vec<u8>, String> {

@@ -1,11 +1,12 @@
 //! The command `lower`: lowers a module by the port's library and lists its
-//! netlist, or says in words why it is refused. Stands outside the proof, and
-//! links nothing of struo.
+//! netlist, or says in words why it is refused; the same for a stored netlist.
+//! Stands outside the proof, and links nothing of struo.
 
 pub mod arguments;
 pub mod input;
 pub mod lowering;
 pub mod refusal;
+pub mod stored;
 
 pub use port::{ACCEPTED, Answer};
 

@@ -1,9 +1,9 @@
-//! A refusal in words: which limit, buffer, field, record, signal or register,
-//! and which rule of docs/RULES.md and docs/FORMATS.md.
+//! A refusal in words: which limit, buffer, field, record, signal, register or
+//! word of a netlist, and which rule of docs/RULES.md and docs/FORMATS.md.
 
 use crate::arguments::Wish;
 use crate::lowering::{Room, taken};
-use crate::{Answer, MOST};
+use crate::{Answer, MOST, stored};
 use image::{HEADER_BYTES, Image, MOST as MOST_RECORDS, RECORD_BYTES, disassemble, read_header};
 use std::ops::RangeInclusive;
 
@@ -33,10 +33,24 @@ pub fn in_words(answer: Answer, image: &[u8], wish: &Wish, room: &Room) -> Strin
         8 => (format!("{} is no constant", reset_bit(image, first, second)), None),
         9 => (too_many("nets", "--nets", wish.nets, taken(image).map(|(nets, _)| nets)), None),
         10 => (too_many("list words", "--words", wish.words, taken(image).map(|(_, words)| words)), None),
-        _ => ("an answer that docs/RULES.md does not know".to_string(), None),
+        _ => (unknown(), None),
     };
     let record = record.map_or(String::new(), |line| format!("  {line}\n"));
-    format!("refused {number} {first} {second}: {words}\n{record}")
+    line(answer, &words) + &record
+}
+
+/// The same for the refusal of a stored netlist.
+pub fn of_netlist_in_words(answer: Answer, netlist: &[u32]) -> String {
+    let [number, place, _] = answer;
+    line(answer, &if number == 11 { stored::why(netlist, place) } else { unknown() })
+}
+
+fn line([number, first, second]: Answer, words: &str) -> String {
+    format!("refused {number} {first} {second}: {words}\n")
+}
+
+fn unknown() -> String {
+    "an answer that docs/RULES.md does not know".to_string()
 }
 
 // The caller.

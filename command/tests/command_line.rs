@@ -1,5 +1,5 @@
-//! The command as people meet it: listings, each refusal in words, help, bad
-//! input, and its ends.
+//! The command as people meet it: listings, each refusal in words, stored
+//! netlists, help, bad input, and its ends.
 
 use std::io::Write;
 use std::path::PathBuf;
@@ -217,7 +217,7 @@ fn help_of_the_script() {
 /// One line on standard error, nothing on standard output, end 2.
 #[test]
 fn bad_input() {
-    let cases: [(&[&str], &[u8], &str); 11] = [
+    let cases: [(&[&str], &[u8], &str); 16] = [
         (&[], b"", "lower: no file is named; see ./lower --help\n"),
         (&["a", "b"], b"", "lower: one file is lowered, not 2: a, b; see ./lower --help\n"),
         (&["-", "--nets"], b"", "lower: --nets needs a value; see ./lower --help\n"),
@@ -229,6 +229,11 @@ fn bad_input() {
         (&["-"], b"\xff\xfe", "lower: -: neither an image nor a text\n"),
         (&["/nowhere/at all.txt"], b"", "lower: /nowhere/at all.txt: "),
         (&["-", "--image-out", "/nowhere/i.img"], b"input a 1\n", "lower: /nowhere/i.img: "),
+        (&["--check-netlist"], b"", "lower: no file is named; see ./lower --help\n"),
+        (&["--check-netlist", "a", "b"], b"", "lower: one file is checked, not 2: a, b; see ./lower --help\n"),
+        (&["--check-netlist", "-", "--nets", "3"], b"", "lower: --check-netlist takes a file and no other option; see ./lower --help\n"),
+        (&["--check-netlist", "-"], &[1; 65], "lower: -: 65 bytes are no whole words of four bytes\n"),
+        (&["--check-netlist", "/nowhere/at all"], b"", "lower: /nowhere/at all: "),
     ];
     for (words, stdin, line) in cases {
         let output = run(words, stdin);
@@ -257,6 +262,126 @@ fn a_refusal_writes_no_words() {
     let words = Temporary::new("b.words");
     expect(INVERTER, &["--nets", "0", "--words-out", words.path()], 1, "refused 1 0 0: the net limit 0 is outside 1 to 65535\n");
     assert!(!words.0.exists());
+}
+
+/// The words that `--words-out` writes for a text with these options, as bytes.
+fn stored(source: &str, options: &[&str], name: &str) -> Vec<u8> {
+    let words = Temporary::new(name);
+    let output = run(&[&["-", "--words-out", words.path()], options].concat(), source.as_bytes());
+    assert_eq!(output.status.code(), Some(0), "{source}");
+    std::fs::read(words.path()).expect("words")
+}
+
+/// The stored netlist is answered by this line and end.
+fn expect_of_netlist(bytes: &[u8], status: i32, printed: &str) {
+    let output = run(&["--check-netlist", "-"], bytes);
+    assert_eq!((text(&output.stdout), text(&output.stderr)), (printed, ""));
+    assert_eq!(output.status.code(), Some(status), "{printed}");
+}
+
+const STORED_INVERTER: &str =
+    "accepted: 3 nets, 8 list words; 2 ports, 0 register bits, 0 memories, 0 arithmetic cells, 0 comparison cells\n";
+
+#[test]
+fn a_stored_netlist() {
+    let words = Temporary::new("stored.words");
+    expect(INVERTER, &["--words-out", words.path()], 0, LISTING);
+    for options in [["--check-netlist", words.path()], [words.path(), "--check-netlist"]] {
+        let output = run(&options, b"");
+        assert_eq!((text(&output.stdout), output.status.code()), (STORED_INVERTER, Some(0)));
+    }
+    // The list ends at word 42; neither the words behind it nor their number matter.
+    let mut bytes = stored(INVERTER, &["--nets", "3", "--words", "9"], "inverter.words");
+    assert_eq!(bytes.len(), 4 * 43);
+    for behind in [&[0xff; 4][..], &[], &[0xa5; 400]] {
+        bytes.truncate(4 * 42);
+        bytes.extend(behind);
+        expect_of_netlist(&bytes, 0, STORED_INVERTER);
+    }
+}
+
+#[test]
+fn damaged_netlists() {
+    let bytes = stored(INVERTER, &["--nets", "3", "--words", "8"], "damaged.words");
+    let with = |word: usize, value: u32| {
+        let mut bytes = bytes.clone();
+        bytes[4 * word..4 * word + 4].copy_from_slice(&value.to_le_bytes());
+        bytes
+    };
+    let offset = "refused 11 4 0: header word 4 (where the list begins) is 17, it must be 16 + 6N with N from 1 to 65535\n";
+    expect_of_netlist(&with(4, 17), 1, offset);
+    expect_of_netlist(&with(25, 1), 1, "refused 11 25 0: node 1 (Not): its first input is net 1, which is not below it\n");
+    let listed = "refused 11 37 0: record 0 (port of signal 0): bit 0 is net 2, \
+                  which has signal 1, bit 0, and must have signal 0, bit 0\n";
+    expect_of_netlist(&with(37, 2), 1, listed);
+    expect_of_netlist(&with(3, 4), 1, "refused 11 28 0: node 2 (Output, signal 1, bit 0) stands in no record\n");
+    expect_of_netlist(&with(5, 3), 1, "refused 11 5 0: header word 5 counts 3 records of sort 0 (port), and the list has 2\n");
+    let short = "refused 11 40 0: there are 40 words, and the header asks for 42: \
+                 the list begins at word 34, and 8 of its words are used\n";
+    expect_of_netlist(&bytes[..160], 1, short);
+    expect_of_netlist(b"", 1, "refused 11 0 0: there are 0 words, and the header alone has 16\n");
+}
+
+/// The worked image of docs/FORMATS.md: its netlist, accepted and damaged, is told as the tables there have it.
+#[test]
+fn the_worked_netlist_of_the_formats() {
+    let formats = include_str!("../../docs/FORMATS.md");
+    let source = formats.split("## Worked image").nth(1).and_then(|section| section.split("```\n").nth(1)).expect("a text");
+    let bytes = stored(source, &["--nets", "8", "--words", "33"], "worked.words");
+    let with = |word: usize, value: u8| {
+        let mut bytes = bytes.clone();
+        bytes[4 * word] = value;
+        bytes
+    };
+    let rows = [
+        ("word 43 is 5", with(43, 5)),
+        ("word 78 is 1", with(78, 1)),
+        ("word 79 is 4", with(79, 4)),
+        ("word 3 is 29: the last record is not read", with(3, 29)),
+        ("word 5 is 4", with(5, 4)),
+        ("the first 96 words only", bytes[..4 * 96].to_vec()),
+        ("words behind the 97th, any", [&bytes[..], &[1, 2, 3, 4]].concat()),
+    ];
+    for (change, bytes) in rows {
+        let output = run(&["--check-netlist", "-"], &bytes);
+        let printed = text(&output.stdout).trim_end();
+        let (answer, words) = match printed.strip_prefix("refused ").and_then(|rest| rest.split_once(": ")) {
+            Some((answer, words)) => (answer, words),
+            None => ("0 0 0", printed),
+        };
+        let row = format!("\n| {change} | {answer} | {words} |\n");
+        assert!(formats.contains(&row), "{row}");
+    }
+}
+
+/// What is lowered from the corpus is taken back in, with the limits as they may be and as small as can be.
+#[test]
+fn netlists_of_the_corpus() {
+    let texts = std::fs::read_dir(corpus(".")).expect("the corpus");
+    let paths = texts.map(|entry| entry.expect("an entry").path()).filter(|path| path.extension().is_some_and(|extension| extension == "txt"));
+    let mut accepted = 0;
+    for path in paths {
+        let (name, words) = (path.file_stem().expect("a name").to_str().expect("text"), Temporary::new("corpus.words"));
+        let file = path.to_str().expect("text");
+        let lowered = run(&[file, "--words-out", words.path()], b"");
+        if lowered.status.code() != Some(0) {
+            continue;
+        }
+        let first = text(&lowered.stdout).lines().next().expect("a line").to_string();
+        let numbers: Vec<&str> = first.split(' ').collect();
+        let [_, nets, _, list] = numbers[..] else { panic!("{name}: {first}") };
+        let least = if nets == "0" { "1" } else { nets };
+        let exact = Temporary::new("exact.words");
+        run(&[file, "--nets", least, "--words", list, "--words-out", exact.path()], b"");
+        for stored in [&words, &exact] {
+            let checked = run(&["--check-netlist", stored.path()], b"");
+            let printed = text(&checked.stdout);
+            assert!(printed.starts_with(&format!("accepted: {nets} net")), "{name}: {printed}");
+            assert_eq!(checked.status.code(), Some(0), "{name}");
+        }
+        accepted += 1;
+    }
+    assert!(accepted >= 100, "only {accepted}");
 }
 
 #[test]

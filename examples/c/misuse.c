@@ -1,5 +1,5 @@
-/* Tests the checked forms of struo.h: each wrong pointer or length is found before a call, and nothing is written; and the answers 2 and
- * 5, which lower.c never meets. Prints what fails; ends with 0 if nothing does. */
+/* Tests the checked forms of struo.h: each wrong pointer or length is found before a call, and nothing is written; the answers 2 and 5,
+ * which lower.c never meets; and what the netlist calls answer beyond a netlist's end. Prints what fails; ends with 0 if nothing does. */
 #include <stdio.h>
 #include <string.h>
 #include "struo.h"
@@ -152,6 +152,105 @@ static void inverted(const char *what, size_t scr_len, uint32_t wanted)
     expect("inverter, netlist's first word", netlist[0], wanted == STRUO_ACCEPTED ? 1 : 0xa5a5a5a5);
 }
 
+static void netlist_check_is_stopped(const char *what, const uint32_t *net, size_t net_len, uint32_t *into, enum struo_found wanted)
+{
+    fill();
+    expect(what, struo_try_netlist_check(net, net_len, into), wanted);
+    expect("nothing is written", is_filled(), 1);
+}
+
+/* The forms that give a node or a record, both with these pointers. */
+static void part_is_stopped(const char *what, const uint32_t *net, size_t net_len, uint32_t *part, uint32_t *given, enum struo_found wanted)
+{
+    fill();
+    expect(what, struo_try_netlist_node(net, net_len, 0, part, given), wanted);
+    expect(what, struo_try_netlist_record(net, net_len, 0, part, given), wanted);
+    expect("nothing is written", is_filled(), 1);
+}
+
+static void wrong_netlist_calls(void)
+{
+    const size_t long_words = (size_t)1 << 61;
+    uint32_t *given = scratch;
+    netlist_check_is_stopped("netlist check, no netlist", NULL, 0, answer, STRUO_NULL);
+    netlist_check_is_stopped("netlist check, no answer", netlist, ROOM, NULL, STRUO_NULL);
+    netlist_check_is_stopped("netlist check, netlist not aligned", beyond(netlist, 1), 16, answer, STRUO_UNALIGNED);
+    netlist_check_is_stopped("netlist check, answer not aligned", netlist, ROOM, beyond(answer, 2), STRUO_UNALIGNED);
+    netlist_check_is_stopped("netlist check, too long", netlist, long_words, answer, STRUO_TOO_LONG);
+    netlist_check_is_stopped("netlist check, answer in netlist", netlist, ROOM, netlist + ROOM - 1, STRUO_OVERLAP);
+    part_is_stopped("no netlist", NULL, 0, answer, given, STRUO_NULL);
+    part_is_stopped("no part", netlist, ROOM, NULL, given, STRUO_NULL);
+    part_is_stopped("nothing to be given", netlist, ROOM, answer, NULL, STRUO_NULL);
+    part_is_stopped("netlist not aligned", beyond(netlist, 2), 16, answer, given, STRUO_UNALIGNED);
+    part_is_stopped("part not aligned", netlist, ROOM, beyond(answer, 1), given, STRUO_UNALIGNED);
+    part_is_stopped("given not aligned", netlist, ROOM, answer, beyond(given, 3), STRUO_UNALIGNED);
+    part_is_stopped("netlist too long", netlist, SIZE_MAX, answer, given, STRUO_TOO_LONG);
+    part_is_stopped("part in netlist", netlist, ROOM, netlist + ROOM - 1, given, STRUO_OVERLAP);
+    part_is_stopped("given in netlist", netlist, ROOM, answer, netlist, STRUO_OVERLAP);
+    part_is_stopped("given in part", netlist, ROOM, answer, answer + 2, STRUO_OVERLAP);
+}
+
+/* Net `net` of a slice of `length` words: whether it is given, its kind and its last word. */
+static void node_is(const char *what, size_t length, uint32_t net, uint32_t wanted, uint32_t kind, uint32_t last)
+{
+    uint32_t node[7], given = 9;
+    memset(node, 0xa5, sizeof node);
+    expect(what, struo_try_netlist_node(netlist, length, net, node, &given), STRUO_CALLED);
+    expect(what, given, wanted);
+    expect(what, node[0], kind);
+    expect(what, node[5], last);
+    expect("word beyond the node", node[6], 0xa5a5a5a5);
+}
+
+/* The record at list word `at` of a slice of `length` words: whether it is given, its sort, its length and where the next begins. */
+static void record_is(const char *what, size_t length, uint32_t at, uint32_t wanted, uint32_t sort, uint32_t words, uint32_t next)
+{
+    uint32_t record[4], given = 9;
+    memset(record, 0xa5, sizeof record);
+    expect(what, struo_try_netlist_record(netlist, length, at, record, &given), STRUO_CALLED);
+    expect(what, given, wanted);
+    expect(what, record[0], sort);
+    expect(what, record[1], words);
+    expect(what, record[2], next);
+    expect("word beyond the record", record[3], 0xa5a5a5a5);
+}
+
+static void checked(const char *what, size_t length, uint32_t number, uint32_t place)
+{
+    memset(answer, 0xa5, sizeof answer);
+    expect(what, struo_try_netlist_check(netlist, length, answer), STRUO_CALLED);
+    expect(what, answer[0], number);
+    expect(what, answer[1], place);
+    expect(what, answer[2], 0);
+    expect("word beyond the answer", answer[3], 0xa5a5a5a5);
+}
+
+/* The inverter's netlist as it was lowered, cut, and with a word changed. */
+static void right_netlist_calls(void)
+{
+    const size_t length = STRUO_NETLIST_WORDS(3, 8);
+    inverted("inverter to be stored", INVERTER_SCRATCH, STRUO_ACCEPTED);
+    checked("stored", length, STRUO_ACCEPTED, 0);
+    checked("stored, longer", ROOM, STRUO_ACCEPTED, 0);
+    checked("stored, cut", length - 1, STRUO_NETLIST_WORD, (uint32_t)length - 1);
+    checked("no words", 0, STRUO_NETLIST_WORD, 0);
+    node_is("first node", length, 0, 1, STRUO_INPUT, STRUO_ABSENT);
+    node_is("last node", length, 2, 1, STRUO_OUTPUT, STRUO_ABSENT);
+    node_is("node beyond", length, 3, 0, 0, 0);
+    node_is("last net", length, STRUO_ABSENT, 0, 0, 0);
+    node_is("node that is cut", 33, 2, 1, STRUO_OUTPUT, 0);
+    node_is("node of no words", 0, 0, 0, 0, 0);
+    record_is("first record", length, 0, 1, STRUO_PORT_RECORD, 4, 4);
+    record_is("last record", length, 4, 1, STRUO_PORT_RECORD, 4, 8);
+    record_is("record beyond", length, 8, 0, 0, 0, 0);
+    record_is("last list word", length, STRUO_ABSENT, 0, 0, 0, 0);
+    record_is("record that is cut", length - 1, 4, 0, 0, 0, 0);
+    record_is("record of no words", 0, 0, 0, 0, 0, 0);
+    netlist[netlist[STRUO_LIST_AT] + 4] = 5;
+    checked("sort that is not there", length, STRUO_NETLIST_WORD, netlist[STRUO_LIST_AT] + 4);
+    record_is("sort that is not there", length, 4, 0, 0, 0, 0);
+}
+
 int main(void)
 {
     wrong_checks();
@@ -160,6 +259,8 @@ int main(void)
     inverted("inverter, scratch one short", INVERTER_SCRATCH - 1, STRUO_SCRATCH_SHORT);
     inverted("inverter, exact scratch", INVERTER_SCRATCH, STRUO_ACCEPTED);
     inverted("inverter, longer scratch", ROOM, STRUO_ACCEPTED);
+    wrong_netlist_calls();
+    right_netlist_calls();
     printf("misuse: %s\n", failures == 0 ? "all found" : "FAILED");
     return failures != 0;
 }

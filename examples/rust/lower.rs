@@ -4,6 +4,8 @@
 //!
 //! Ends with 0 if the image is accepted, 1 if it is refused, 2 if there is nothing to lower.
 
+// This program does not call all of it.
+#[allow(dead_code)]
 mod struo;
 
 use std::process::ExitCode;

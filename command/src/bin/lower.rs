@@ -1,10 +1,10 @@
 //! `lower FILE`: see `--help`. The script ./lower builds and starts it.
 
 use command::arguments::{HELP, Request, Wish, request};
-use command::input::{image_in, image_of_edition_1_in};
+use command::input::{image_in, image_of_edition_1_in, words_in};
 use command::lowering::{Outcome, lower};
-use command::refusal::in_words;
-use command::{ACCEPTED, Answer};
+use command::refusal::{in_words, of_netlist_in_words};
+use command::{ACCEPTED, Answer, stored};
 use std::io::{ErrorKind, Write};
 use std::panic::resume_unwind;
 use std::process::ExitCode;
@@ -21,6 +21,7 @@ fn main() -> ExitCode {
     let ended = match request(&words) {
         Ok(Request::Help) => print(HELP).map(|()| ACCEPTED),
         Ok(Request::Lower(wish)) => on_deep_stack(|| run(&wish)),
+        Ok(Request::CheckNetlist(file)) => on_deep_stack(|| check_netlist(&file)),
         Err(problem) => Err(format!("{problem}; see ./lower --help")),
     };
     match ended {
@@ -55,6 +56,13 @@ fn run(wish: &Wish) -> Result<Answer, String> {
     }
     let listing = image::listing(&image, &words);
     print(&listing.ok_or("the netlist's words cannot be read")?)?;
+    Ok(answer)
+}
+
+fn check_netlist(file: &str) -> Result<Answer, String> {
+    let words = words_in(file)?;
+    let answer = port::netlist_check(&words);
+    print(&if answer == ACCEPTED { stored::accepted(&words) } else { of_netlist_in_words(answer, &words) })?;
     Ok(answer)
 }
 
