@@ -1,6 +1,6 @@
 // A netlist image taken back in: header, length, nodes, list, nodes left without a record, record counts, in this order.
 ghost use mathlib.Core.Path.{_≡_};
-ghost use Prim.Native.Nat.{ℕ, _≤_, _<_};
+ghost use Prim.Native.Nat.{ℕ, _*_, _≤_, _<_};
 ghost use lib.ListN.{length, getD};
 ghost use Rattle.spec_tests.specs.Rules.{first};
 ghost use Rattle.spec_rules.specs.NetlistImage.{recordsOf};
@@ -89,22 +89,21 @@ fn check_list(net: &[u32], marks: &mut [u16]) -> Stored
     check_rest(net, marks, &counts)
 }
 
-// The nodes and what follows, with two lent tables: the second serves as the marks of listed nets when the nodes are judged.
-fn check_with(net: &[u32], heads: &mut [u16], next: &mut [u16]) -> Stored
-    requires { ⌜ (Opened (now net)) × (0 < length (now heads)) × (length (now heads) ≤ 65536) × (nets (now net) ≤ length (now next)) ⌝ }
+// The nodes and what follows, with a lent table: it serves as the marks of listed nets when the nodes are judged.
+fn check_with(net: &[u32], table: &mut [u16]) -> Stored
+    requires { ⌜ (Opened (now net)) × (3 * nets (now net) ≤ length (now table)) ⌝ }
     ensures { λ r. ⌜ answerOf r ≡ fromNodes (now (net .entry)) ⌝ }
 {
-    let i = stored_nodes::first_word(net, heads, next);
+    let i = stored_nodes::first_word(net, table);
     if i < net[LIST_AT] as usize - HEADER_LENGTH {
         return Stored::Wrong(NODES_START + i as u32);
     }
-    check_list(net, next)
+    check_list(net, table)
 }
 
-// Whether the words are a netlist image, or its first wrong word, with two lent tables: heads of chains of nodes with one hash, and the
-// links, one for each net.
-fn check_in(net: &[u32], heads: &mut [u16], next: &mut [u16]) -> Stored
-    requires { ⌜ (0 < length (now heads)) × (length (now heads) ≤ 65536) × (nets (now net) ≤ 65535 → nets (now net) ≤ length (now next)) ⌝ }
+// Whether the words are a netlist image, or its first wrong word, with a lent table of three words for each net.
+fn check_in(net: &[u32], table: &mut [u16]) -> Stored
+    requires { ⌜ (nets (now net) ≤ 65535 → 3 * nets (now net) ≤ length (now table)) ⌝ }
     ensures { λ r. ⌜ answerOf r ≡ accepts (now (net .entry)) ⌝ }
 {
     let i = stored_header::first_word(net);
@@ -114,17 +113,16 @@ fn check_in(net: &[u32], heads: &mut [u16], next: &mut [u16]) -> Stored
     if stored_header::too_short(net) {
         return Stored::Wrong(net.len() as u32);
     }
-    check_with(net, heads, next)
+    check_with(net, table)
 }
 
-// The same with tables of its own, for at most 64 nets.
+// The same with a table of its own, for at most 64 nets.
 pub fn check_tiny(net: &[u32]) -> Stored
     requires { ⌜ nets (now net) ≤ 64 ⌝ }
     ensures { λ r. ⌜ answerOf r ≡ accepts (now (net .entry)) ⌝ }
 {
-    let mut heads: [u16; 64] = [0; 64];
-    let mut next: [u16; 64] = [0; 64];
-    check_in(net, &mut heads, &mut next)
+    let mut table: [u16; 192] = [0; 192];
+    check_in(net, &mut table)
 }
 
 // For at most 1,024.
@@ -132,9 +130,8 @@ pub fn check_small(net: &[u32]) -> Stored
     requires { ⌜ nets (now net) ≤ 1024 ⌝ }
     ensures { λ r. ⌜ answerOf r ≡ accepts (now (net .entry)) ⌝ }
 {
-    let mut heads: [u16; 1024] = [0; 1024];
-    let mut next: [u16; 1024] = [0; 1024];
-    check_in(net, &mut heads, &mut next)
+    let mut table: [u16; 3072] = [0; 3072];
+    check_in(net, &mut table)
 }
 
 // For at most 8,192.
@@ -142,18 +139,16 @@ pub fn check_middle(net: &[u32]) -> Stored
     requires { ⌜ nets (now net) ≤ 8192 ⌝ }
     ensures { λ r. ⌜ answerOf r ≡ accepts (now (net .entry)) ⌝ }
 {
-    let mut heads: [u16; 8192] = [0; 8192];
-    let mut next: [u16; 8192] = [0; 8192];
-    check_in(net, &mut heads, &mut next)
+    let mut table: [u16; 24576] = [0; 24576];
+    check_in(net, &mut table)
 }
 
 // For all.
 pub fn check_large(net: &[u32]) -> Stored
     ensures { λ r. ⌜ answerOf r ≡ accepts (now (net .entry)) ⌝ }
 {
-    let mut heads: [u16; 65536] = [0; 65536];
-    let mut next: [u16; 65536] = [0; 65536];
-    check_in(net, &mut heads, &mut next)
+    let mut table: [u16; 196608] = [0; 196608];
+    check_in(net, &mut table)
 }
 
 // Where the list words used end, as the header says it, also past the slice; the slice's length where the slice or that end is shorter

@@ -31,7 +31,7 @@ pub fn first_word(net: &[u32], marks: &mut [u16], counts: &mut [u32]) -> usize
     requires { ⌜ (length (now counts) ≡ 5) × (Opened (now net)) × (nets (now net) ≤ length (now marks)) × ((t : ℕ) → getD (now counts) t 0 ≡ 0) ⌝ }
     ensures { λ r. ⌜ (listAnswer (now (net .entry)) ≡ pick (r <? used (now (net .entry))) (Refused 11 (listAt (now (net .entry)) + r) 0) Fine) × (used (now (net .entry)) ≤ r → (Marked (now (net .entry)) (recordsOf (now (net .entry))) (now (marks .exit))) × (Counted (recordsOf (now (net .entry))) (now (counts .exit)))) ⌝ }
 {
-    stored_marks::clear(marks, net[NET_COUNT] as usize);
+    stored_view::clear(marks, net[NET_COUNT] as usize);
     let end = net[LIST_USED] as usize;
     let mut p: usize = 0;
     while p < end {

@@ -6,8 +6,6 @@ use mathlib.Core.List.{List, [], _∷_, _++_}
 use lib.ListN.{length, take, getD, set}
 use lib.Seq.{take-suc, getD-set-same, getD-set-other}
 use native.Mathlib.Omega.{arith}
-use native.Mathlib.Nat.{eq-or-lt-of-le}
-use mathlib.Core.Logic.{⊎-elim}
 use Rattle.spec_tests.specs.Rules.{_≡?_, _≢?_, _or_, pick, only}
 use Rattle.spec_tests.specs.Laws.{or-right, eq-yes, eq-no, ne-yes, yes-eq, no-eq}
 use Rattle.spec_netlist.specs.Accept.{nets, member, ownNets, taken, countOf}
@@ -37,16 +35,6 @@ member-none x = refl
 pub member-more : (x y : ℕ) (xs : List ℕ) → member x (xs ++ (y ∷ [])) ≡ (member x xs or (x ≡? y))
 unfolding member _or_
 member-more x y xs = member-append x xs (y ∷ []) ∙ ap (λ (b : Bool). member x xs or b) (or-false (x ≡? y))
-
--- marks cleared up to i, and one more
-pub clear-more : (marks : List ℕ) (i x : ℕ) → i < length marks → ((y : ℕ) → y < i → getD marks y 0 ≡ 0) → x < i + 1 → getD (set marks i 0) x 0 ≡ 0
-clear-more marks i x h f l = go (x ≡? i) refl
-  where
-    go : (b : Bool) → (x ≡? i) ≡ b → getD (set marks i 0) x 0 ≡ 0
-    go true q = ap (λ (k : ℕ). getD (set marks i 0) k 0) (yes-eq x i q) ∙ getD-set-same marks i 0 0 h
-    go false q =
-        let n = no-eq x i q in
-        getD-set-other marks i x 0 0 n ∙ f x (⊎-elim (λ (e : x ≡ i). absurd (n e)) (λ (b : x < i). b) (eq-or-lt-of-le (omega arith)))
 
 -- marking one net; marking a list of them, one after the other
 pub mark-none : (marks : List ℕ) (x y : ℕ) → length marks ≤ x → y < length marks → (getD marks y 0 ≢? 0) ≡ ((getD marks y 0 ≢? 0) or (y ≡? x))

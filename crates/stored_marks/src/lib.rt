@@ -118,15 +118,3 @@ pub fn keep(marks: &mut [u16], counts: &mut [u32], r: &[u32])
     let sort = net_words::word_at(r, 0) as usize;
     counts[sort] = counts[sort] + 1;
 }
-
-// The marks of the first n nets are 0.
-pub fn clear(marks: &mut [u16], n: usize)
-    requires { ⌜ n ≤ length (now marks) ⌝ }
-    ensures { λ _. ⌜ ((x : ℕ) → x < n → getD (now (marks .exit)) x 0 ≡ 0) ⌝ }
-{
-    let mut i: usize = 0;
-    while i < n {
-        marks[i] = 0;
-        i += 1;
-    }
-}

@@ -1,4 +1,5 @@
--- Chains of nodes with one hash, a search along one, and the order of the nodes' words.
-pub mod Chains
-pub mod Lookup
+-- The words of the nodes, and the tree by which equal nodes are found.
 pub mod Words
+pub mod Paths
+pub mod Tree
+pub mod Lookup

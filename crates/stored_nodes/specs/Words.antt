@@ -79,29 +79,30 @@ module _ {ws : List ℕ} (o : Opened ws) (n : ℕ) (h : n < nets ws) where
       pub first-2 : t2 ≡ true → 2 ≡ first p 6
       first-2 e = after-1 (at-hit p 6 2 (omega arith) (word-2 ∙ (sym a2 ∙ e)))
 
-      module _ (e2 : t2 ≡ false) {t3 : Bool} (a3 : t3 ≡ wrongInput n k 0 (w 3)) where
-        after-2 : {r : ℕ} → r ≡ from p 6 3 → r ≡ first p 6
-        after-2 q = after-1 (at-skip p 6 2 (omega arith) (word-2 ∙ (sym a2 ∙ e2)) q)
+      -- the inputs are left
+      pub first-rest : t2 ≡ false → {r : ℕ} → r ≡ from p 6 3 → r ≡ first p 6
+      first-rest e q = after-1 (at-skip p 6 2 (omega arith) (word-2 ∙ (sym a2 ∙ e)) q)
 
-        pub first-3 : t3 ≡ true → 3 ≡ first p 6
-        first-3 e = after-2 (at-hit p 6 3 (omega arith) (word-3 ∙ (sym a3 ∙ e)))
+  module _ {t3 : Bool} (a3 : t3 ≡ wrongInput n k 0 (w 3)) where
+    pub input-0 : t3 ≡ true → 3 ≡ from p 6 3
+    input-0 e = at-hit p 6 3 (omega arith) (word-3 ∙ (sym a3 ∙ e))
 
-        module _ (e3 : t3 ≡ false) {t4 : Bool} (a4 : t4 ≡ wrongInput n k 1 (w 4)) where
-          after-3 : {r : ℕ} → r ≡ from p 6 4 → r ≡ first p 6
-          after-3 q = after-2 (at-skip p 6 3 (omega arith) (word-3 ∙ (sym a3 ∙ e3)) q)
+    module _ (e3 : t3 ≡ false) {t4 : Bool} (a4 : t4 ≡ wrongInput n k 1 (w 4)) where
+      after-3 : {r : ℕ} → r ≡ from p 6 4 → r ≡ from p 6 3
+      after-3 q = at-skip p 6 3 (omega arith) (word-3 ∙ (sym a3 ∙ e3)) q
 
-          pub first-4 : t4 ≡ true → 4 ≡ first p 6
-          first-4 e = after-3 (at-hit p 6 4 (omega arith) (word-4 ∙ (sym a4 ∙ e)))
+      pub input-1 : t4 ≡ true → 4 ≡ from p 6 3
+      input-1 e = after-3 (at-hit p 6 4 (omega arith) (word-4 ∙ (sym a4 ∙ e)))
 
-          module _ (e4 : t4 ≡ false) {t5 : Bool} (a5 : t5 ≡ wrongInput n k 2 (w 5)) where
-            after-4 : {r : ℕ} → r ≡ from p 6 5 → r ≡ first p 6
-            after-4 q = after-3 (at-skip p 6 4 (omega arith) (word-4 ∙ (sym a4 ∙ e4)) q)
+      module _ (e4 : t4 ≡ false) {t5 : Bool} (a5 : t5 ≡ wrongInput n k 2 (w 5)) where
+        after-4 : {r : ℕ} → r ≡ from p 6 5 → r ≡ from p 6 3
+        after-4 q = after-3 (at-skip p 6 4 (omega arith) (word-4 ∙ (sym a4 ∙ e4)) q)
 
-            pub first-5 : t5 ≡ true → 5 ≡ first p 6
-            first-5 e = after-4 (at-hit p 6 5 (omega arith) (word-5 ∙ (sym a5 ∙ e)))
+        pub input-2 : t5 ≡ true → 5 ≡ from p 6 3
+        input-2 e = after-4 (at-hit p 6 5 (omega arith) (word-5 ∙ (sym a5 ∙ e)))
 
-            pub first-6 : t5 ≡ false → 6 ≡ first p 6
-            first-6 e = after-4 (at-skip p 6 5 (omega arith) (word-5 ∙ (sym a5 ∙ e)) (at-end p 6))
+        pub input-none : t5 ≡ false → 6 ≡ from p 6 3
+        input-none e = after-4 (at-skip p 6 5 (omega arith) (word-5 ∙ (sym a5 ∙ e)) (at-end p 6))
 
 -- ---- node after node ----
 

@@ -1,7 +1,8 @@
-// Tests on a netlist's words that its records share: whether a word names a net, a control and its level, a record's own net.
+// Tests on a netlist's words that its records share: whether a word names a net, a control and its level, a record's own net; a lent table
+// cleared.
 ghost use mathlib.Core.Path.{_≡_};
 ghost use mathlib.Core.List.{List};
-ghost use Prim.Native.Nat.{ℕ, _≤_};
+ghost use Prim.Native.Nat.{ℕ, _≤_, _<_};
 ghost use lib.ListN.{length, getD};
 ghost use Rattle.spec_tests.specs.Laws.{from};
 ghost use Rattle.spec_netlist.specs.Accept.{nets, noNet, noOptional, wrongLevel, notOwn};
@@ -97,4 +98,16 @@ pub fn first_not_own(
         i += 1;
     }
     e
+}
+
+// The first n words of the table are 0.
+pub fn clear(table: &mut [u16], n: usize)
+    requires { ⌜ n ≤ length (now table) ⌝ }
+    ensures { λ _. ⌜ ((x : ℕ) → x < n → getD (now (table .exit)) x 0 ≡ 0) ⌝ }
+{
+    let mut i: usize = 0;
+    while i < n {
+        table[i] = 0;
+        i += 1;
+    }
 }

@@ -3,6 +3,7 @@
 //! reading of refusal 11.
 
 pub mod cases;
+pub mod crowded;
 pub mod damage;
 pub mod draft;
 pub mod free;

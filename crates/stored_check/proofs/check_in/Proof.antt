@@ -11,26 +11,42 @@ use Rattle.stored_header.specs.Header.{opens, short-few, header-whole}
 
 returns : tie.Need-returns
 unfolding answerOf
-returns c = header-wrong (now (c .before .before .before .before .before .before .args .net)) (c .before .before .first-word .ensures) (omega (arith, c .before .header-words .ensures))
+returns c =
+    let first = c .before .before in
+    header-wrong (now (first .before .before .before .args .net)) (first .first-word .ensures) (omega (arith, c .before .header-words .ensures))
 
-cast-t10 : tie.Need-cast-t10
-cast-t10 c = omega (arith, short-few (now (c .before .before .before .before .before .before .before .before .args .net)) (header-passed (now (c .before .before .before .before .before .before .before .before .args .net)) (c .before .before .before .before .first-word .ensures) (c .before .before .before .header-words .ensures) (omega arith)) (sym (c .before .too-short .ensures) ∙ c .if2 .taken))
+cast-t9 : tie.Need-cast-t9
+cast-t9 c =
+    let words = c .before .before .before in
+    let ws = now (words .before .before .before .before .args .net) in
+    omega (arith, short-few ws (header-passed ws (words .before .first-word .ensures) (words .header-words .ensures) (omega arith)) (sym (c .before .too-short .ensures) ∙ c .if2 .taken))
 
 returns-2 : tie.Need-returns-2
 unfolding answerOf
-returns-2 c = header-right (now (c .before .before .before .before .before .before .before .before .args .net)) (c .before .before .before .before .first-word .ensures) (omega (arith, c .before .before .before .header-words .ensures)) (length-wrong (now (c .before .before .before .before .before .before .before .before .args .net)) (sym (c .before .too-short .ensures) ∙ c .if2 .taken))
+returns-2 c =
+    let words = c .before .before .before in
+    let ws = now (words .before .before .before .before .args .net) in
+    header-right ws (words .before .first-word .ensures) (omega (arith, words .header-words .ensures)) (length-wrong ws (sym (c .before .too-short .ensures) ∙ c .if2 .taken))
 
 check-with-requires : tie.Need-check-with-requires
 check-with-requires c κs =
-    let s = sym (c .before .before .before .too-short .ensures) ∙ c .before .before .if2 .left in
-    let o = opens (now (c .before .before .before .before .before .before .before .before .before .before .args .net)) (header-whole (now (c .before .before .before .before .before .before .before .before .before .before .args .net)) (header-passed (now (c .before .before .before .before .before .before .before .before .before .before .args .net)) (c .before .before .before .before .before .before .first-word .ensures) (c .before .before .before .before .before .header-words .ensures) (omega arith)) s) s in
-    (o, c .before .before .before .before .before .before .before .before .before .before .pre .0, c .before .before .before .before .before .before .before .before .before .before .pre .1, c .before .before .before .before .before .before .before .before .before .before .pre .2 (o .fewNets))
+    let words = c .before .before .before .before in
+    let start = words .before .before .before .before in
+    let ws = now (start .args .net) in
+    let s = sym (c .before .before .too-short .ensures) ∙ c .before .if2 .left in
+    let o = opens ws (header-whole ws (header-passed ws (words .before .first-word .ensures) (words .header-words .ensures) (omega arith)) s) s in
+    (o, start .pre (o .fewNets))
 
 returns-3 : tie.Need-returns-3
-returns-3 c = header-right (now (c .before .before .before .before .before .before .before .before .before .before .before .before .before .before .before .args .net)) (c .before .before .before .before .before .before .before .before .before .before .before .first-word .ensures) (omega (arith, c .before .before .before .before .before .before .before .before .before .before .header-words .ensures)) (length-right (now (c .before .before .before .before .before .before .before .before .before .before .before .before .before .before .before .args .net)) (sym (c .before .before .before .before .before .before .before .before .too-short .ensures) ∙ c .before .before .before .before .before .before .before .if2 .left) (c .before .before .before .before .check-with .ensures))
+returns-3 c =
+    let call = c .before .before in
+    let words = call .before .before .before .before .before in
+    let ws = now (words .before .before .before .before .args .net) in
+    header-right ws (words .before .first-word .ensures) (omega (arith, words .header-words .ensures))
+    (length-right ws (sym (call .before .before .before .too-short .ensures) ∙ call .before .before .if2 .left) (call .check-with .ensures))
 
 pub check-in-spec : {M : Type 1} → statement M
 check-in-spec =
     tie.close
-    (tie.spec (λ c κs. search needs) (λ c κs. search needs) (λ c. search needs) returns (λ c κs. search needs) cast-t10 returns-2 check-with-requires
-    (λ c. search needs) (λ c. search needs) returns-3)
+    (tie.spec (λ c κs. search needs) (λ c κs. search needs) (λ c. search needs) returns (λ c κs. search needs) cast-t9 returns-2 check-with-requires
+    (λ c. search needs) returns-3)

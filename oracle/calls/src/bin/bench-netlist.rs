@@ -16,7 +16,8 @@ const USAGE: &str = "bench-netlist
     Times of struo_netlist_check and of Netlist::validate, netlist by netlist.
     struo_netlist_check takes words; validate takes a Netlist that stands ready.
     Both accept every one of them. Both times are the least processor time of many
-    calls.";
+    calls. Then slices that are refused, whose nodes are chosen so that the search
+    for equal ones takes long; validate has no such search.";
 
 fn main() {
     if std::env::args().len() > 1 {
@@ -43,7 +44,20 @@ fn main() {
         for nets in [1_024, 2_048, 4_096, 8_192, 16_384, 32_768, 65_280] {
             rows(&format!("growth: ports, registers, cells and gates, {nets}"), &[all_kinds(nets)]);
         }
+        println!("\n| refused: outputs of cells, in no record | nets | port | port, ns a net |\n|---|---|---|---|");
+        for nets in [1_000, 4_000, 16_000, 60_000] {
+            refused_row("numbered from 0", &numbered(nets, &|number| number));
+            refused_row("one root, most digits equal", &one_root(nets));
+        }
     });
+}
+
+/// One row of a slice in which the first node is left without a record.
+fn refused_row(name: &str, draft: &Draft) {
+    let words = draft.words();
+    assert_eq!(port::netlist_check(&words), [11, 16, 0], "{name}");
+    let port = least_time(|| port::netlist_check(black_box(&words)));
+    println!("| {name} | {} | {} | {:.1} |", words[1], time(port), port / f64::from(words[1]));
 }
 
 /// One row: the sums over some netlists.
@@ -131,6 +145,28 @@ fn all_kinds(nets: u32) -> Draft {
         draft.port(256 + block, WIDTH, &|bit| output(256 + block, bit, first));
     }
     draft.finish()
+}
+
+// ---- slices against the search for equal nodes ----
+
+/// Outputs of cells of chosen numbers.
+fn numbered(nets: u32, cell: &dyn Fn(u32) -> u32) -> Draft {
+    laid_out((0..nets).map(|number| arithmetic_output(cell(number), 0)).collect(), Vec::new())
+}
+
+/// Cells whose keys have the first root of the tree (crates/stored_nodes/specs/Tree)
+/// and as many equal low digits as so many keys can have: each node stands deep.
+fn one_root(nets: u32) -> Draft {
+    const STEP: [(u32, usize); 4] = [(1_000, 12), (4_000, 8), (16_000, 4), (60_000, 0)];
+    let (_, equal) = STEP.into_iter().find(|(most, _)| nets <= *most).expect("at most 60,000 nets");
+    let mix = |hash: u32, word: u32| hash.wrapping_mul(2_654_435_761).wrapping_add(word);
+    let root = |cell: &u32| {
+        let key = ((10 << 32) + u64::from(*cell)) << 11;
+        let hash = mix(mix(mix(0, (key >> 32) as u32), key as u32), 0);
+        (u64::from(hash) * u64::from(nets)) >> 32
+    };
+    let cells: Vec<u32> = (0..=u32::MAX).step_by(1 << equal).filter(|cell| root(cell) == 0).take(nets as usize).collect();
+    numbered(nets, &|number| cells[number as usize])
 }
 
 // ---- worst cases ----

@@ -1,6 +1,7 @@
 //! The slices that are compared: lowered netlists, netlists made by hand, both
-//! damaged, and a few large ones.
+//! damaged, nodes that differ in few digits, and a few large netlists.
 
+use super::crowded::crowded;
 use super::damage::{damaged, extend};
 use super::draft::Draft;
 use super::free::{free, Size as FreeSize};
@@ -12,6 +13,7 @@ use std::sync::OnceLock;
 #[derive(Clone, Copy, Debug, PartialEq, Eq, PartialOrd, Ord)]
 pub enum Origin {
     Border,
+    Crowded,
     Lowered,
     LoweredDamaged,
     ByHand,
@@ -24,6 +26,7 @@ impl fmt::Display for Origin {
     fn fmt(&self, f: &mut fmt::Formatter) -> fmt::Result {
         f.write_str(match self {
             Origin::Border => "border case",
+            Origin::Crowded => "nodes that differ in few digits",
             Origin::Lowered => "lowered",
             Origin::LoweredDamaged => "lowered, damaged",
             Origin::ByHand => "by hand",
@@ -34,7 +37,8 @@ impl fmt::Display for Origin {
     }
 }
 
-/// A slice, and the right netlist that it was made from; of a border case none.
+/// A slice, and the right netlist that it was made from; of a border case and of
+/// nodes that differ in few digits none.
 pub struct Case {
     pub origin: Origin,
     pub draft: Draft,
@@ -68,6 +72,9 @@ fn mixed_case(random: &mut Random, number: u64) -> Case {
         let draft = heavy_draft((number / ONE_HEAVY_IN) as usize / 2);
         let is_damaged = (number / ONE_HEAVY_IN) % 2 == 1;
         return made(random, draft, is_damaged, [Origin::Heavy, Origin::HeavyDamaged]);
+    }
+    if random.chance(2) {
+        return Case { origin: Origin::Crowded, draft: Draft::default(), slice: crowded(random).words() };
     }
     let is_damaged = random.chance(62);
     if random.flag() {

@@ -13,6 +13,9 @@ use image::Random;
 const CLASSES: [(usize, u64, u64); 4] = [(110, 12, 350), (200, 3, 10), (500, 1, 4), (6_000, 1, 2)];
 const LONGEST: usize = 3;
 
+/// Besides, so many long slices of nodes that differ in few digits.
+const CROWDED: usize = 20;
+
 /// So many cases are looked at.
 const CASES: u64 = 150_000;
 
@@ -20,6 +23,7 @@ const CASES: u64 = 150_000;
 pub fn make(seed: u64) -> Vec<(Vec<u32>, Answer)> {
     let mut taken = [(); 4].map(|()| Hits::default());
     let mut entries = Vec::new();
+    let mut crowded = 0;
     for number in 0..CASES {
         let case = case(&mut Random::of_case(seed, number), number);
         let slice = case.slice;
@@ -29,8 +33,10 @@ pub fn make(seed: u64) -> Vec<(Vec<u32>, Answer)> {
         let (_, refused, accepted) = CLASSES[class];
         let most = if answer[0] == 0 { accepted } else { refused };
         let place = place(&slice, answer);
+        let is_crowded = class == LONGEST && case.origin == Origin::Crowded && crowded < CROWDED;
+        crowded += usize::from(is_crowded);
         let is_wanted = class != LONGEST || answer[0] == 0 || place.ends_with("width");
-        if is_wanted && taken[class].0.get(&place).copied().unwrap_or(0) < most {
+        if is_crowded || is_wanted && taken[class].0.get(&place).copied().unwrap_or(0) < most {
             taken[class].count(&slice, answer);
             entries.push((slice, answer));
         }
