@@ -71,7 +71,7 @@ enum struo_answer {
 #define STRUO_STACK_KB 7680
 
 /* A stack that serves struo_netlist_check, struo_netlist_node and struo_netlist_record for every netlist, in units of 1,024 bytes: the
- * check's tables are local arrays. */
+ * check's table is a local array. */
 #define STRUO_NETLIST_STACK_KB 512
 
 /* Checks an image: refusals 1, 2, 3, 4, 5, in this order, for net limit n, list limit p and buffers of so many words.
@@ -146,7 +146,7 @@ enum struo_sort {
  * netlist is the image from its first word on, in the machine's byte order. The net limit n it was made with follows from its word 4;
  * words past the list words used are not read, so the slice may be longer, and need not have the unused list words. answer is 0 0 0 for
  * acceptance, or 11, the number of the first wrong word, 0. Nothing else is written. Every netlist image that struo_lower leaves is
- * accepted. The time is linear in nets and list words, but for slices made against the hash that finds equal nodes (docs/BENCH.md). */
+ * accepted. The time is linear in nets and list words, of refused slices too. */
 void struo_netlist_check(const uint32_t *netlist, size_t netlist_len, uint32_t answer[3]);
 
 /* Gives the node of a net.
