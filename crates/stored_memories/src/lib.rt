@@ -34,7 +34,35 @@ fn first_width(p: &[u32], w: u32) -> usize
     4
 }
 
-// A port's controls, clock and edge, which begin at word e.
+// A port's clock and edge; its controls begin at word e.
+fn first_clock(net: &[u32], p: &[u32], e: usize) -> usize
+    requires { ⌜ (Opened (now net)) × (e ≡ listsEnd (now p)) × (e + 6 ≤ length (now p)) ⌝ }
+    ensures { λ r. ⌜ ((earlier : List (List ℕ)) (m w base : ℕ) → r ≡ from (wrongMemoryPort (now (net .entry)) earlier m w base (now (p .entry))) (e + 6) (e + 4)) × (r ≤ e + 6) ⌝ }
+{
+    if stored_view::no_net(net, p[e + 4]) {
+        return e + 4;
+    }
+    if 1 < p[e + 5] {
+        return e + 5;
+    }
+    e + 6
+}
+
+// Its write enable and level, clock and edge.
+fn first_write(net: &[u32], p: &[u32], e: usize) -> usize
+    requires { ⌜ (Opened (now net)) × (e ≡ listsEnd (now p)) × (e + 6 ≤ length (now p)) ⌝ }
+    ensures { λ r. ⌜ ((earlier : List (List ℕ)) (m w base : ℕ) → r ≡ from (wrongMemoryPort (now (net .entry)) earlier m w base (now (p .entry))) (e + 6) (e + 2)) × (r ≤ e + 6) ⌝ }
+{
+    if stored_view::no_net(net, p[e + 2]) {
+        return e + 2;
+    }
+    if 1 < p[e + 3] {
+        return e + 3;
+    }
+    first_clock(net, p, e)
+}
+
+// Its controls, clock and edge.
 fn first_control(net: &[u32], p: &[u32], e: usize) -> usize
     requires { ⌜ (Opened (now net)) × (e ≡ listsEnd (now p)) × (e + 6 ≤ length (now p)) ⌝ }
     ensures { λ r. ⌜ ((earlier : List (List ℕ)) (m w base : ℕ) → r ≡ from (wrongMemoryPort (now (net .entry)) earlier m w base (now (p .entry))) (e + 6) e) × (r ≤ e + 6) ⌝ }
@@ -45,19 +73,7 @@ fn first_control(net: &[u32], p: &[u32], e: usize) -> usize
     if stored_view::wrong_level(p[e], p[e + 1]) {
         return e + 1;
     }
-    if stored_view::no_net(net, p[e + 2]) {
-        return e + 2;
-    }
-    if 1 < p[e + 3] {
-        return e + 3;
-    }
-    if stored_view::no_net(net, p[e + 4]) {
-        return e + 4;
-    }
-    if 1 < p[e + 5] {
-        return e + 5;
-    }
-    e + 6
+    first_write(net, p, e)
 }
 
 // A port of memory m: four widths, four net lists, controls, clock and edge; data is w bits wide, and its read data are the memory's bits

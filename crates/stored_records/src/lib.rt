@@ -30,26 +30,11 @@ pub fn first_in_port(net: &[u32], marks: &[u16], l: &[u32]) -> usize
     stored_view::first_not_own(net, marks, l, kind, l[1], 0, 3, 3 + l[2] as usize)
 }
 
-// A register bit's words from its data on.
-fn first_control(net: &[u32], l: &[u32]) -> usize
+// A register's reset, its level, mode and value: the words from 9 on.
+fn first_reset(net: &[u32], l: &[u32]) -> usize
     requires { ⌜ (Opened (now net)) × (13 ≤ length (now l)) ⌝ }
-    ensures { λ r. ⌜ ((earlier : List (List ℕ)) → r ≡ from (wrongRegister (now (net .entry)) earlier (now (l .entry))) 13 4) ⌝ }
+    ensures { λ r. ⌜ ((earlier : List (List ℕ)) → r ≡ from (wrongRegister (now (net .entry)) earlier (now (l .entry))) 13 9) ⌝ }
 {
-    if stored_view::no_net(net, l[4]) {
-        return 4;
-    }
-    if stored_view::no_net(net, l[5]) {
-        return 5;
-    }
-    if 1 < l[6] {
-        return 6;
-    }
-    if stored_view::no_optional(net, l[7]) {
-        return 7;
-    }
-    if stored_view::wrong_level(l[7], l[8]) {
-        return 8;
-    }
     if stored_view::no_optional(net, l[9]) {
         return 9;
     }
@@ -63,6 +48,37 @@ fn first_control(net: &[u32], l: &[u32]) -> usize
         return 12;
     }
     13
+}
+
+// A register's enable and its level, and what follows: the words from 7 on.
+fn first_enable(net: &[u32], l: &[u32]) -> usize
+    requires { ⌜ (Opened (now net)) × (13 ≤ length (now l)) ⌝ }
+    ensures { λ r. ⌜ ((earlier : List (List ℕ)) → r ≡ from (wrongRegister (now (net .entry)) earlier (now (l .entry))) 13 7) ⌝ }
+{
+    if stored_view::no_optional(net, l[7]) {
+        return 7;
+    }
+    if stored_view::wrong_level(l[7], l[8]) {
+        return 8;
+    }
+    first_reset(net, l)
+}
+
+// A register's data, clock and edge, and what follows: the words from 4 on.
+fn first_control(net: &[u32], l: &[u32]) -> usize
+    requires { ⌜ (Opened (now net)) × (13 ≤ length (now l)) ⌝ }
+    ensures { λ r. ⌜ ((earlier : List (List ℕ)) → r ≡ from (wrongRegister (now (net .entry)) earlier (now (l .entry))) 13 4) ⌝ }
+{
+    if stored_view::no_net(net, l[4]) {
+        return 4;
+    }
+    if stored_view::no_net(net, l[5]) {
+        return 5;
+    }
+    if 1 < l[6] {
+        return 6;
+    }
+    first_enable(net, l)
 }
 
 // A register bit: index, bit, output, data, clock, edge, enable, level, reset, level, asynchronous, value.
