@@ -89,7 +89,7 @@ fn check_list(net: &[u32], marks: &mut [u16]) -> Stored
     check_rest(net, marks, &counts)
 }
 
-// The nodes and what follows, with a lent table: it serves as the marks of listed nets when the nodes are judged.
+// The nodes and what follows, with a lent table: it serves as the marks of listed nets once the nodes are judged.
 fn check_with(net: &[u32], table: &mut [u16]) -> Stored
     requires { ⌜ (Opened (now net)) × (3 * nets (now net) ≤ length (now table)) ⌝ }
     ensures { λ r. ⌜ answerOf r ≡ fromNodes (now (net .entry)) ⌝ }

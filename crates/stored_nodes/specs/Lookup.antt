@@ -1,4 +1,4 @@
--- Laws of the tree: none at the start, one node more, and a search that ends before the 48th node. Assumes nothing.
+-- Laws of the tree: none at the start, one node more, and a search that ends at the 48th node at the latest. Assumes nothing.
 use Prim.Native.Nat.{ℕ, zero, suc, _+_, _*_, _-_, _/_, _%_, _<_, _≤_}
 use mathlib.Core.Bool.{Bool, true, false, true≢false}
 use mathlib.Core.Path.{_≡_, refl, sym, ap, ap₂, _∙_, subst}

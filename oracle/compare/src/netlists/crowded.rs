@@ -13,15 +13,47 @@ const KINDS: [(u32, u32, u32); 6] = [(0, 9, 10), (7, 8, 10), (8, 9, 10), (9, 4, 
 
 const MOST: usize = 300;
 
+/// Different nodes, chosen so that in the tree of crates/stored_nodes the search for
+/// the last one passes the 40 others: all have one root, and each agrees with it in
+/// at least as many digits as there are nodes before. Their number decides the
+/// roots, so it is fixed.
+const DEEP: [[u32; 3]; 41] = [
+    [10, 0, 9], [10, 0, 98], [10, 0, 132], [10, 1, 24], [10, 2, 272], [10, 2, 416], [10, 2, 704], [10, 2, 128],
+    [10, 22, 512], [10, 7, 512], [10, 133, 0], [10, 103, 0], [10, 118, 0], [10, 148, 0], [10, 392, 0], [10, 880, 0],
+    [10, 3_808, 0], [10, 1_856, 0], [10, 5_760, 0], [10, 16_128, 0], [10, 14_848, 0], [10, 104_448, 0],
+    [10, 51_200, 0], [10, 356_352, 0], [10, 303_104, 0], [10, 409_600, 0], [10, 1_736_704, 0], [10, 3_276_800, 0],
+    [10, 1_179_648, 0], [10, 231_997_440, 0], [10, 913_833_984, 0], [10, 2_279_604_224, 0], [10, 2_275_409_920, 0],
+    [10, 2_277_507_072, 0], [10, 2_290_089_984, 0], [10, 2_298_478_592, 0], [10, 2_315_255_808, 0],
+    [10, 2_348_810_240, 0], [10, 2_281_701_376, 0], [11, 3_489_660_928, 0], [8, 0, 0],
+];
+
+/// The deep nodes, as they are, and with the last one equal to each other.
+pub fn deep() -> Vec<Draft> {
+    let last = DEEP.len() - 1;
+    let with_last = |from: usize| {
+        let mut nodes = DEEP;
+        nodes[last] = DEEP[from];
+        laid_out(&nodes, 0)
+    };
+    (0..DEEP.len()).rev().map(with_last).collect()
+}
+
 pub fn crowded(random: &mut Random) -> Draft {
+    if random.chance(5) {
+        return deep().swap_remove(random.below(DEEP.len()));
+    }
     let mut nodes = different(random);
     if random.flag() {
         let from = random.below(nodes.len());
         let again = nodes[from];
         nodes.insert(random.range(from as u32 + 1, nodes.len() as u32) as usize, again);
     }
-    let nodes: Vec<NodeWords> = nodes.iter().enumerate().map(|(net, &[kind, owner, bit])| node(net as u32, kind, owner, bit)).collect();
-    Draft { n: nodes.len() + random.pick(&[0, 0, 1, 9]), nodes, records: Vec::new() }
+    laid_out(&nodes, random.pick(&[0, 0, 1, 9]))
+}
+
+fn laid_out(nodes: &[[u32; 3]], room: usize) -> Draft {
+    let nodes: Vec<NodeWords> = (0..).zip(nodes).map(|(net, &[kind, owner, bit])| node(net, kind, owner, bit)).collect();
+    Draft { n: nodes.len() + room, nodes, records: Vec::new() }
 }
 
 /// An output needs a net below it.
@@ -64,8 +96,16 @@ fn digits(count: u32) -> u32 {
 
 #[cfg(test)]
 mod tests {
-    use super::crowded;
+    use super::{crowded, deep, DEEP};
     use image::Random;
+
+    #[test]
+    fn the_deep_nodes_differ_and_each_equal_one_is_found() {
+        let answers: Vec<[u32; 3]> = deep().iter().map(|draft| reference::netlist_answer(&draft.words())).collect();
+        assert_eq!(answers.len(), DEEP.len());
+        assert_eq!(answers[0], [11, 16, 0]);
+        assert!(answers[1..].iter().all(|answer| *answer == [11, 16 + 6 * 40 + 2, 0]));
+    }
 
     #[test]
     fn half_of_them_have_equal_nodes_and_the_rest_nodes_without_a_record() {

@@ -4,6 +4,7 @@
 //! decimal, a space between them, and byte 10.
 
 use super::cases::{case, Origin};
+use super::crowded::deep;
 use super::places::{all_places, place, Hits};
 use crate::Answer;
 use image::Random;
@@ -22,7 +23,8 @@ const CASES: u64 = 150_000;
 /// The slices that a seed gives, with their answers.
 pub fn make(seed: u64) -> Vec<(Vec<u32>, Answer)> {
     let mut taken = [(); 4].map(|()| Hits::default());
-    let mut entries = Vec::new();
+    let answered = |slice: Vec<u32>| (slice.clone(), reference::netlist_answer(&slice));
+    let mut entries: Vec<(Vec<u32>, Answer)> = deep().iter().map(|draft| answered(draft.words())).collect();
     let mut crowded = 0;
     for number in 0..CASES {
         let case = case(&mut Random::of_case(seed, number), number);
