@@ -54,7 +54,7 @@ told-list ws t = both-told ws t .1 ∙ list-whole ws
 
 -- ---- a record ----
 
-list-append : (xs ys : List (List ℕ)) → listWords (xs ++ ys) ≡ listWords xs ++ listWords ys
+pub list-append : (xs ys : List (List ℕ)) → listWords (xs ++ ys) ≡ listWords xs ++ listWords ys
 list-append [] ys = refl
 list-append (x ∷ xs) ys = ap (λ (z : List ℕ). x ++ z) (list-append xs ys) ∙ sym (append-assoc x (listWords xs) (listWords ys))
 

@@ -48,14 +48,14 @@ pub record Ordered (n : Netlist) : Type 0 where
 
 -- ---- a cell's inputs ----
 
-above-at : (x : ℕ) (ys : List ℕ) → notAbove x ys ≡ false → (i : ℕ) → i < length ys → getD ys i 0 < x
+pub above-at : (x : ℕ) (ys : List ℕ) → notAbove x ys ≡ false → (i : ℕ) → i < length ys → getD ys i 0 < x
 unfolding notAbove
 above-at x [] e i h = absurd (not-suc-le-zero h)
 above-at x (y ∷ ys) e zero h = yes-lt y x (not-false (y <? x) (or-no e .0))
 above-at x (y ∷ ys) e (suc i) h = above-at x ys (or-no e .1) i (omega arith)
 
 -- word p + i of a record, where all of n words from p on are below k
-below-at : (r rest : List ℕ) (k p n : ℕ) → notAbove k (take n (drop p (r ++ rest))) ≡ false → (i : ℕ) → i < n → p + i < length r → getD r (p + i) 0 < k
+pub below-at : (r rest : List ℕ) (k p n : ℕ) → notAbove k (take n (drop p (r ++ rest))) ≡ false → (i : ℕ) → i < n → p + i < length r → getD r (p + i) 0 < k
 below-at r rest k p n e i h l =
     let a = length-take n (drop p (r ++ rest)) in
     let b = length-drop p (r ++ rest) in
@@ -120,7 +120,7 @@ comparison-lower r rest k l e j m =
 
 -- ---- which record a cell output has ----
 
-sort-right : (ws : List ℕ) (earlier : List (List ℕ)) (r : List ℕ) → RightHere ws earlier r → 0 < length r → getD r 0 0 ≤ 4
+pub sort-right : (ws : List ℕ) (earlier : List (List ℕ)) (r : List ℕ) → RightHere ws earlier r → 0 < length r → getD r 0 0 ≤ 4
 unfolding wrongWord _≡?_ pick
 sort-right ws earlier r h l =
     let a = word-in ws earlier r h 0 l in
@@ -169,14 +169,14 @@ module _ (ws : List ℕ) (k : ℕ) (o : Owner ws (recordsOf ws) k) where
       ∙ pick-no (getD r 0 0 ≡? 1) _ _ (eq-no (getD r 0 0) 1 (λ z. absurd (omega arith))) ∙ pick-yes (getD r 0 0 ≡? 2) _ _ (eq-yes (getD r 0 0) 2 t))) ∙ o .owns) in
       absurd (omega arith)
 
-  arithmetic-there : getD r 0 0 ≡ 3 → Within k (4 + 2 * getD r 2 0) (getD r 2 0) r
+  pub arithmetic-there : getD r 0 0 ≡ 3 → Within k (4 + 2 * getD r 2 0) (getD r 2 0) r
   unfolding ownNets
   arithmetic-there t =
       within k (4 + 2 * getD r 2 0) (getD r 2 0) r (ap (member k) (sym (pick-no (getD r 0 0 ≡? 0) _ _ (eq-no (getD r 0 0) 0 (λ z. absurd (omega arith)))
       ∙ pick-no (getD r 0 0 ≡? 1) _ _ (eq-no (getD r 0 0) 1 (λ z. absurd (omega arith))) ∙ pick-no (getD r 0 0 ≡? 2) _ _ (eq-no (getD r 0 0) 2 (λ z. absurd (omega arith)))
       ∙ pick-yes (getD r 0 0 ≡? 3) _ _ (eq-yes (getD r 0 0) 3 t))) ∙ o .owns)
 
-  comparison-there : 3 < getD r 0 0 → Within k (3 + 2 * getD r 2 0) 1 r
+  pub comparison-there : 3 < getD r 0 0 → Within k (3 + 2 * getD r 2 0) 1 r
   unfolding ownNets
   comparison-there t =
       within k (3 + 2 * getD r 2 0) 1 r (ap (member k) (sym (pick-no (getD r 0 0 ≡? 0) _ _ (eq-no (getD r 0 0) 0 (λ z. absurd (omega arith)))
@@ -216,7 +216,7 @@ module _ (ws : List ℕ) (k : ℕ) (o : Owner ws (recordsOf ws) k) where
 
 -- ---- the cell of that number ----
 
-only-append : (p : List ℕ → Bool) (xs ys : List (List ℕ)) → only p (xs ++ ys) ≡ only p xs ++ only p ys
+pub only-append : (p : List ℕ → Bool) (xs ys : List (List ℕ)) → only p (xs ++ ys) ≡ only p xs ++ only p ys
 unfolding only pick
 only-append p [] ys = refl
 only-append p (x ∷ xs) ys = at (p x) (only-append p xs ys)
@@ -229,7 +229,7 @@ getD-map : {B : Type 0} (f : List ℕ → B) (d : B) (xs : List (List ℕ)) (r :
 getD-map f d [] r ys = refl
 getD-map f d (x ∷ xs) r ys = getD-map f d xs r ys
 
-cell-number : {B : Type 0} (f : List ℕ → B) (d : B) (ws : List ℕ) (t : ℕ) (earlier : List (List ℕ)) (r : List ℕ) (later : List (List ℕ))
+pub cell-number : {B : Type 0} (f : List ℕ → B) (d : B) (ws : List ℕ) (t : ℕ) (earlier : List (List ℕ)) (r : List ℕ) (later : List (List ℕ))
     → recordsOf ws ≡ earlier ++ (r ∷ later) → getD r 0 0 ≡ t → getD (map f (recordsWith t ws)) (countOf t earlier) d ≡ f r
 unfolding recordsWith countOf only
 cell-number f d ws t earlier r later e s =
@@ -251,10 +251,10 @@ two x y k j h g m = member-split j (x ∷ []) (y ∷ []) m (one x k j h) (one y 
 three : (x y z k j : ℕ) → x < k → y < k → z < k → member j (x ∷ y ∷ z ∷ []) ≡ true → j < k
 three x y z k j h g f m = member-split j (x ∷ []) (y ∷ z ∷ []) m (one x k j h) (two y z k j g f)
 
-abbrev noArithmetic : N.Arithmetic
+abbrev pub noArithmetic : N.Arithmetic
 noArithmetic = record { operation = N.Add; carry = none; lhs = []; rhs = [] }
 
-abbrev noComparison : N.Comparison
+abbrev pub noComparison : N.Comparison
 noComparison = record { relation = N.LessU; lhs = []; rhs = [] }
 
 by-kind : (n : Netlist) (k kind o b x y z : ℕ) → wrongInput k kind 0 x ≡ false → wrongInput k kind 1 y ≡ false → wrongInput k kind 2 z ≡ false
@@ -279,12 +279,12 @@ by-kind n k (suc (suc (suc (suc (suc (suc (suc (suc (suc (suc (suc (suc kind))))
 
 -- ---- the whole ----
 
-length-each : {A : Type 0} (f : ℕ → A) (i n : ℕ) → length (each f i n) ≡ n
+pub length-each : {A : Type 0} (f : ℕ → A) (i n : ℕ) → length (each f i n) ≡ n
 unfolding each
 length-each f i zero = refl
 length-each f i (suc n) = ap suc (length-each f (suc i) n)
 
-getD-each : {A : Type 0} (f : ℕ → A) (i n k : ℕ) (d : A) → k < n → getD (each f i n) k d ≡ f (i + k)
+pub getD-each : {A : Type 0} (f : ℕ → A) (i n k : ℕ) (d : A) → k < n → getD (each f i n) k d ≡ f (i + k)
 unfolding each
 getD-each f i zero k d h = absurd (not-suc-le-zero h)
 getD-each f i (suc n) zero d h = let e : i ≡ i + 0 = omega arith in ap f e
@@ -299,7 +299,7 @@ input-right ws t k h i l =
     ∙ pick-no (3 + i ≡? 1) _ _ (eq-no (3 + i) 1 (λ z. absurd (omega arith))) ∙ pick-no (3 + i ≡? 2) _ _ (eq-no (3 + i) 2 (λ z. absurd (omega arith))))
     ∙ node-right ws t k (3 + i) (omega arith) (omega arith))
 
-belongs-cell : (k : ℕ) → 6 < k → belongs k ≡ true
+pub belongs-cell : (k : ℕ) → 6 < k → belongs k ≡ true
 unfolding belongs _or_
 belongs-cell k h = go (k ≡? 0)
   where

@@ -58,26 +58,26 @@ module _ (ws : List ℕ) (earlier : List (List ℕ)) (l : List ℕ) (i : ℕ) (s
   unfolding wrongWord
   port-word e = pick-no (i ≡? 0) _ _ (eq-no i 0 some) ∙ pick-yes (getD l 0 0 ≡? 0) _ _ (eq-yes (getD l 0 0) 0 e)
 
-  register-word : getD l 0 0 ≡ 1 → wrongWord ws earlier l i ≡ wrongRegister ws earlier l i
+  pub register-word : getD l 0 0 ≡ 1 → wrongWord ws earlier l i ≡ wrongRegister ws earlier l i
   unfolding wrongWord
   register-word e =
       pick-no (i ≡? 0) _ _ (eq-no i 0 some) ∙ pick-no (getD l 0 0 ≡? 0) _ _ (eq-no (getD l 0 0) 0 (λ z. absurd (omega arith)))
       ∙ pick-yes (getD l 0 0 ≡? 1) _ _ (eq-yes (getD l 0 0) 1 e)
 
-  memory-word : getD l 0 0 ≡ 2 → wrongWord ws earlier l i ≡ wrongMemory ws earlier l i
+  pub memory-word : getD l 0 0 ≡ 2 → wrongWord ws earlier l i ≡ wrongMemory ws earlier l i
   unfolding wrongWord
   memory-word e =
       pick-no (i ≡? 0) _ _ (eq-no i 0 some) ∙ pick-no (getD l 0 0 ≡? 0) _ _ (eq-no (getD l 0 0) 0 (λ z. absurd (omega arith)))
       ∙ pick-no (getD l 0 0 ≡? 1) _ _ (eq-no (getD l 0 0) 1 (λ z. absurd (omega arith))) ∙ pick-yes (getD l 0 0 ≡? 2) _ _ (eq-yes (getD l 0 0) 2 e)
 
-  arithmetic-word : getD l 0 0 ≡ 3 → wrongWord ws earlier l i ≡ wrongArithmetic ws earlier l i
+  pub arithmetic-word : getD l 0 0 ≡ 3 → wrongWord ws earlier l i ≡ wrongArithmetic ws earlier l i
   unfolding wrongWord
   arithmetic-word e =
       pick-no (i ≡? 0) _ _ (eq-no i 0 some) ∙ pick-no (getD l 0 0 ≡? 0) _ _ (eq-no (getD l 0 0) 0 (λ z. absurd (omega arith)))
       ∙ pick-no (getD l 0 0 ≡? 1) _ _ (eq-no (getD l 0 0) 1 (λ z. absurd (omega arith)))
       ∙ pick-no (getD l 0 0 ≡? 2) _ _ (eq-no (getD l 0 0) 2 (λ z. absurd (omega arith))) ∙ pick-yes (getD l 0 0 ≡? 3) _ _ (eq-yes (getD l 0 0) 3 e)
 
-  comparison-word : 3 < getD l 0 0 → wrongWord ws earlier l i ≡ wrongComparison ws earlier l i
+  pub comparison-word : 3 < getD l 0 0 → wrongWord ws earlier l i ≡ wrongComparison ws earlier l i
   unfolding wrongWord
   comparison-word e =
       pick-no (i ≡? 0) _ _ (eq-no i 0 some) ∙ pick-no (getD l 0 0 ≡? 0) _ _ (eq-no (getD l 0 0) 0 (λ z. absurd (omega arith)))
@@ -195,7 +195,7 @@ module _ (ws : List ℕ) (earlier : List (List ℕ)) (r : List ℕ) (h : RightHe
   abbrev M : List ℕ
   M = r ++ h .rest
 
-  same-word : (p j : ℕ) → p + j < length r → getD (drop p M) j 0 ≡ getD (drop p r) j 0
+  pub same-word : (p j : ℕ) → p + j < length r → getD (drop p M) j 0 ≡ getD (drop p r) j 0
   same-word p j l = getD-drop p M j 0 ∙ word-in ws earlier r h (p + j) l ∙ sym (getD-drop p r j 0)
 
   -- word i behind the first six, by the port in which it lies
@@ -205,14 +205,14 @@ module _ (ws : List ℕ) (earlier : List (List ℕ)) (r : List ℕ) (h : RightHe
   abbrev q : ℕ
   q = 6 + portLength (drop 6 M)
 
-  first-port : (i : ℕ) → 6 ≤ i → i < length r → i < q → wrongMemoryPort ws earlier (getD M 1 0) (getD M 7 0) 0 (drop 6 M) (i - 6) ≡ false
+  pub first-port : (i : ℕ) → 6 ≤ i → i < length r → i < q → wrongMemoryPort ws earlier (getD M 1 0) (getD M 7 0) 0 (drop 6 M) (i - 6) ≡ false
   unfolding wrongMemory
   first-port i l n b =
       sym (pick-no (i ≡? 1) _ _ (eq-no i 1 (λ q. absurd (omega arith))) ∙ pick-no (i ≡? 2) _ _ (eq-no i 2 (λ q. absurd (omega arith)))
       ∙ pick-no (i ≡? 3) _ _ (eq-no i 3 (λ q. absurd (omega arith))) ∙ pick-no (i ≡? 4) _ _ (eq-no i 4 (λ q. absurd (omega arith)))
       ∙ pick-no (i ≡? 5) _ _ (eq-no i 5 (λ q. absurd (omega arith))) ∙ pick-yes (i <? q) _ _ (lt-yes i q b)) ∙ memory-right i l n
 
-  second-port : (i : ℕ) → 6 ≤ i → i < length r → q ≤ i → wrongMemoryPort ws earlier (getD M 1 0) (getD M 7 0) (getD M 7 0) (drop q M) (i - q) ≡ false
+  pub second-port : (i : ℕ) → 6 ≤ i → i < length r → q ≤ i → wrongMemoryPort ws earlier (getD M 1 0) (getD M 7 0) (getD M 7 0) (drop q M) (i - q) ≡ false
   unfolding wrongMemory
   second-port i l n b =
       sym (pick-no (i ≡? 1) _ _ (eq-no i 1 (λ q. absurd (omega arith))) ∙ pick-no (i ≡? 2) _ _ (eq-no i 2 (λ q. absurd (omega arith)))

@@ -30,7 +30,7 @@ port-length : (l : List ℕ) → getD l 0 0 ≡ 0 → recordLength l ≡ 3 + get
 unfolding recordLength
 port-length l e = pick-yes (getD l 0 0 ≡? 0) _ _ (eq-yes (getD l 0 0) 0 e)
 
-fresh-of : (ws : List ℕ) (earlier : List (List ℕ)) (x k o b : ℕ) → notOwn ws earlier x k o b ≡ false → taken earlier x ≡ false
+pub fresh-of : (ws : List ℕ) (earlier : List (List ℕ)) (x k o b : ℕ) → notOwn ws earlier x k o b ≡ false → taken earlier x ≡ false
 unfolding notOwn
 fresh-of ws earlier x k o b e = or-no (or-no (or-no (or-no e .1) .1) .1) .1
 
@@ -99,7 +99,7 @@ unique ws t j n g h b e f d = elim (decLt j n) [
 
 -- ---- one port of a signal and kind ----
 
-taken-in : (a : List (List ℕ)) (r : List ℕ) (b : List (List ℕ)) (x : ℕ) → member x (ownNets r) ≡ true → taken (a ++ (r ∷ b)) x ≡ true
+pub taken-in : (a : List (List ℕ)) (r : List ℕ) (b : List (List ℕ)) (x : ℕ) → member x (ownNets r) ≡ true → taken (a ++ (r ∷ b)) x ≡ true
 unfolding taken _or_
 taken-in [] r b x m = rw m
 taken-in (y ∷ a) r b x m = at (member x (ownNets y)) (taken-in a r b x m)
@@ -112,7 +112,7 @@ first-in : (xs : List ℕ) → 0 < length xs → member (getD xs 0 0) xs ≡ tru
 first-in [] h = absurd (not-suc-le-zero h)
 first-in (x ∷ xs) h = member-here x xs
 
-port-kind : (k : ℕ) → (k ≢? 0 and k ≢? 8) ≡ false → belongs k ≡ true
+pub port-kind : (k : ℕ) → (k ≢? 0 and k ≢? 8) ≡ false → belongs k ≡ true
 unfolding belongs
 port-kind k e = elim (decLt 0 k) [
   | yes h ↦ (

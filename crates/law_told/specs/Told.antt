@@ -7,7 +7,7 @@ use mathlib.Core.Bool.{Bool, true, false, not, true≢false}
 use mathlib.Core.List.{List, [], _∷_, _++_, append-assoc}
 use lib.ListN.{length, take, drop, getD, take-append-drop, length-take}
 use Rattle.spec_tests.specs.Rules.{_<?_, _≡?_, _or_, _and_, pick, first, Answer, Fine, Refused, andThen}
-use Rattle.spec_tests.specs.Laws.{or-no, or-skip, and-skip, no-lt, eq-yes, eq-no, inside, first-most, none as first-none}
+use Rattle.spec_tests.specs.Laws.{or-no, or-skip, and-skip, no-lt, no-ne, eq-yes, eq-no, inside, first-most, none as first-none}
 use Rattle.spec_rules.specs.NetlistImage.{nodeWord, portLength, recordLength, split, recordsOf}
 use Rattle.spec_netlist.specs.Accept.{nets, used, listAt, limit, wrongHeader, wrongNodeWord, belongs, portsLength, extent, member, ownNets, taken, wrongMemory, wrongWord, judged, firstWrong, headerAnswer, lengthAnswer, nodesAnswer, listAnswer, alone, aloneAnswer, wrongCount, countsAnswer, bodyAnswer, accepts}
 
@@ -103,6 +103,20 @@ module _ (ws : List ℕ) (t : Told ws) where
   pub few : nets ws ≤ limit ws
   unfolding wrongHeader _≡?_ pick
   few = no-lt (limit ws) (nets ws) (or-no (or-no (header-right 4 (omega arith)) .1) .1)
+
+  pub list-starts : (listAt ws ≡ 16 + 6 * limit ws) × (limit ws ≤ 65535)
+  unfolding wrongHeader _≡?_ pick
+  list-starts =
+      let h = or-no (header-right 4 (omega arith)) in
+      (no-ne (listAt ws) (16 + 6 * limit ws) (or-no (h .1) .0), inside (limit ws) 1 65535 (h .0) .1)
+
+  pub few-words : used ws ≤ 65535
+  unfolding wrongHeader _≡?_ pick
+  few-words = no-lt 65535 (used ws) (header-right 3 (omega arith))
+
+  pub nodes-start : getD ws 2 0 ≡ 16
+  unfolding wrongHeader _≡?_ pick
+  nodes-start = no-ne (getD ws 2 0) 16 (header-right 2 (omega arith))
 
   pub node-right : (n f : ℕ) → n < limit ws → f < 6 → wrongNodeWord ws n f ≡ false
   unfolding nodesAnswer

@@ -32,7 +32,7 @@ adder =
     2 ∷ 8 ∷ 14 ∷ 15 ∷ 16 ∷ 17 ∷ 18 ∷ 19 ∷ 20 ∷ 21 ∷ []
 
 -- inputs clk, en, d[2]; register q of 2 bits, rising, enable en; output q: N = 9, one node unused, P = 44
-abbrev register : List ℕ
+abbrev pub register : List ℕ
 register =
     1 ∷ 8 ∷ 16 ∷ 44 ∷ 70 ∷ 4 ∷ 2 ∷ 0 ∷ 0 ∷ 0 ∷ 0 ∷ 0 ∷ 0 ∷ 0 ∷ 0 ∷ 0 ∷ 0 ∷ 0 ∷ 0 ∷ 4294967295 ∷ 4294967295 ∷ 4294967295 ∷ 0 ∷ 1 ∷ 0 ∷ 4294967295 ∷
     4294967295 ∷ 4294967295 ∷ 0 ∷ 2 ∷ 0 ∷ 4294967295 ∷ 4294967295 ∷ 4294967295 ∷ 0 ∷ 2 ∷ 1 ∷ 4294967295 ∷ 4294967295 ∷ 4294967295 ∷ 7 ∷ 0 ∷ 0 ∷
@@ -41,7 +41,7 @@ register =
     4294967295 ∷ 0 ∷ 0 ∷ 0 ∷ 1 ∷ 0 ∷ 1 ∷ 5 ∷ 3 ∷ 0 ∷ 0 ∷ 1 ∷ 0 ∷ 4294967295 ∷ 0 ∷ 0 ∷ 0 ∷ 0 ∷ 3 ∷ 2 ∷ 6 ∷ 7 ∷ []
 
 -- inputs clk, wa, wb, x[2]; a memory of 2 words of 2 bits with two ports, x[0] the address of the first, x[1] of the second; outputs q, p: N = 15, P = 65
-abbrev memory : List ℕ
+abbrev pub memory : List ℕ
 memory =
     1 ∷ 15 ∷ 16 ∷ 65 ∷ 106 ∷ 6 ∷ 0 ∷ 1 ∷ 0 ∷ 0 ∷ 0 ∷ 0 ∷ 0 ∷ 0 ∷ 0 ∷ 0 ∷ 0 ∷ 0 ∷ 0 ∷ 4294967295 ∷ 4294967295 ∷ 4294967295 ∷ 0 ∷ 1 ∷ 0 ∷ 4294967295 ∷
     4294967295 ∷ 4294967295 ∷ 0 ∷ 2 ∷ 0 ∷ 4294967295 ∷ 4294967295 ∷ 4294967295 ∷ 0 ∷ 3 ∷ 0 ∷ 4294967295 ∷ 4294967295 ∷ 4294967295 ∷ 0 ∷ 3 ∷ 1 ∷

@@ -1,0 +1,2 @@
+-- The values of the nets of an ordered netlist.
+pub mod Reads

@@ -1,0 +1,3 @@
+-- What each record of an accepted netlist image tells, sort by sort.
+pub mod Found
+pub mod Cells

@@ -1,0 +1,1 @@
+// The trace program of change request Q-4: definitions only, in specs/.
