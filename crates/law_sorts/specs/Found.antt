@@ -5,12 +5,12 @@ use native.Mathlib.Omega.{arith}
 use mathlib.Core.Path.{_≡_, refl, sym, ap, subst, _∙_}
 use mathlib.Core.Bool.{Bool, true, false}
 use mathlib.Core.List.{List, [], _∷_, _++_, append-assoc}
-use lib.ListN.{length, getD, length-append}
+use lib.ListN.{length, take, drop, getD, length-append}
 use Rattle.spec_tests.specs.Rules.{_≡?_, pick, only, Fine}
 use Rattle.spec_tests.specs.Laws.{eq-yes, yes-eq}
-use Rattle.spec_rules.specs.NetlistImage.{recordsOf, recordsWith}
-use Rattle.spec_netlist.specs.Accept.{countOf}
-use Rattle.law_told.specs.Told.{pick-yes, Told, RightHere, Right, records-right}
+use Rattle.spec_rules.specs.NetlistImage.{recordLength, split, recordsOf, recordsWith}
+use Rattle.spec_netlist.specs.Accept.{used, listAt, countOf, accepts}
+use Rattle.law_told.specs.Told.{pick-yes, Told, length-some, RightHere, Right, records-right}
 use Rattle.law_told.specs.Ordered.{only-append}
 
 abbrev pub ofSort : ℕ → List (List ℕ) → List (List ℕ)
@@ -103,3 +103,27 @@ numbered ws t earlier r later e s =
     let n = ap length f ∙ length-append (ofSort t earlier) (r ∷ ofSort t later) in
     let z : length (r ∷ ofSort t later) ≡ suc (length (ofSort t later)) = refl in
     (omega arith, ap (λ (z : List (List ℕ)). getD z (length (ofSort t earlier)) []) f ∙ at-number (ofSort t earlier) r (ofSort t later) [])
+
+-- a record has a word
+pub has-word : {ws : List ℕ} {earlier : List (List ℕ)} {r : List ℕ} → RightHere ws earlier r → 0 < length r
+has-word {r = r} h = let s = length-some (r ++ h .rest) in let f = h .fit in let l = h .long in omega arith
+
+-- there are no more records of a sort than list words
+sort-most : (t : ℕ) (rs : List (List ℕ)) → length (ofSort t rs) ≤ length rs
+unfolding only pick
+sort-most t [] = omega arith
+sort-most t (r ∷ rs) = go (getD r 0 0 ≡? t) (sort-most t rs)
+  where
+    go : (b : Bool) → length (ofSort t rs) ≤ length rs → length (pick b (r ∷ ofSort t rs) (ofSort t rs)) ≤ suc (length rs)
+    go true h = omega arith
+    go false h = omega arith
+
+split-most : (n : ℕ) (l : List ℕ) → length (split n l) ≤ n
+unfolding split
+split-most zero l = omega arith
+split-most (suc n) [] = omega arith
+split-most (suc n) (x ∷ l) = let h = split-most n (drop (recordLength (x ∷ l)) (x ∷ l)) in omega arith
+
+pub count-few : (ws : List ℕ) → accepts ws ≡ Fine → (t : ℕ) → length (recordsWith t ws) ≤ used ws
+unfolding recordsWith recordsOf only
+count-few ws ok t = let a = sort-most t (split (used ws) (take (used ws) (drop (listAt ws) ws))) in let b = split-most (used ws) (take (used ws) (drop (listAt ws) ws)) in omega arith

@@ -1,3 +1,6 @@
 -- What each record of an accepted netlist image tells, sort by sort.
 pub mod Found
 pub mod Cells
+pub mod Registers
+pub mod Memories
+pub mod Cut
