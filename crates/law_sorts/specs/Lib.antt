@@ -4,3 +4,4 @@ pub mod Cells
 pub mod Registers
 pub mod Memories
 pub mod Cut
+pub mod Owners

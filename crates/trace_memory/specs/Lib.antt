@@ -1,0 +1,3 @@
+-- Memories over one step, on tables of words.
+pub mod Spread
+pub mod Ports

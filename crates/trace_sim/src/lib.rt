@@ -1,0 +1,1 @@
+// A step on words is the step of the netlist: laws only, in specs/.
