@@ -1,0 +1,4 @@
+-- The trace program's text against the runs of netlists and of lowered modules.
+pub mod Runs
+pub mod Shown
+pub mod Printed
