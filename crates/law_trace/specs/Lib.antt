@@ -2,3 +2,5 @@
 pub mod Runs
 pub mod Shown
 pub mod Printed
+pub mod Cut
+pub mod Modules

@@ -1,0 +1,64 @@
+-- An accepted netlist image cut at its last list word used is accepted and makes the same netlist. Assumes nothing.
+use Prim.Native.Nat.{ℕ, _+_, _*_, _≤_, _<_}
+use native.Mathlib.Omega.{arith}
+use mathlib.Core.Path.{_≡_, sym, ap, _∙_}
+use mathlib.Core.List.{List, _++_}
+use lib.ListN.{length, take, drop, getD, length-take, take-append-drop}
+use lib.Seq.{getD-take}
+use Rattle.spec_tests.specs.Rules.{Fine}
+use Rattle.spec_rules.specs.NetlistImage.{recordsOf, netlist}
+use Rattle.spec_netlist.specs.Accept.{nets, used, listAt, limit, accepts}
+use Rattle.spec_trace.specs.Opened.{wordCount}
+use Rattle.law_told.specs.Told.{Told, told, whole, few, list-starts, nodes-start}
+use Rattle.law_told.specs.Behind.{only-these, records-same}
+use Rattle.law_call.specs.Further.{Whole, netlist-same}
+
+abbrev pub cut : List ℕ → List ℕ
+cut ws = take (wordCount ws) ws
+
+module _ (ws : List ℕ) (ok : accepts ws ≡ Fine) where
+  t : Told ws
+  t = told ws ok
+
+  joined : cut ws ++ drop (wordCount ws) ws ≡ ws
+  joined = take-append-drop (wordCount ws) ws
+
+  cut-long : length (cut ws) ≡ wordCount ws
+  cut-long = let l = length-take (wordCount ws) ws in let w = whole ws t in omega arith
+
+  -- the header is in it
+  sixteen : 16 ≤ wordCount ws
+  sixteen = let s = list-starts ws t .0 in omega arith
+
+  head : (i : ℕ) → i < 16 → getD (cut ws) i 0 ≡ getD ws i 0
+  head i h = getD-take (wordCount ws) ws i 0 (let l = sixteen in omega arith)
+
+  pub cut-count : wordCount (cut ws) ≡ wordCount ws
+  cut-count = let a = head 3 (omega arith) in let b = head 4 (omega arith) in omega arith
+
+  pub cut-accepted : accepts (cut ws) ≡ Fine
+  cut-accepted =
+      let c = cut-count in
+      let l = cut-long in
+      let s = sixteen in
+      sym (only-these (cut ws) (drop (wordCount ws) ws) (omega arith) (omega arith)) ∙ ap accepts joined ∙ ok
+
+  pub cut-netlist : netlist (cut ws) ≡ netlist ws
+  cut-netlist =
+      let c = cut-count in
+      let l = cut-long in
+      let s = sixteen in
+      let a = list-starts ws t .0 in
+      let n = nodes-start ws t in
+      let f = few ws t in
+      let h1 = head 1 (omega arith) in
+      let h2 = head 2 (omega arith) in
+      let w : Whole (cut ws) = record { header = omega arith; nodes = omega arith; list = omega arith } in
+      sym (netlist-same (cut ws) w (drop (wordCount ws) ws)) ∙ ap netlist joined
+
+  pub cut-records : recordsOf (cut ws) ≡ recordsOf ws
+  cut-records =
+      let c = cut-count in
+      let l = cut-long in
+      let s = sixteen in
+      sym (records-same (cut ws) (drop (wordCount ws) ws) (omega arith) (omega arith)) ∙ ap recordsOf joined
