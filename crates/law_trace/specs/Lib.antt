@@ -4,3 +4,5 @@ pub mod Shown
 pub mod Printed
 pub mod Cut
 pub mod Modules
+pub mod Signals
+pub mod Order
