@@ -6,8 +6,10 @@ use mathlib.Core.List.{List, _++_}
 use lib.ListN.{length, take, drop, getD, length-take, take-append-drop}
 use lib.Seq.{getD-take}
 use Rattle.spec_tests.specs.Rules.{Fine}
-use Rattle.spec_rules.specs.NetlistImage.{recordsOf, netlist}
-use Rattle.spec_netlist.specs.Accept.{nets, used, listAt, limit, accepts}
+use Rattle.spec_rules.specs.NetlistImage.{nodeWord, recordsOf, netlist}
+use Rattle.spec_model.specs.Words.{Netlist}
+use Rattle.spec_netlist.specs.Accept.{nets, accepts}
+use Rattle.spec_netlist.specs.Given.{Same}
 use Rattle.spec_trace.specs.Opened.{wordCount}
 use Rattle.law_told.specs.Told.{Told, told, whole, few, list-starts, nodes-start}
 use Rattle.law_told.specs.Behind.{only-these, records-same}
@@ -62,3 +64,27 @@ module _ (ws : List ℕ) (ok : accepts ws ≡ Fine) where
       let l = cut-long in
       let s = sixteen in
       sym (records-same (cut ws) (drop (wordCount ws) ws) (omega arith) (omega arith)) ∙ ap recordsOf joined
+
+  -- and it reads as the same nodes and records
+  node-word : (k f : ℕ) → k < nets ws → f < 6 → nodeWord (cut ws) k f ≡ nodeWord ws k f
+  unfolding nodeWord
+  node-word k f h j =
+      let a = list-starts ws t .0 in
+      let n = nodes-start ws t in
+      let w = few ws t in
+      rw (head 2 (omega arith)) (getD-take (wordCount ws) ws (getD ws 2 0 + 6 * k + f) 0 (omega arith))
+
+  pub cut-same : (l : Netlist) → Same ws l → Same (cut ws) l
+  cut-same l q =
+      let c = head 1 (omega arith) in
+      let old : (k : ℕ) → k < nets (cut ws) → k < nets ws = (λ k h. rw c at h) in
+      record {
+        count = c ∙ q .count;
+        kind = λ k h. node-word k 0 (old k h) (omega arith) ∙ q .kind k (old k h);
+        owner = λ k h. node-word k 1 (old k h) (omega arith) ∙ q .owner k (old k h);
+        bit = λ k h. node-word k 2 (old k h) (omega arith) ∙ q .bit k (old k h);
+        in0 = λ k h. node-word k 3 (old k h) (omega arith) ∙ q .in0 k (old k h);
+        in1 = λ k h. node-word k 4 (old k h) (omega arith) ∙ q .in1 k (old k h);
+        in2 = λ k h. node-word k 5 (old k h) (omega arith) ∙ q .in2 k (old k h);
+        records = cut-records ∙ q .records;
+      }

@@ -3,6 +3,7 @@ pub mod Runs
 pub mod Shown
 pub mod Printed
 pub mod Cut
-pub mod Modules
 pub mod Signals
 pub mod Order
+pub mod Terms
+pub mod Modules

@@ -19,7 +19,7 @@ use Rattle.spec_model.specs.Lowering.{State, Step, setSignal, signalWidth, sign
 use Rattle.law_nets.specs.Meaning.{recordsWith}
 use Rattle.law_nets.specs.Nodes.{with-new, with-same}
 use Rattle.law_phases.specs.Pushed.{nets-length}
-use Rattle.law_owners.specs.Ends.{All, Ends, ends-done, ends-refused, ends-then, ends-if}
+use Rattle.law_owners.specs.Ends.{All, ends-done, ends-refused, ends-then, ends-if}
 use Rattle.law_owners.specs.Kept.{withRecord, Adds, Puts, Closed, Leaves, node-kept, push-kept, nodes-kept, both-kept}
 use Rattle.law_owners.specs.Walked.{Walked, all-walked}
 use Rattle.law_owners.specs.Owners.{named}
@@ -44,16 +44,16 @@ map-last (x ∷ rs) r = ap (λ (z : List (ℕ × ℕ)). port x ∷ z) (map-last 
 
 module _ (m : Module) where
   -- the signals from number p on
-  abbrev From : ℕ → List Sig → Type 0
+  abbrev pub From : ℕ → List Sig → Type 0
   From p xs = drop p (m .signals) ≡ xs
 
-  dir-at : (p : ℕ) (x : Sig) (xs : List Sig) → From p (x ∷ xs) → dirOf m p ≡ x .dir
+  pub dir-at : (p : ℕ) (x : Sig) (xs : List Sig) → From p (x ∷ xs) → dirOf m p ≡ x .dir
   dir-at p x xs e =
       let none : Sig = record { width = 0; dir = R.Internal } in
       let z : p + 0 ≡ p = omega arith in
       ap (λ (k : ℕ). getD (m .signals) k none .dir) (sym z) ∙ ap (λ (y : Sig). y .dir) (sym (getD-drop p (m .signals) 0 none) ∙ ap (λ (ys : List Sig). getD ys 0 none) e)
 
-  from-next : (p : ℕ) (x : Sig) (xs : List Sig) → From p (x ∷ xs) → From (suc p) xs
+  pub from-next : (p : ℕ) (x : Sig) (xs : List Sig) → From p (x ∷ xs) → From (suc p) xs
   from-next p x xs e = let z : suc p ≡ p + 1 = omega arith in ap (λ (k : ℕ). drop k (m .signals)) z ∙ sym (drop-drop 1 p (m .signals)) ∙ ap (drop 1) e
 
   -- ---- one node, one record more ----

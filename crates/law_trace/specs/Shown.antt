@@ -1,5 +1,5 @@
 -- An accepted netlist's output ports, as the step rule shows them: each port's bits are the values of its nets. Assumes nothing.
-use Prim.Native.Nat.{ℕ, zero, suc, _+_, _-_, _<_}
+use Prim.Native.Nat.{ℕ, zero, suc, _+_, _<_}
 use native.Mathlib.Nat.{not-suc-le-zero}
 use native.Mathlib.Omega.{arith}
 use mathlib.Core.Path.{_≡_, refl, sym, ap, subst, _∙_}
@@ -8,10 +8,10 @@ use mathlib.Core.List.{List, [], _∷_, _++_, map, append-assoc, append-nil}
 use mathlib.Core.Option.{Option, some, Option·map}
 use lib.ListN.{length, take, drop, getD, getElem?, length-drop}
 use lib.Seq.{take-length}
-use Rattle.spec_tests.specs.Rules.{_≡?_, _or_, pick, any, each, listOf, only, Fine}
-use Rattle.spec_tests.specs.Laws.{or-no, or-skip, lt-yes, no-ne, ne-no, eq-yes, eq-no, yes-eq, not-any}
+use Rattle.spec_tests.specs.Rules.{_≡?_, pick, any, each, listOf, only, Fine}
+use Rattle.spec_tests.specs.Laws.{or-no, lt-yes, no-ne, ne-no, eq-yes, eq-no, yes-eq, not-any}
 use Rattle.spec_rules.specs.NetlistImage as N
-use Rattle.spec_rules.specs.NetlistImage.{nodeWord, recordLength, recordsOf, recordsWith, outPortOf, notOutput, isOutputPort, netlist}
+use Rattle.spec_rules.specs.NetlistImage.{nodeWord, recordsOf, recordsWith, outPortOf, notOutput, isOutputPort, netlist}
 use Rattle.spec_rules.specs.Step.{Setting, Contents, perhaps, seen, net, findPort, ofNetlist}
 use Rattle.spec_rules.specs.Listing.{together}
 use Rattle.spec_netlist.specs.Accept.{nets, accepts}
@@ -62,20 +62,20 @@ module _ (ws : List ℕ) (t : Told ws) where
 
 -- ---- lists of those with a test ----
 
-data Either (A B : Type 0) : Type 0 where
+pub data Either (A B : Type 0) : Type 0 where
   this : A → Either A B
   that : B → Either A B
 
-abbrev Mem : List ℕ → List (List ℕ) → Type 0
+abbrev pub Mem : List ℕ → List (List ℕ) → Type 0
 Mem r [] = ⊥
 Mem r (x ∷ rs) = Either (x ≡ r) (Mem r rs)
 
-record In (r : List ℕ) (rs : List (List ℕ)) : Type 0 where
-  a : List (List ℕ)
-  b : List (List ℕ)
-  is : rs ≡ a ++ (r ∷ b)
+pub record In (r : List ℕ) (rs : List (List ℕ)) : Type 0 where
+  pub a : List (List ℕ)
+  pub b : List (List ℕ)
+  pub is : rs ≡ a ++ (r ∷ b)
 
-mem-in : (r : List ℕ) (rs : List (List ℕ)) → Mem r rs → In r rs
+pub mem-in : (r : List ℕ) (rs : List (List ℕ)) → Mem r rs → In r rs
 mem-in r [] m = absurd m
 mem-in r (x ∷ rs) (this e) = record { a = []; b = rs; is = ap (λ (z : List ℕ). z ∷ rs) e }
 mem-in r (x ∷ rs) (that m) = let i = mem-in r rs m in record { a = x ∷ i .a; b = i .b; is = ap (λ (z : List (List ℕ)). x ∷ z) (i .is) }
@@ -107,7 +107,7 @@ unfolding only
 only-one q x xs f = pick-yes (q x) (x ∷ only q xs) (only q xs) f
 
 -- one with the test is one of all, with the test
-mem-only : (p : List ℕ → Bool) (r : List ℕ) (rs : List (List ℕ)) → Mem r (only p rs) → Mem r rs × (p r ≡ true)
+pub mem-only : (p : List ℕ → Bool) (r : List ℕ) (rs : List (List ℕ)) → Mem r (only p rs) → Mem r rs × (p r ≡ true)
 unfolding only pick
 mem-only p r [] m = absurd m
 mem-only p r (x ∷ rs) m = at (p x) refl m (mem-only p r rs)
