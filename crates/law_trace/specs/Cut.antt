@@ -25,18 +25,18 @@ module _ (ws : List ℕ) (ok : accepts ws ≡ Fine) where
   joined : cut ws ++ drop (wordCount ws) ws ≡ ws
   joined = take-append-drop (wordCount ws) ws
 
-  cut-long : length (cut ws) ≡ wordCount ws
+  pub cut-long : length (cut ws) ≡ wordCount ws
   cut-long = let l = length-take (wordCount ws) ws in let w = whole ws t in omega arith
 
   -- the header is in it
   sixteen : 16 ≤ wordCount ws
   sixteen = let s = list-starts ws t .0 in omega arith
 
-  head : (i : ℕ) → i < 16 → getD (cut ws) i 0 ≡ getD ws i 0
-  head i h = getD-take (wordCount ws) ws i 0 (let l = sixteen in omega arith)
+  pub cut-head : (i : ℕ) → i < 16 → getD (cut ws) i 0 ≡ getD ws i 0
+  cut-head i h = getD-take (wordCount ws) ws i 0 (let l = sixteen in omega arith)
 
   pub cut-count : wordCount (cut ws) ≡ wordCount ws
-  cut-count = let a = head 3 (omega arith) in let b = head 4 (omega arith) in omega arith
+  cut-count = let a = cut-head 3 (omega arith) in let b = cut-head 4 (omega arith) in omega arith
 
   pub cut-accepted : accepts (cut ws) ≡ Fine
   cut-accepted =
@@ -53,8 +53,8 @@ module _ (ws : List ℕ) (ok : accepts ws ≡ Fine) where
       let a = list-starts ws t .0 in
       let n = nodes-start ws t in
       let f = few ws t in
-      let h1 = head 1 (omega arith) in
-      let h2 = head 2 (omega arith) in
+      let h1 = cut-head 1 (omega arith) in
+      let h2 = cut-head 2 (omega arith) in
       let w : Whole (cut ws) = record { header = omega arith; nodes = omega arith; list = omega arith } in
       sym (netlist-same (cut ws) w (drop (wordCount ws) ws)) ∙ ap netlist joined
 
@@ -72,11 +72,11 @@ module _ (ws : List ℕ) (ok : accepts ws ≡ Fine) where
       let a = list-starts ws t .0 in
       let n = nodes-start ws t in
       let w = few ws t in
-      rw (head 2 (omega arith)) (getD-take (wordCount ws) ws (getD ws 2 0 + 6 * k + f) 0 (omega arith))
+      rw (cut-head 2 (omega arith)) (getD-take (wordCount ws) ws (getD ws 2 0 + 6 * k + f) 0 (omega arith))
 
   pub cut-same : (l : Netlist) → Same ws l → Same (cut ws) l
   cut-same l q =
-      let c = head 1 (omega arith) in
+      let c = cut-head 1 (omega arith) in
       let old : (k : ℕ) → k < nets (cut ws) → k < nets ws = (λ k h. rw c at h) in
       record {
         count = c ∙ q .count;

@@ -7,3 +7,5 @@ pub mod Signals
 pub mod Order
 pub mod Terms
 pub mod Modules
+pub mod Bytes
+pub mod Programs
