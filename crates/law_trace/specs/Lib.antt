@@ -7,5 +7,6 @@ pub mod Signals
 pub mod Order
 pub mod Terms
 pub mod Modules
+pub mod Rows
 pub mod Bytes
 pub mod Programs
