@@ -8,5 +8,7 @@ pub mod Order
 pub mod Terms
 pub mod Modules
 pub mod Rows
+pub mod Memories
+pub mod Clocks
 pub mod Bytes
 pub mod Programs

@@ -1,14 +1,14 @@
 -- A trace in a module's own terms: its input signals give a line's characters, its output signals the printed bits, both in signal order.
 -- Assumes nothing.
-use Prim.Native.Nat.{ℕ, suc, _+_}
+use Prim.Native.Nat.{ℕ, suc, _+_, _*_}
 use mathlib.Core.Path.{_≡_}
 use mathlib.Core.Bool.{Bool, true, false}
 use mathlib.Core.List.{List, [], _∷_, _++_, map}
 use lib.ListN.{length, drop, getD}
 use Rattle.spec_rtl.specs.Rtl as R
-use Rattle.spec_rtl.specs.Rtl.{Module, Sig, Dir}
+use Rattle.spec_rtl.specs.Rtl.{Module, Sig, Dir, Memory}
 use Rattle.spec_tests.specs.Rules.{_<?_, _≡?_, _≢?_, _or_, _and_, pick, listOf}
-use Rattle.spec_rules.specs.Step.{Setting, Seen, perhaps, isOutput}
+use Rattle.spec_rules.specs.Step.{Setting, Seen, perhaps, widthOf, isOutput}
 use Rattle.spec_rules.specs.Listing.{together}
 use Rattle.spec_trace.specs.Opened.{having}
 use Rattle.spec_trace.specs.Trace.{digit}
@@ -58,3 +58,8 @@ signalText x (p, w) = listOf w (λ i. digit (perhaps false (λ b. b) (x .outputs
 
 unfoldable pub outputText : Module → Seen → List ℕ
 outputText m x = together (map (signalText x) (outputs m)) ++ (10 ∷ [])
+
+-- the bits that memories hold
+unfoldable pub memoryBits : Module → List Memory → ℕ
+memoryBits m [] = 0
+memoryBits m (x ∷ xs) = x .depth * widthOf m (x .first .readData) + memoryBits m xs
