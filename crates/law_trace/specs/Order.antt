@@ -47,11 +47,14 @@ module _ (m : Module) where
   abbrev pub From : ℕ → List Sig → Type 0
   From p xs = drop p (m .signals) ≡ xs
 
-  pub dir-at : (p : ℕ) (x : Sig) (xs : List Sig) → From p (x ∷ xs) → dirOf m p ≡ x .dir
-  dir-at p x xs e =
+  pub sig-at : (p : ℕ) (x : Sig) (xs : List Sig) → From p (x ∷ xs) → getD (m .signals) p (record { width = 0; dir = R.Internal }) ≡ x
+  sig-at p x xs e =
       let none : Sig = record { width = 0; dir = R.Internal } in
       let z : p + 0 ≡ p = omega arith in
-      ap (λ (k : ℕ). getD (m .signals) k none .dir) (sym z) ∙ ap (λ (y : Sig). y .dir) (sym (getD-drop p (m .signals) 0 none) ∙ ap (λ (ys : List Sig). getD ys 0 none) e)
+      ap (λ (k : ℕ). getD (m .signals) k none) (sym z) ∙ sym (getD-drop p (m .signals) 0 none) ∙ ap (λ (ys : List Sig). getD ys 0 none) e
+
+  pub dir-at : (p : ℕ) (x : Sig) (xs : List Sig) → From p (x ∷ xs) → dirOf m p ≡ x .dir
+  dir-at p x xs e = ap (λ (y : Sig). y .dir) (sig-at p x xs e)
 
   pub from-next : (p : ℕ) (x : Sig) (xs : List Sig) → From p (x ∷ xs) → From (suc p) xs
   from-next p x xs e = let z : suc p ≡ p + 1 = omega arith in ap (λ (k : ℕ). drop k (m .signals)) z ∙ sym (drop-drop 1 p (m .signals)) ∙ ap (drop 1) e
