@@ -89,7 +89,7 @@ module _ (l₀ : Netlist) (n : ℕ) where
   abbrev K : Netlist → Type 0
   K l = Clocked l₀ n l
 
-  adds : (x : Node) → Adds K x
+  pub adds : (x : Node) → Adds K x
   adds x l c = record { inputs = λ k h. net-node x l k (c .inputs k h); records = fed-later (net-node x l) (l .records) (c .records); bits = c .bits }
 
   -- a record with its clocks fed, and the bits with it
@@ -101,12 +101,12 @@ module _ (l₀ : Netlist) (n : ℕ) where
   }
 
   -- one of another sort
-  puts : (r : List ℕ) → (getD r 0 0 ≡ 1 → ⊥) → (getD r 0 0 ≡ 2 → ⊥) → Puts K r
+  pub puts : (r : List ℕ) → (getD r 0 0 ≡ 1 → ⊥) → (getD r 0 0 ≡ 2 → ⊥) → Puts K r
   puts r a b l c =
       put n r l (record { clock = λ e. absurd (a e); reset = λ e. absurd (a e); first = λ e. absurd (b e); second = λ e. absurd (b e) })
       (ap (λ (rs : List (List ℕ)). bitsOf (map memoryOf rs)) (with-same 2 (l .records) r b) ∙ c .bits) c
 
-  abbrev Every : List ℕ → Type 0
+  abbrev pub Every : List ℕ → Type 0
   Every xs = Unit {0}
 
   closed : Closed K Every
@@ -153,28 +153,28 @@ module _ (l₀ : Netlist) (n : ℕ) where
 -- ---- states ----
 
 -- bit 0 of signal p has an input net
-record Seat (st : State) (p : ℕ) : Type 0 where
-  net : ℕ
-  here : cell none (st .signalBits) p 0 ≡ some net
-  input : InputNet (st .netlist) net
+pub record Seat (st : State) (p : ℕ) : Type 0 where
+  pub net : ℕ
+  pub here : cell none (st .signalBits) p 0 ≡ some net
+  pub input : InputNet (st .netlist) net
 
 -- the net that is read for it
-seat-net : (st : State) (p : ℕ) → Seat st p → InputNet (st .netlist) (signalNet st p 0)
+pub seat-net : (st : State) (p : ℕ) → Seat st p → InputNet (st .netlist) (signalNet st p 0)
 unfolding signalNet signalBit
 seat-net st p h = rw (h .here) (h .input)
 
-all-of : {A : Type 0} (P : A → Type 0) (xs : List A) → ((j : ℕ) (x : A) → getElem? xs j ≡ some x → P x) → All P xs
+pub all-of : {A : Type 0} (P : A → Type 0) (xs : List A) → ((j : ℕ) (x : A) → getElem? xs j ≡ some x → P x) → All P xs
 all-of P [] f = tt
 all-of P (x ∷ xs) f = (f 0 x refl, all-of P xs (λ j y e. f (suc j) y e))
 
 module _ (m : Module) (good : Good m) where
   -- inputs among the first s signals have input nets
-  record Stage (s n : ℕ) (st : State) : Type 0 where
-    seats : (p : ℕ) → p < s → dirOf m p ≡ R.Input → Seat st p
-    held : Clocked (st .netlist) n (st .netlist)
+  pub record Stage (s n : ℕ) (st : State) : Type 0 where
+    pub seats : (p : ℕ) → p < s → dirOf m p ≡ R.Input → Seat st p
+    pub held : Clocked (st .netlist) n (st .netlist)
 
   -- rows of inputs stay, the netlist grows
-  stage-later : (s n n′ : ℕ) (st st′ : State) → Stage s n st → SameRows m (st .signalBits) (st′ .signalBits)
+  pub stage-later : (s n n′ : ℕ) (st st′ : State) → Stage s n st → SameRows m (st .signalBits) (st′ .signalBits)
       → Clocked (st .netlist) n′ (st′ .netlist) → Stage s n′ st′
   stage-later s n n′ st st′ g same c = record {
     seats = λ p h d.
@@ -198,7 +198,7 @@ module _ (m : Module) (good : Good m) where
 
   -- ---- inputs ----
 
-  abbrev Rowed : ℕ → ℕ → State → Type 0
+  abbrev pub Rowed : ℕ → ℕ → State → Type 0
   Rowed s n st = (length (st .signalBits) ≡ length (m .signals)) × Stage s n st
 
   input-stage : (s w n : ℕ) (st : State) → s < length (m .signals) → 1 ≤ w → Rowed s n st → Ends (Rowed (suc s) n) (reserve st s (addInputPort s w (st .netlist)))
@@ -235,7 +235,7 @@ module _ (m : Module) (good : Good m) where
       less p k d (yes e) = absurd (x (ap (dirOf m) (sym e) ∙ d))
       less p k d (no e) = omega arith
 
-  inputs-stage : (s n : ℕ) (xs : List Sig) (st : State) → From m s xs → Rowed s n st → Ends (Rowed (s + length xs) n) (reserveInputs s xs st)
+  pub inputs-stage : (s n : ℕ) (xs : List Sig) (st : State) → From m s xs → Rowed s n st → Ends (Rowed (s + length xs) n) (reserveInputs s xs st)
   unfolding reserveInputs
   inputs-stage s n [] st e g = let z : s ≡ s + 0 = omega arith in ends-done (subst (λ (k : ℕ). Rowed k n st) z g)
   inputs-stage s n (x ∷ xs) st e g =
@@ -253,23 +253,23 @@ module _ (m : Module) (good : Good m) where
 
   -- ---- the other sources ----
 
-  abbrev Apart : ℕ → Type 0
+  abbrev pub Apart : ℕ → Type 0
   Apart p = dirOf m p ≡ R.Input → ⊥
 
-  registers-stage : (s n k : ℕ) (rs : List Register) (st : State) → All (λ r. Apart (r .target)) rs → Stage s n st → Ends (Stage s n) (reserveRegisters m k rs st)
+  pub registers-stage : (s n k : ℕ) (rs : List Register) (st : State) → All (λ r. Apart (r .target)) rs → Stage s n st → Ends (Stage s n) (reserveRegisters m k rs st)
   unfolding reserveRegisters
   registers-stage s n k [] st a g = ends-done g
   registers-stage s n k (r ∷ rs) st a g =
       ends-then (reserveBits m 7 k 0 (r .target) st) (bits-stage s n 7 k 0 (r .target) st (a .0) g) (λ st₁ g₁. registers-stage s n (suc k) rs st₁ (a .1) g₁)
 
-  abbrev ApartBoth : Memory → Type 0
+  abbrev pub ApartBoth : Memory → Type 0
   ApartBoth x = Apart (x .first .readData) × ((q : Port) → x .second ≡ some q → Apart (q .readData))
 
   second-stage : (s n k b : ℕ) (o : Option Port) (st : State) → ((q : Port) → o ≡ some q → Apart (q .readData)) → Stage s n st → Ends (Stage s n) (reserveSecond m k b o st)
   second-stage s n k b none st a g = ends-done g
   second-stage s n k b (some q) st a g = bits-stage s n 9 k b (q .readData) st (a q refl) g
 
-  memories-stage : (s n k : ℕ) (xs : List Memory) (st : State) → All ApartBoth xs → Stage s n st → Ends (Stage s n) (reserveMemories m k xs st)
+  pub memories-stage : (s n k : ℕ) (xs : List Memory) (st : State) → All ApartBoth xs → Stage s n st → Ends (Stage s n) (reserveMemories m k xs st)
   unfolding reserveMemories
   memories-stage s n k [] st a g = ends-done g
   memories-stage s n k (x ∷ xs) st a g =
@@ -279,7 +279,7 @@ module _ (m : Module) (good : Good m) where
 
   -- ---- the walk, and a record more ----
 
-  walk-stage : (s n : ℕ) (ob : Bool) (ss : List Step) (st : State) → Stage s n st → Ends (Stage s n) (lowerAll m ob ss st)
+  pub walk-stage : (s n : ℕ) (ob : Bool) (ss : List Step) (st : State) → Stage s n st → Ends (Stage s n) (lowerAll m ob ss st)
   walk-stage s n ob ss st g =
       go (lowerAll m ob ss st) (all-walked (Clocked (st .netlist) n) (Every (st .netlist) n) (closed (st .netlist) n) (λ xs. tt) m ob ss st (g .held))
       (rows-kept m good (st .signalBits) ob ss st (λ p d. refl))
@@ -288,7 +288,7 @@ module _ (m : Module) (good : Good m) where
       go (refused k x y) a b = ends-refused
       go (done st′) a b = ends-done (stage-later s n n st st′ g (b .ends) (a .ends))
 
-  push-stage : (s n n′ : ℕ) (r : List ℕ) (st : State) → Fed (st .netlist) r → bitsOf (map memoryOf (recordsWith 2 (st .netlist .records ++ (r ∷ [])))) ≡ n′ → Stage s n st → Ends (Stage s n′) (pushRecord r st)
+  pub push-stage : (s n n′ : ℕ) (r : List ℕ) (st : State) → Fed (st .netlist) r → bitsOf (map memoryOf (recordsWith 2 (st .netlist .records ++ (r ∷ [])))) ≡ n′ → Stage s n st → Ends (Stage s n′) (pushRecord r st)
   unfolding push
   push-stage s n n′ r st f b g =
       ends-then {P = Clocked (st .netlist) n′} (push r (st .netlist))

@@ -10,5 +10,6 @@ pub mod Modules
 pub mod Rows
 pub mod Memories
 pub mod Clocks
+pub mod Fitted
 pub mod Bytes
 pub mod Programs
