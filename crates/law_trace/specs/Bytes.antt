@@ -39,7 +39,7 @@ unfoldable pub traceBytes : List (List ℕ) → List ℕ
 traceBytes [] = []
 traceBytes (l ∷ ls) = l ++ (10 ∷ traceBytes ls)
 
--- "0" or "1"
+-- a byte that is neither "0" nor "1"
 abbrev other : ℕ → Bool
 other b = b ≢? 48 and b ≢? 49
 

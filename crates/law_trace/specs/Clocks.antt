@@ -1,35 +1,31 @@
--- In a lowered netlist of a module whose clocks and asynchronous resets are input ports, the clock and asynchronous reset nets of registers
--- and memories are input nodes; and its memories hold as many bits as the module's. Assumes nothing.
-use Prim.Native.Nat.{ℕ, zero, suc, _+_, _*_, _-_, _≤_, _<_}
+-- Clock and asynchronous reset nets of registers and memories that are input nodes, and how many bits memories hold, as a netlist grows:
+-- nodes and records more, `reserve_sources`, the walk. Assumes nothing.
+use Prim.Native.Nat.{ℕ, zero, suc, _+_, _-_, _≤_, _<_}
 use native.Mathlib.Nat.{not-suc-le-zero}
 use native.Mathlib.Omega.{arith}
-use native.Mathlib.Decide.{decLt, ℕ-discrete}
+use native.Mathlib.Decide.{ℕ-discrete}
 use mathlib.Core.Path.{_≡_, refl, sym, ap, subst, _∙_}
-use mathlib.Core.Bool.{Bool, true, false}
+use mathlib.Core.Bool.{Bool}
 use mathlib.Core.List.{List, [], _∷_, _++_, map}
 use mathlib.Core.Option.{Option, none, some}
 use lib.Dec.{leb, ltb}
-use lib.ListN.{length, drop, getD, set, getElem?, length-map, length-set, length-drop, List·getD-eq-default}
+use lib.ListN.{length, drop, getD, set, getElem?, length-set, length-drop}
 use lib.Seq.{getD-set-same, getD-set-other}
 use Rattle.spec_rtl.specs.Rtl as R
-use Rattle.spec_rtl.specs.Rtl.{Module, Sig, Dir, Control, Register, Port, Memory, Reset, dirOf}
-use Rattle.spec_tests.specs.Rules.{only}
-use Rattle.spec_rules.specs.NetlistImage.{MemoryPort, MemoryCell, memoryOf}
-use Rattle.spec_rules.specs.Step.{IsInput, Ported}
-use Rattle.spec_model.specs.Words.{absent, Node, node, source, gate, Netlist, bitWord, lowWord, used, arithmeticKey, comparisonKey, controlWords, resetWords}
-use Rattle.spec_model.specs.Builder.{Out, refused, done, Made, push, nodeForNet, constantValue, addNode, each, both, from, addNodes, addRecorded, addInputPort, addOutputPort}
-use Rattle.spec_model.specs.Lowering.{State, Step, cell, withNetlist, setSignal, signalWidth, signalBit, signalNet, signalNets, wholeNet, signalSteps, memorySteps, registerSteps, lowerAll, start, reserve, reserveInput, reserveInputs, reserveBits, reserveRegisters, reserveSecond, reserveMemories, reserveSources, netControl, optionControl, pushRecord, portsWords, connectMemories, pushRegister, resetBy, registerBit, registerBits, connectRegisters, connectOutput, connectOutputs, lowerState}
+use Rattle.spec_rtl.specs.Rtl.{Module, Sig, Dir, Register, Port, Memory, dirOf}
+use Rattle.spec_rules.specs.NetlistImage.{MemoryPort, memoryOf}
+use Rattle.spec_model.specs.Words.{absent, Node, source, gate, Netlist, used, arithmeticKey, comparisonKey}
+use Rattle.spec_model.specs.Builder.{Out, refused, done, push, nodeForNet, addNode, each, both, from, addNodes, addRecorded, addInputPort}
+use Rattle.spec_model.specs.Lowering.{State, Step, cell, withNetlist, setSignal, signalWidth, signalBit, signalNet, lowerAll, reserve, reserveInput, reserveInputs, reserveBits, reserveRegisters, reserveSecond, reserveMemories, pushRecord}
 use Rattle.spec_trace.specs.Opened.{bitsOf}
 use Rattle.law_nets.specs.Meaning.{recordsWith}
-use Rattle.law_nets.specs.Nodes.{node-at, node-old, with-new, with-same}
+use Rattle.law_nets.specs.Nodes.{node-at, node-old, with-same}
 use Rattle.law_walk.specs.Good.{Good}
 use Rattle.law_owners.specs.Ends.{All, all-last, Ends, ends-done, ends-refused, ends-then, ends-if}
-use Rattle.law_owners.specs.Kept.{withNode, withRecord, Adds, Puts, Closed, Leaves, node-kept, push-kept, nodes-kept, input-kept, output-kept}
+use Rattle.law_owners.specs.Kept.{withNode, withRecord, Adds, Puts, Closed, push-kept, nodes-kept}
 use Rattle.law_owners.specs.Walked.{Walked, all-walked}
-use Rattle.law_trace.specs.Signals.{memoryBits}
 use Rattle.law_trace.specs.Order.{From, sig-at, dir-at, from-next}
 use Rattle.law_trace.specs.Rows.{SameRows, rows-kept}
-use Rattle.law_trace.specs.Memories.{memoryWords, Says, says}
 
 -- ---- input nodes ----
 

@@ -1,19 +1,22 @@
 -- An accepted netlist image cut at its last list word used is accepted and makes the same netlist. Assumes nothing.
 use Prim.Native.Nat.{ℕ, _+_, _*_, _≤_, _<_}
 use native.Mathlib.Omega.{arith}
-use mathlib.Core.Path.{_≡_, sym, ap, _∙_}
-use mathlib.Core.List.{List, _++_}
+use mathlib.Core.Path.{_≡_, refl, sym, ap, _∙_}
+use mathlib.Core.Bool.{Bool}
+use mathlib.Core.List.{List, [], _∷_, _++_}
 use lib.ListN.{length, take, drop, getD, length-take, take-append-drop}
 use lib.Seq.{getD-take}
-use Rattle.spec_tests.specs.Rules.{Fine}
-use Rattle.spec_rules.specs.NetlistImage.{nodeWord, recordsOf, netlist}
+use Rattle.spec_tests.specs.Rules.{_≡?_, only, Fine}
+use Rattle.spec_tests.specs.Laws.{yes-eq}
+use Rattle.spec_rules.specs.NetlistImage.{nodeWord, recordsOf, recordsWith, netlist}
 use Rattle.spec_model.specs.Words.{Netlist}
 use Rattle.spec_netlist.specs.Accept.{nets, accepts}
 use Rattle.spec_netlist.specs.Given.{Same}
-use Rattle.spec_trace.specs.Opened.{wordCount}
+use Rattle.spec_trace.specs.Opened.{wordCount, portsWith}
 use Rattle.law_told.specs.Told.{Told, told, whole, few, list-starts, nodes-start}
 use Rattle.law_told.specs.Behind.{only-these, records-same}
 use Rattle.law_call.specs.Further.{Whole, netlist-same}
+use Rattle.law_trace.specs.Shown.{Mem, this, that, mem-in, mem-only, port-at}
 
 abbrev pub cut : List ℕ → List ℕ
 cut ws = take (wordCount ws) ws
@@ -88,3 +91,23 @@ module _ (ws : List ℕ) (ok : accepts ws ≡ Fine) where
         in2 = λ k h. node-word k 5 (old k h) (omega arith) ∙ q .in2 k (old k h);
         records = cut-records ∙ q .records;
       }
+
+  -- and the same ports
+  only-same : (p q : List ℕ → Bool) (rs : List (List ℕ)) → ((r : List ℕ) → Mem r rs → p r ≡ q r) → only p rs ≡ only q rs
+  unfolding only
+  only-same p q [] h = refl
+  only-same p q (r ∷ rs) h = rw (h r (this refl), only-same p q rs (λ x i. h x (that i)))
+
+  pub cut-ports : (k : ℕ) → portsWith k (cut ws) ≡ portsWith k ws
+  unfolding portsWith recordsWith
+  cut-ports k =
+      ap (λ (rs : List (List ℕ)). only (λ r. nodeWord (cut ws) (getD r 3 0) 0 ≡? k) (only (λ r. getD r 0 0 ≡? 0) rs)) cut-records
+      ∙ only-same (λ r. nodeWord (cut ws) (getD r 3 0) 0 ≡? k) (λ r. nodeWord ws (getD r 3 0) 0 ≡? k) (recordsWith 0 ws) (λ r i. ap (λ (z : ℕ). z ≡? k) (node-word (getD r 3 0) 0 (there r i) (omega arith)))
+    where
+      there : (r : List ℕ) → Mem r (recordsWith 0 ws) → getD r 3 0 < nets ws
+      there r i =
+          let s = mem-only (λ r. getD r 0 0 ≡? 0) r (recordsOf ws) i in
+          let x = mem-in r (recordsOf ws) (s .0) in
+          let p = port-at ws t (x .a) r (x .b) (x .is) (yes-eq (getD r 0 0) 0 (s .1)) in
+          let l = p .some in
+          p .net 0 (omega arith) .there

@@ -1,22 +1,22 @@
--- A lowered netlist of a module whose clocks and asynchronous resets are input ports has them at input nets, and as many memory bits as the
--- module: refusal 12 after 11 is only that of too many memory bits. Assumes nothing.
-use Prim.Native.Nat.{ℕ, zero, suc, _+_, _*_, _≤_, _<_}
+-- `connect_memories`, `connect_registers` and `connect_outputs` keep what `Clocks` is about; so it holds of a lowered netlist, if the module's
+-- clocks and asynchronous resets are input ports. Assumes nothing.
+use Prim.Native.Nat.{ℕ, zero, suc, _+_, _*_, _<_}
 use native.Mathlib.Nat.{not-suc-le-zero}
 use native.Mathlib.Omega.{arith}
 use native.Mathlib.Decide.{decLt}
 use mathlib.Core.Path.{_≡_, refl, sym, ap, subst, _∙_}
-use mathlib.Core.Bool.{Bool, true, false, true≢false}
+use mathlib.Core.Bool.{Bool, true, false}
 use mathlib.Core.List.{List, [], _∷_, _++_, map}
 use mathlib.Core.Option.{Option, none, some}
-use lib.ListN.{length, getD, length-map, List·getD-eq-default}
+use lib.ListN.{length, length-map, List·getD-eq-default}
 use Rattle.spec_rtl.specs.Rtl as R
 use Rattle.spec_rtl.specs.Rtl.{Module, Sig, Dir, Control, Register, Port, Memory, Reset, dirOf}
 use Rattle.spec_tests.specs.Rules.{only}
 use Rattle.spec_rules.specs.NetlistImage.{MemoryCell, memoryOf}
 use Rattle.spec_rules.specs.Step.{Ported}
 use Rattle.spec_model.specs.Words.{absent, node, Netlist, bitWord, lowWord, controlWords, resetWords}
-use Rattle.spec_model.specs.Builder.{Out, done, constantValue, addOutputPort}
-use Rattle.spec_model.specs.Lowering.{State, withNetlist, signalWidth, signalNet, signalNets, wholeNet, signalSteps, memorySteps, registerSteps, lowerAll, start, reserveInputs, reserveRegisters, reserveMemories, reserveSources, netControl, optionControl, pushRecord, connectMemories, pushRegister, resetBy, registerBit, registerBits, connectRegisters, connectOutput, connectOutputs, lowerState}
+use Rattle.spec_model.specs.Builder.{done, constantValue, addOutputPort}
+use Rattle.spec_model.specs.Lowering.{State, withNetlist, signalWidth, signalNet, signalNets, wholeNet, signalSteps, memorySteps, registerSteps, lowerAll, start, reserveInputs, reserveRegisters, reserveSources, netControl, optionControl, pushRecord, connectMemories, pushRegister, resetBy, registerBit, registerBits, connectRegisters, connectOutput, connectOutputs, lowerState}
 use Rattle.spec_trace.specs.Opened.{bitsOf}
 use Rattle.law_nets.specs.Meaning.{recordsWith}
 use Rattle.law_nets.specs.Nodes.{with-new, with-same}
@@ -25,7 +25,7 @@ use Rattle.law_walk.specs.Good.{Good}
 use Rattle.law_owners.specs.Ends.{All, Ends, ends-done, ends-refused, ends-then}
 use Rattle.law_owners.specs.Kept.{output-kept}
 use Rattle.law_trace.specs.Signals.{memoryBits}
-use Rattle.law_trace.specs.Memories.{memoryWords, Says, says}
+use Rattle.law_trace.specs.Memories.{memoryWords, says}
 use Rattle.law_trace.specs.Clocks.{InputNet, Fed, Clocked, adds, puts, seat-net, all-of, Stage, stage-later, Rowed, inputs-stage, Apart, registers-stage, ApartBoth, memories-stage, walk-stage, push-stage}
 
 -- ---- a register's record ----

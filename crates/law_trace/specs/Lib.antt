@@ -11,5 +11,6 @@ pub mod Rows
 pub mod Memories
 pub mod Clocks
 pub mod Fitted
+pub mod Unfit
 pub mod Bytes
 pub mod Programs

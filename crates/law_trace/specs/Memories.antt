@@ -1,17 +1,17 @@
 -- A memory's record as the lowering writes it: its clocks and how many bits it holds. Assumes nothing.
-use Prim.Native.Nat.{ℕ, _+_, _*_, _≤_}
+use Prim.Native.Nat.{ℕ, _+_, _*_}
 use native.Mathlib.Omega.{arith}
-use mathlib.Core.Path.{_≡_, refl, sym, ap, subst, _∙_}
+use mathlib.Core.Path.{_≡_, refl, sym, ap, _∙_}
 use mathlib.Core.List.{List, [], _∷_, _++_, append-assoc, append-nil}
 use mathlib.Core.Option.{Option, none, some}
-use lib.ListN.{length, take, drop, getD, length-append, length-take, length-drop}
+use lib.ListN.{length, drop, getD, length-append, length-take, length-drop}
 use lib.Seq.{getD-drop, getD-append-add, drop-drop, drop-at}
 use Rattle.spec_rtl.specs.Rtl.{Module, Control, Memory, Port}
-use Rattle.spec_tests.specs.Rules.{_≡?_, pick}
+use Rattle.spec_tests.specs.Rules.{_≡?_}
 use Rattle.spec_tests.specs.Laws.{eq-yes, eq-no}
 use Rattle.spec_rules.specs.NetlistImage.{MemoryPort, portLists, portLength, memoryPortOf, memoryOf}
 use Rattle.spec_model.specs.Words.{lowWord, controlWords}
-use Rattle.spec_model.specs.Lowering.{State, signalWidth, signalNet, signalNets, wholeNets, netControl, optionControl, portWords, portsWords}
+use Rattle.spec_model.specs.Lowering.{State, signalWidth, signalNet, signalNets, wholeNets, optionControl, portWords, portsWords}
 use Rattle.law_walk.specs.Tables.{none-some, some-eq}
 use Rattle.law_phases.specs.Pushed.{nets-length}
 use Rattle.law_told.specs.Told.{pick-yes, pick-no}

@@ -55,7 +55,7 @@ module _ (s : List ℕ) (N P : ℕ) (buffer scratch : List ℕ) (yes : Call.answ
   abbrev l : Netlist
   l = left s N P buffer scratch yes .netlist
 
-  image-same : Same ws l
+  pub image-same : Same ws l
   image-same = cut-same (Call.bufferAfter s N P buffer scratch) (call-accepted s N P buffer scratch yes) l (call-same s N P buffer scratch yes)
 
   in-order : Ordered m (inputs m ++ outputs m) l

@@ -18,22 +18,24 @@ use Rattle.spec_model.specs.Words.{words}
 use Rattle.spec_call.specs.Call as Call
 use Rattle.spec_netlist.specs.Accept.{used, listAt, limit, headerAnswer, bodyAnswer, accepts}
 use Rattle.spec_trace.specs.Opened.{wordsOf, wordCount, otherLimits, opened, unfit}
-use Rattle.spec_trace.specs.Trace.{zeroed, settingOf, wrongLine, Before, lineDone, traced, textFrom, unless, traceText}
+use Rattle.spec_trace.specs.Trace.{zeroed, settingOf, wrongLine, Before, lineDone, traced, textFrom, unless, traceText, program}
 use Rattle.check_image.specs.Accepted.{accepted}
 use Rattle.net_view.specs.View.{Fit}
 use Rattle.law_module.specs.Good.{good}
 use Rattle.law_told.specs.Told.{neither, pick-no, told, sixteen}
 use Rattle.law_told.specs.Behind.{accepted-behind}
 use Rattle.law_listed_made.specs.Accepted.{fit}
-use Rattle.law_call.specs.Calls.{passes, ended, buffer-is}
+use Rattle.law_call.specs.Calls.{is-good, passes, ended, buffer-is}
 use Rattle.law_stored.specs.Bounded.{bounded}
-use Rattle.law_stored.specs.Calls.{left, call-accepted}
+use Rattle.law_stored.specs.Calls.{left, call-accepted, call-state}
 use Rattle.law_trace.specs.Runs.{seenText, AllRight}
 use Rattle.law_trace.specs.Printed.{prints-run}
 use Rattle.law_trace.specs.Cut.{cut-long, cut-head, cut-count}
-use Rattle.law_trace.specs.Signals.{lineSetting, wrongFor, AllRightFor, outputText}
+use Rattle.law_trace.specs.Signals.{memoryBits, lineSetting, wrongFor, AllRightFor, outputText}
 use Rattle.law_trace.specs.Bytes.{bytesOf, traceBytes, Letters, words-back, lines-back, image-back, trace-back}
-use Rattle.law_trace.specs.Modules.{imageAfter, image-accepted, prints-signals}
+use Rattle.law_trace.specs.Modules.{imageAfter, image-accepted, image-same, prints-signals}
+use Rattle.law_trace.specs.Fitted.{clocked}
+use Rattle.law_trace.specs.Unfit.{fits}
 
 no-and : (a b : Bool) → b ≡ false → (a and b) ≡ false
 unfolding _and_
@@ -101,8 +103,8 @@ module _ (s : List ℕ) (N P : ℕ) (buffer scratch : List ℕ) (yes : Call.answ
   abbrev image : List ℕ
   image = imageAfter s N P buffer scratch
 
-  fits : Fit N P (left s N P buffer scratch yes .netlist)
-  fits =
+  within : Fit N P (left s N P buffer scratch yes .netlist)
+  within =
       let a = accepted s N P (length buffer) (length scratch) (passes s N P buffer scratch yes) in
       let r = a .1 in
       let x = ended s N P buffer scratch yes in
@@ -116,7 +118,7 @@ module _ (s : List ℕ) (N P : ℕ) (buffer scratch : List ℕ) (yes : Call.answ
       let e : v ≡ words N P l ++ drop (netlistNeed N P) buffer = buffer-is s N P buffer scratch (passes s N P buffer scratch yes) (x .state) (x .is) in
       let a : used v ≡ used (words N P l ++ drop (netlistNeed N P) buffer) = ap used e in
       let b : listAt v ≡ listAt (words N P l ++ drop (netlistNeed N P) buffer) = ap listAt e in
-      let h = fits .short in
+      let h = within .short in
       (omega arith, b)
 
   pub taken : (most : ℕ) → unfit most image ≡ false → Taken N P most image
@@ -142,9 +144,22 @@ module _ (s : List ℕ) (N P : ℕ) (buffer scratch : List ℕ) (yes : Call.answ
   letters [] h = tt
   letters (l ∷ ls) h = (or-no (h .0) .1, letters ls (h .1))
 
+  -- the program takes the image of every module that is ported and has no more memory bits
+  pub image-fits : (most : ℕ) → memoryBits m (m .memories) ≤ most → Ported m → unfit most image ≡ false
+  image-fits most h ported =
+      fits image (left s N P buffer scratch yes .netlist) (image-same s N P buffer scratch yes) most (0 + memoryBits m (m .memories))
+      (clocked m (is-good s N P buffer scratch (passes s N P buffer scratch yes)) false ported N P (left s N P buffer scratch yes) (call-state s N P buffer scratch yes)) (omega arith)
+
   -- the module's run
-  pub program-prints-module : (most : ℕ) → unfit most image ≡ false → Ported m → (u : Valuation) (ls : List (List ℕ)) → AllRightFor m ls → length ls ≤ 4294967295
+  pub program-prints-module : (most : ℕ) → memoryBits m (m .memories) ≤ most → Ported m → (u : Valuation) (ls : List (List ℕ)) → AllRightFor m ls → length ls ≤ 4294967295
       → traceText N P most (bytesOf image ++ traceBytes ls) ≡ together (map (outputText m) (run (ofModule m u) zeroed (map (lineSetting m) ls)))
-  program-prints-module most fit ported u ls right few =
-      reads-trace N P most image (taken most fit) (traceBytes ls) ∙ ap (traced (lineDone image) 0 Before) (lines-back ls (letters ls right))
+  program-prints-module most h ported u ls right few =
+      reads-trace N P most image (taken most (image-fits most h ported)) (traceBytes ls) ∙ ap (traced (lineDone image) 0 Before) (lines-back ls (letters ls right))
       ∙ prints-signals s N P buffer scratch yes ported u ls right few
+
+-- "netlists made with N = 1,024 and P = 2,048, and memories of at most 65,536 bits in all"
+pub prints-lowered : (s buffer scratch : List ℕ) → Call.answer s 1024 2048 buffer scratch ≡ Fine → Ported (decode s) → memoryBits (decode s) (decode s .memories) ≤ 65536
+    → (u : Valuation) (ls : List (List ℕ)) → AllRightFor (decode s) ls → length ls ≤ 4294967295
+    → program (bytesOf (imageAfter s 1024 2048 buffer scratch) ++ traceBytes ls)
+    ≡ together (map (outputText (decode s)) (run (ofModule (decode s) u) zeroed (map (lineSetting (decode s)) ls)))
+prints-lowered s buffer scratch ok ported few u ls right short = program-prints-module s 1024 2048 buffer scratch ok 65536 few ported u ls right short

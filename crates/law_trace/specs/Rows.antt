@@ -8,7 +8,6 @@ use lib.ListN.{getD, set}
 use lib.Seq.{getD-set-other}
 use Rattle.spec_rtl.specs.Rtl as R
 use Rattle.spec_rtl.specs.Rtl.{Module, dirOf}
-use Rattle.spec_model.specs.Words.{Netlist}
 use Rattle.spec_model.specs.Builder.{Out, refused, done, andThen, Made, isValue}
 use Rattle.spec_model.specs.Lowering.{State, Need, Bit, Whole, Range, Step, Always, Unless, cell, setSignalBit, mark, setWhole, setRange, signalBit, whole, rangeKnown, wholeSteps, rangeSteps, selected, drivenBy, drivenNet, buildWhole, buildRange, unless, lowerSteps, driverOf, drive, resolveSignalBit, keepWhole, lowerExpression, keepRange, lowerExpressionRange, lowerBy, lowerNeed, plenty, lowerAll}
 use Rattle.law_walk.specs.Good.{Good}
