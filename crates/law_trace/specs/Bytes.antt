@@ -14,7 +14,7 @@ use Rattle.law_told.specs.Told.{and-second, pick-yes, pick-no}
 
 -- ---- words ----
 
--- "four bytes a word, low first"
+-- "four bytes a word, low first": of a word below 2^32 all four are bytes
 unfoldable pub bytesOf : List ℕ → List ℕ
 bytesOf [] = []
 bytesOf (w ∷ ws) = w % 256 ∷ w / 256 % 256 ∷ w / 65536 % 256 ∷ w / 16777216 ∷ bytesOf ws

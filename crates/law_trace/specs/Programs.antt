@@ -48,7 +48,7 @@ fine-then Fine Fine c e f = e
 fine-then Fine (Refused n x y) c e f = f
 fine-then (Refused n x y) b c e f = e
 
--- an image, alone or with words behind it, whose N and list words are those that the program takes
+-- an image that the program takes: accepted, ending at its last list word used, with its limits, and not refused under 12 after 11
 pub record Taken (N P most : ℕ) (ws : List ℕ) : Type 0 where
   pub accepted : accepts ws ≡ Fine
   pub ends : wordCount ws ≡ length ws
