@@ -9,7 +9,7 @@ use lib.ListN.{length, take, getD, set, length-set, length-append}
 use lib.Seq.{take-all, take-append-le, length-take-le, take-suc, take-suc-set}
 use Rattle.spec_tests.specs.Rules.{pick, _<?_}
 use Rattle.spec_tests.specs.Laws.{lt-yes, lt-no, no-lt, pick-hit, pick-skip}
-use Rattle.spec_rules.specs.Listing.{digits, decimal, line}
+use Rattle.spec_rules.specs.Listing.{text, digits, decimal, line}
 
 -- t was written from at on into a buffer that held o and now holds o′, cut at its end; r is the next place
 pub record Wrote (o : List ℕ) (at : ℕ) (t : List ℕ) (o′ : List ℕ) (r : ℕ) : Type 0 where
@@ -124,3 +124,8 @@ writing-done {o} {at} {t} {o₁} {a} {rest} e p = record {
       let l = length-take-le a o₁ h in
       sym (take-all (length o) (take a o₁) (omega arith)) ∙ ap (take (length o)) (sym (append-nil (take a o₁)) ∙ ap (λ (x : List ℕ). take a o₁ ++ x) (sym e)) ∙ p .text;
 }
+
+-- ---- a refusal ----
+
+abbrev pub refusalText : ℕ → ℕ → ℕ → List ℕ
+refusalText n a b = text "refused" ++ ((32 ∷ decimal n) ++ ((32 ∷ decimal a) ++ ((32 ∷ decimal b) ++ (10 ∷ []))))

@@ -3,7 +3,7 @@ ghost use Prim.Native.Nat.{_≤_};
 ghost use mathlib.Core.List.{[], _∷_};
 ghost use lib.ListN.{length};
 ghost use Rattle.spec_rules.specs.Listing as listing;
-ghost use Rattle.listing_text.specs.Text.{Wrote};
+ghost use Rattle.listing_text.specs.Text.{Wrote, refusalText};
 
 // One byte at a place; the next place.
 pub fn put_byte(out: &mut [u8], at: usize, b: u8) -> usize
@@ -60,4 +60,16 @@ pub fn put_number(out: &mut [u8], at: usize, n: u32) -> usize
 {
     let to = put_byte(out, at, 32);
     decimal(out, to, n)
+}
+
+// A refusal with its number and its two places, as a line; the next place.
+pub fn put_refusal(out: &mut [u8], at: usize, n: u32, a: u32, b: u32) -> usize
+    requires { ⌜ at ≤ length (now out) ⌝ }
+    ensures { λ r. ⌜ Wrote (now (out .entry)) at (refusalText n a b) (now (out .exit)) r ⌝ }
+{
+    let p = put(out, at, b"refused");
+    let q = put_number(out, p, n);
+    let r = put_number(out, q, a);
+    let t = put_number(out, r, b);
+    put_byte(out, t, 10)
 }

@@ -18,9 +18,5 @@ pub fn listing(image: &[u8], net: &[u32], out: &mut [u8]) -> usize
 pub fn refused(out: &mut [u8], n: u32, a: u32, b: u32) -> usize
     ensures { λ r. ⌜ ((s ws : List ℕ) → Wrote (now (out .entry)) 0 (text.listing s (Refused n a b) ws) (now (out .exit)) r) ⌝ }
 {
-    let p = listing_text::put(out, 0, b"refused");
-    let q = listing_text::put_number(out, p, n);
-    let r = listing_text::put_number(out, q, a);
-    let t = listing_text::put_number(out, r, b);
-    listing_text::put_byte(out, t, 10)
+    listing_text::put_refusal(out, 0, n, a, b)
 }

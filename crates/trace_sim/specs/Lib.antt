@@ -6,3 +6,4 @@ pub mod Laid
 pub mod Accesses
 pub mod Memories
 pub mod Step
+pub mod Inputs

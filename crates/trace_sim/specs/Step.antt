@@ -63,7 +63,7 @@ module _ {ws : List ℕ} {earlier : List (List ℕ)} {r : List ℕ} (t : MemoryT
   first-length : portLength (drop 6 (r ++ rest)) ≡ portLength (drop 6 r)
   first-length = ap portLength first-in ∙ length-in (drop 6 r) rest (t .first .long)
 
-  second-in : secondWords (r ++ rest) ≡ secondWords r ++ rest
+  pub second-in : secondWords (r ++ rest) ≡ secondWords r ++ rest
   second-in = ap (λ (k : ℕ). drop (6 + k) (r ++ rest)) first-length ∙ drop-in r rest (6 + portLength (drop 6 r)) (let l = t .first .long in let d = length-drop 6 r in let s = t .six in omega arith)
 
   word-in : (i : ℕ) → i < 8 → getD (r ++ rest) i 0 ≡ getD r i 0
@@ -143,6 +143,10 @@ first-is r = refl
 depth-is : (r : List ℕ) → memoryOf r .depth ≡ getD r 2 0
 unfolding memoryOf
 depth-is r = refl
+
+-- the words of all memories stand in mem
+pub record Stored (ws : List ℕ) (ok : accepts ws ≡ Fine) (d : Contents) (places mem : List ℕ) : Type 0 where
+  pub rows : (m : ℕ) (l : m < length (recordsWith 2 ws)) → Rows (d .mem (getD (memory-at ws ok m l .it .r) 1 0)) (getD (memory-at ws ok m l .it .r) 2 0) (getD (memory-at ws ok m l .it .r) 7 0) (baseAt ws places m) mem
 
 module _ (ws : List ℕ) (ok : accepts ws ≡ Fine) (fit : Fit ws ok) (s t : Setting) (c : Contents) where
   abbrev g : ℕ → Bool
@@ -295,10 +299,6 @@ module _ (ws : List ℕ) (ok : accepts ws ≡ Fine) (fit : Fit ws ok) (s t : Set
 
     -- ---- all memories ----
 
-    -- their words stand in mem
-    pub record Stored (d : Contents) (places mem : List ℕ) : Type 0 where
-      pub rows : (m : ℕ) (l : m < length (recordsWith 2 ws)) → Rows (d .mem (getD (memory-at ws ok m l .it .r) 1 0)) (getD (memory-at ws ok m l .it .r) 2 0) (getD (memory-at ws ok m l .it .r) 7 0) (baseAt ws places m) mem
-
     pub record ReadsAre (w w′ : List ℕ) (i : ℕ) : Type 0 where
       pub moves : Moves want w w′
       pub each : (m : ℕ) (l : m < length (recordsWith 2 ws)) → m < i → DataAre m l w′
@@ -314,7 +314,7 @@ module _ (ws : List ℕ) (ok : accepts ws ≡ Fine) (fit : Fit ws ok) (s t : Set
           → getD w (getD (secondWords z) (4 + getD (secondWords z) 0 0 + j) 0) 0 ≡ want (getD (secondWords z) (4 + getD (secondWords z) 0 0 + j) 0)) (sym (same-memory m i l n e)) (d .second) y f j q;
     }
 
-    pub reads-run : {places : List ℕ} {count : ℕ} → Places ws 2 places count → (mem : List ℕ) → Stored c places mem → (w : List ℕ) → Inputs ws ok s t c w → size ws ≤ length w → (i : ℕ) → i ≤ count → ReadsAre w (memoriesRead ws mem v places i w) i
+    pub reads-run : {places : List ℕ} {count : ℕ} → Places ws 2 places count → (mem : List ℕ) → Stored ws ok c places mem → (w : List ℕ) → Inputs ws ok s t c w → size ws ≤ length w → (i : ℕ) → i ≤ count → ReadsAre w (memoriesRead ws mem v places i w) i
     unfolding memoriesRead
     reads-run p mem st w y wide zero n = record { moves = moves-none want w; each = λ m l k. absurd (not-suc-le-zero k) }
     reads-run {places} {count} p mem st w y wide (suc i) n = step (reads-run p mem st w y wide i (omega arith)) (let q = p .count in omega arith)
@@ -438,7 +438,7 @@ module _ (ws : List ℕ) (ok : accepts ws ≡ Fine) (fit : Fit ws ok) (s t : Set
       pub new : (m : ℕ) (l : m < length (recordsWith 2 ws)) → m < i → Rows (after .mem (getD (memory-at ws ok m l .it .r) 1 0)) (getD (memory-at ws ok m l .it .r) 2 0) (getD (memory-at ws ok m l .it .r) 7 0) (baseAt ws places m) mem′
       pub old : (m : ℕ) (l : m < length (recordsWith 2 ws)) → i ≤ m → Rows (c .mem (getD (memory-at ws ok m l .it .r) 1 0)) (getD (memory-at ws ok m l .it .r) 2 0) (getD (memory-at ws ok m l .it .r) 7 0) (baseAt ws places m) mem′
 
-    pub writes-run : {places : List ℕ} {count : ℕ} → Places ws 2 places count → (n : List ℕ) → Inputs ws ok s t c n → (mem : List ℕ) → Stored c places mem → baseAt ws places count ≤ length mem → (i : ℕ) → i ≤ count
+    pub writes-run : {places : List ℕ} {count : ℕ} → Places ws 2 places count → (n : List ℕ) → Inputs ws ok s t c n → (mem : List ℕ) → Stored ws ok c places mem → baseAt ws places count ≤ length mem → (i : ℕ) → i ≤ count
         → WritesAre places mem (memoriesWritten ws v n places i mem) i
     unfolding memoriesWritten
     writes-run p n y mem st room zero b = record { long = refl; new = λ m l k. absurd (not-suc-le-zero k); old = λ m l k. st .rows m l }
@@ -479,8 +479,8 @@ module _ (ws : List ℕ) (ok : accepts ws ≡ Fine) (fit : Fit ws ok) (s t : Set
                 subst (λ (b : ℕ). Rows (after .mem (getD (memory-at ws ok m lm .it .r) 1 0)) (getD (memory-at ws ok m lm .it .r) 2 0) (getD (memory-at ws ok m lm .it .r) 7 0) (baseAt ws places b) o) (sym e)
                 (subst (λ (z : List ℕ). Rows (after .mem (getD z 1 0)) (getD z 2 0) (getD z 7 0) (baseAt ws places i) o) (sym (same-memory m i lm l e)) r)
 
-    pub stored-after : {places : List ℕ} {count : ℕ} → Places ws 2 places count → (n : List ℕ) → Inputs ws ok s t c n → (mem : List ℕ) → Stored c places mem → baseAt ws places count ≤ length mem
-        → Stored after places (memoriesWritten ws v n places count mem) × (length (memoriesWritten ws v n places count mem) ≡ length mem)
+    pub stored-after : {places : List ℕ} {count : ℕ} → Places ws 2 places count → (n : List ℕ) → Inputs ws ok s t c n → (mem : List ℕ) → Stored ws ok c places mem → baseAt ws places count ≤ length mem
+        → Stored ws ok after places (memoriesWritten ws v n places count mem) × (length (memoriesWritten ws v n places count mem) ≡ length mem)
     stored-after {places} {count} p n y mem st room =
         let r = writes-run p n y mem st room count (omega arith) in
         let q = p .count in
@@ -489,10 +489,10 @@ module _ (ws : List ℕ) (ok : accepts ws ≡ Fine) (fit : Fit ws ok) (s t : Set
     -- ---- every source has its value ----
 
     module _ {registers : List ℕ} {nr : ℕ} (p : Places ws 1 registers nr) {memories : List ℕ} {nm : ℕ} (q : Places ws 2 memories nm) where
-      pub loaded-after : (w : List ℕ) → Moves want v w → Inputs ws ok s t c w → size ws ≤ length v → (mem : List ℕ) → Stored c memories mem
+      pub loaded-after : (w : List ℕ) → Moves want v w → Inputs ws ok s t c w → size ws ≤ length v → (mem : List ℕ) → Stored ws ok c memories mem
           → Loaded ws t after (memoriesRead ws mem v memories nm (registersDone ws v registers nr w)) × Inputs ws ok s t c (memoriesRead ws mem v memories nm (registersDone ws v registers nr w))
-          × (length (memoriesRead ws mem v memories nm (registersDone ws v registers nr w)) ≡ length v)
-      loaded-after w mw y wide mem st = (record { holds = λ j l e. source j l (is-source ws ok j l) e }, inputs-kept (inputs-kept y (a .moves)) (b .moves), b .moves .long ∙ a .moves .long ∙ mw .long)
+          × Moves want v (memoriesRead ws mem v memories nm (registersDone ws v registers nr w))
+      loaded-after w mw y wide mem st = (record { holds = λ j l e. source j l (is-source ws ok j l) e }, inputs-kept (inputs-kept y (a .moves)) (b .moves), all)
         where
           a : RegistersAre w (registersDone ws v registers nr w) nr
           a = registers-run p w y (let z = mw .long in omega arith) nr (omega arith)

@@ -3,18 +3,10 @@ use Rattle.listing_whole.proofs.refused.Statement.{statement}
 use Rattle.listing_whole.proofs.refused.Tie as tie
 use borrow.Author.Needs.{needs}
 use Rattle.listing_whole.specs.Whole.{refusal}
-use Rattle.listing_text.specs.Text.{wrote-more, wrote-same}
+use Rattle.listing_text.specs.Text.{wrote-same}
 
 returns : tie.Need-returns
-returns c =
-    let c4 = c .before .before .before .before in
-    let c8 = c4 .before .before .before .before in
-    let c12 = c8 .before .before .before .before in
-    let c16 = c12 .before .before .before .before in
-    λ s ws. wrote-same (refusal _ _ _ s ws) (wrote-more (c16 .before .before .put .ensures) (wrote-more (c12 .before .before .put-number .ensures) (wrote-more (c8 .before .before .put-number2 .ensures) (wrote-more (c4 .before .before .put-number3 .ensures) (c .before .before .put-byte .ensures)))))
+returns c = λ s ws. wrote-same (refusal _ _ _ s ws) (c .before .before .put-refusal .ensures)
 
 pub refused-spec : {M : Type 1} → statement M
-refused-spec =
-    tie.close
-    (tie.spec (λ c. search needs) (λ c κs. search needs) (λ c κs. search needs) (λ c κs. search needs) (λ c κs. search needs) (λ c κs. search needs)
-    (λ c. search needs) returns)
+refused-spec = tie.close (tie.spec (λ c κs. search needs) (λ c. search needs) returns)
