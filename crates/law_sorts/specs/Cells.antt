@@ -1,12 +1,12 @@
 -- What an arithmetic cell's and a comparison's record tell. Assumes nothing.
 use Prim.Native.Nat.{ℕ, _+_, _*_, _-_, _≤_, _<_}
 use native.Mathlib.Omega.{arith}
-use mathlib.Core.Path.{_≡_, refl, sym, ap, _∙_}
-use mathlib.Core.Bool.{Bool, true, false, not}
-use mathlib.Core.List.{List, [], _∷_, _++_}
+use mathlib.Core.Path.{_≡_, sym, _∙_}
+use mathlib.Core.Bool.{false, not}
+use mathlib.Core.List.{List, _++_}
 use lib.ListN.{length, take, drop, getD}
 use Rattle.spec_tests.specs.Rules.{_<?_, _≡?_, _≢?_, _or_, _and_, pick}
-use Rattle.spec_tests.specs.Laws.{or-no, no-lt, yes-lt, eq-yes, eq-no, ne-yes, lt-yes, lt-no, pick-skip, inside}
+use Rattle.spec_tests.specs.Laws.{or-no, no-lt, yes-lt, eq-yes, eq-no, ne-yes, lt-yes, lt-no, inside}
 use Rattle.spec_rules.specs.Image.{absent}
 use Rattle.spec_rules.specs.NetlistImage.{recordLength}
 use Rattle.spec_netlist.specs.Accept.{nets, countOf, noNet, noOptional, notOwn, notAbove, wrongArithmetic, wrongComparison}

@@ -1,18 +1,16 @@
 -- A record, read from words that begin with it, is that record. Assumes nothing.
-use Prim.Native.Nat.{ℕ, zero, suc, _+_, _*_, _≤_, _<_}
+use Prim.Native.Nat.{ℕ, zero, suc, _+_, _≤_, _<_}
 use native.Mathlib.Omega.{arith}
-use mathlib.Core.Path.{_≡_, refl, sym, ap, ap₂, subst, _∙_}
+use mathlib.Core.Path.{_≡_, refl, ap, _∙_}
 use mathlib.Core.Bool.{Bool, true, false}
 use mathlib.Core.List.{List, [], _∷_, _++_}
 use mathlib.Core.Option.{Option, none, some}
-use lib.ListN.{length, take, drop, getD, length-take, length-drop, List·getD-append}
-use lib.Seq.{getD-drop, drop-drop}
+use lib.ListN.{length, take, drop, getD, length-drop, List·getD-append}
 use Rattle.spec_tests.specs.Rules.{_≡?_, pick}
 use Rattle.spec_tests.specs.Laws.{yes-eq}
 use Rattle.spec_rules.specs.Image.{registerOf}
 use Rattle.spec_rules.specs.NetlistImage.{MemoryPort, MemoryCell, portLists, portLength, registerBitOf, memoryPortOf, memoryOf}
-use Rattle.law_sorts.specs.Registers.{RegisterTold}
-use Rattle.law_sorts.specs.Memories.{MemoryPortTold, MemoryTold, own-length}
+use Rattle.law_sorts.specs.Memories.{MemoryTold, own-length}
 
 -- a stretch that lies inside the first part
 pub stretch-in : (p rest : List ℕ) (a w : ℕ) → a + w ≤ length p → take w (drop a (p ++ rest)) ≡ take w (drop a p)

@@ -1,15 +1,15 @@
 -- What a memory's record tells, port by port. Assumes nothing.
-use Prim.Native.Nat.{ℕ, suc, _+_, _*_, _-_, _≤_, _<_}
+use Prim.Native.Nat.{ℕ, _+_, _-_, _≤_, _<_}
 use native.Mathlib.Omega.{arith}
 use mathlib.Core.Path.{_≡_, refl, sym, ap, subst, _∙_}
-use mathlib.Core.Bool.{Bool, true, false, not}
-use mathlib.Core.List.{List, [], _∷_, _++_}
-use lib.ListN.{length, take, drop, getD, length-drop}
-use lib.Seq.{getD-drop, drop-drop}
-use Rattle.spec_tests.specs.Rules.{_<?_, _≡?_, _≢?_, _or_, _and_, pick, outside}
+use mathlib.Core.Bool.{false}
+use mathlib.Core.List.{List, _++_}
+use lib.ListN.{length, drop, getD, length-drop}
+use lib.Seq.{drop-drop}
+use Rattle.spec_tests.specs.Rules.{_<?_, _≡?_, _≢?_, _or_, pick, outside}
 use Rattle.spec_tests.specs.Laws.{or-left, or-right, or-no, no-lt, no-ne, eq-yes, eq-no, lt-yes, lt-no, inside}
 use Rattle.spec_rules.specs.Image.{absent}
-use Rattle.spec_rules.specs.NetlistImage.{nodeWord, portLists, portLength, recordLength}
+use Rattle.spec_rules.specs.NetlistImage.{portLists, portLength}
 use Rattle.spec_netlist.specs.Accept.{nets, taken, noNet, noOptional, notOwn, wrongLevel, wrongMemoryPort, wrongMemory}
 use Rattle.law_told.specs.Told.{neither, pick-yes, pick-no, RightHere, memory-length}
 use Rattle.law_told.specs.Owned.{Own, own, word-in, memory-word, same-word, first-port, second-port}

@@ -1,21 +1,21 @@
 -- Whose record a net of a kind is listed in; no net is listed by two records. Assumes nothing.
-use Prim.Native.Nat.{ℕ, zero, suc, _+_, _*_, _≤_, _<_}
+use Prim.Native.Nat.{ℕ, zero, suc, _+_, _≤_, _<_}
 use native.Mathlib.Nat.{not-suc-le-zero}
 use native.Mathlib.Omega.{arith}
 use native.Mathlib.Decide.{decLt}
-use mathlib.Core.Path.{_≡_, refl, sym, ap, subst, _∙_}
+use mathlib.Core.Path.{_≡_, refl, sym, ap, _∙_}
 use mathlib.Core.Bool.{Bool, true, false}
 use mathlib.Core.List.{List, [], _∷_, _++_}
-use lib.ListN.{length, take, drop, getD, List·getD-append}
+use lib.ListN.{length, take, getD, List·getD-append}
 use lib.Seq.{take-append-seam}
-use Rattle.spec_tests.specs.Rules.{_≡?_, _≢?_, _or_, _and_, pick, only, Fine}
+use Rattle.spec_tests.specs.Rules.{_≡?_, _≢?_, _or_, pick, only}
 use Rattle.spec_tests.specs.Laws.{or-left, or-right, eq-yes, eq-no, ne-yes}
-use Rattle.spec_rules.specs.NetlistImage.{nodeWord, recordsOf, recordsWith, memoryOf}
-use Rattle.spec_netlist.specs.Accept.{nets, belongs, member, secondData, ownNets, taken, countOf}
-use Rattle.law_told.specs.Told.{untrue, both, pick-yes, pick-no, Told, Owner, owner}
+use Rattle.spec_rules.specs.NetlistImage.{nodeWord, recordsOf, memoryOf}
+use Rattle.spec_netlist.specs.Accept.{member, secondData, ownNets, taken, countOf}
+use Rattle.law_told.specs.Told.{untrue, both, pick-yes, pick-no, Owner}
 use Rattle.law_told.specs.Owned.{Within, within, register-own, port-own, memory-own, arithmetic-own, comparison-own}
-use Rattle.law_told.specs.Ordered.{sort-right, arithmetic-there, comparison-there}
-use Rattle.law_sorts.specs.Found.{ofSort, Found, has-word}
+use Rattle.law_told.specs.Ordered.{arithmetic-there, comparison-there}
+use Rattle.law_sorts.specs.Found.{ofSort, Found}
 
 module _ (ws : List ℕ) (k : ℕ) (o : Owner ws (recordsOf ws) k) where
   abbrev r : List ℕ

@@ -1,12 +1,12 @@
 -- What a register's record tells. Assumes nothing.
-use Prim.Native.Nat.{ℕ, _+_, _≤_, _<_}
+use Prim.Native.Nat.{ℕ, _+_, _<_}
 use native.Mathlib.Omega.{arith}
-use mathlib.Core.Path.{_≡_, refl, sym, ap, _∙_}
-use mathlib.Core.Bool.{Bool, true, false, not}
-use mathlib.Core.List.{List, [], _∷_, _++_}
+use mathlib.Core.Path.{_≡_, sym, _∙_}
+use mathlib.Core.Bool.{false}
+use mathlib.Core.List.{List, _++_}
 use lib.ListN.{length, getD}
-use Rattle.spec_tests.specs.Rules.{_<?_, _≡?_, _≢?_, _or_, _and_, pick}
-use Rattle.spec_tests.specs.Laws.{no-lt, eq-yes, eq-no}
+use Rattle.spec_tests.specs.Rules.{_≡?_, _or_, pick}
+use Rattle.spec_tests.specs.Laws.{eq-yes, eq-no}
 use Rattle.spec_rules.specs.Image.{absent}
 use Rattle.spec_rules.specs.NetlistImage.{recordLength}
 use Rattle.spec_netlist.specs.Accept.{nets, taken, notOwn, wrongRegister}

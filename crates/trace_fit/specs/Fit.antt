@@ -1,20 +1,19 @@
 -- Registers and memories read at the places of their records: whether one is unfit, and the memories' bits. Assumes nothing.
 use Prim.Native.Nat.{ℕ, zero, suc, _+_, _*_, _-_, _≤_, _<_}
 use native.Mathlib.Nat.{mul-le-mul}
-use native.Mathlib.Numerals.{add-one}
 use native.Mathlib.Omega.{arith}
 use mathlib.Core.Path.{_≡_, refl, sym, ap, subst, _∙_}
 use mathlib.Core.Bool.{Bool, true, false, not}
 use mathlib.Core.List.{List, [], _∷_, _++_, map}
-use mathlib.Core.Option.{Option, none, some}
+use mathlib.Core.Option.{none}
 use lib.Dec.{eqb, ltb}
-use lib.ListN.{length, take, drop, getD, length-take, length-drop, length-append, List·getD-append}
+use lib.ListN.{length, take, drop, getD, length-take, length-drop, List·getD-append}
 use lib.Seq.{getD-drop, take-all, take-suc}
 use Rattle.spec_tests.specs.Rules.{_<?_, _≡?_, _≢?_, _or_, _and_, pick, first, any, sumTo, only, Fine}
-use Rattle.spec_tests.specs.Laws.{not-any, from, or-hit, or-skip, and-miss, and-skip, pick-hit, pick-skip, lt-yes, lt-no, eq-yes, eq-no, ne-yes, ne-no, ne-same, lt-same, yes-lt, sum-more}
+use Rattle.spec_tests.specs.Laws.{not-any, or-hit, or-skip, and-miss, and-skip, pick-hit, pick-skip, lt-yes, eq-yes, eq-no, ne-yes, ne-no, ne-same, lt-same, yes-lt}
 use Rattle.spec_tests.specs.Any.{same-bool, any-found}
 use Rattle.spec_rules.specs.Image.{absent}
-use Rattle.spec_rules.specs.NetlistImage.{MemoryPort, MemoryCell, nodeWord, portLists, portLength, recordsOf, recordsWith, memoryPortOf, memoryOf}
+use Rattle.spec_rules.specs.NetlistImage.{MemoryCell, nodeWord, portLists, portLength, recordsWith, memoryPortOf, memoryOf}
 use Rattle.spec_netlist.specs.Accept.{accepts}
 use Rattle.spec_trace.specs.Opened.{having, noInput, registerUnfit, secondUnfit, memoryUnfit, bitsOf, unfit}
 use Rattle.law_told.specs.Told.{told, few-words}

@@ -1,17 +1,14 @@
 -- Where a run stands, and what a line makes of its tables. Assumes nothing.
-use Prim.Native.Nat.{ℕ, zero, suc, _+_, _≤_, _<_}
+use Prim.Native.Nat.{ℕ, _+_, _≤_, _<_}
 use native.Mathlib.Omega.{arith}
-use mathlib.Core.Path.{_≡_, refl, sym, ap, subst, _∙_}
-use mathlib.Core.List.{List, [], _∷_, _++_, map}
-use lib.ListN.{length, getD}
-use Rattle.spec_tests.specs.Rules.{Fine}
+use mathlib.Core.Path.{_≡_, sym, ap, subst, _∙_}
+use mathlib.Core.List.{List}
+use lib.ListN.{length}
 use Rattle.spec_rules.specs.Step.{Setting, Contents}
-use Rattle.spec_netlist.specs.Accept.{accepts}
 use Rattle.spec_trace.specs.Trace.{settingOf, Now, Before, At, reached}
 use Rattle.trace_cells.specs.Digits.{Bits}
 use Rattle.trace_pass.specs.Plan.{size, Plan, Loaded, Valued}
 use Rattle.trace_step.specs.Words.{spread, registersDone, memoriesRead, memoriesWritten}
-use Rattle.trace_sim.specs.Step.{Stored}
 use Rattle.trace_line.specs.State.{Prepared, Sized, Holds}
 use Rattle.trace_line.specs.Step.{char, Next, next-line, first-line}
 

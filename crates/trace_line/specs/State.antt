@@ -5,21 +5,19 @@ use native.Mathlib.Omega.{arith}
 use mathlib.Core.Path.{_≡_, refl, sym, ap, subst, _∙_}
 use mathlib.Core.Bool.{Bool, true, false}
 use mathlib.Core.List.{List, [], _∷_, _++_, map}
-use lib.ListN.{length, take, drop, getD, set, length-drop, List·getD-append}
-use Rattle.spec_rtl.specs.Word.{bit}
-use Rattle.spec_tests.specs.Rules.{_<?_, _≡?_, _or_, pick, only, any, sumTo, Fine}
-use Rattle.spec_tests.specs.Laws.{or-no, no-lt, eq-yes, sum-more}
+use lib.ListN.{length, drop, getD, length-drop, List·getD-append}
+use Rattle.spec_tests.specs.Rules.{_<?_, _or_, pick, only, Fine}
+use Rattle.spec_tests.specs.Laws.{or-no, no-lt, sum-more}
 use Rattle.spec_rules.specs.NetlistImage as N
-use Rattle.spec_rules.specs.NetlistImage.{nodeWord, recordsOf, recordsWith, memoryOf, netlist}
-use Rattle.spec_rules.specs.Step.{Setting, Contents, act, net, ofNetlist}
-use Rattle.spec_netlist.specs.Accept.{nets, used, accepts}
+use Rattle.spec_rules.specs.NetlistImage.{recordsWith, memoryOf}
+use Rattle.spec_netlist.specs.Accept.{accepts}
 use Rattle.spec_trace.specs.Opened.{having, registerUnfit, memoryUnfit, bitsOf, unfit, inputNets, outputNets}
-use Rattle.spec_trace.specs.Trace.{settingOf, wrongLine, zeroed, Now, Before, At, reached}
+use Rattle.spec_trace.specs.Trace.{Now, Before, At}
 use Rattle.law_sorts.specs.Memories.{MemoryPortTold, MemoryTold, own-length}
 use Rattle.law_sorts.specs.Cut.{drop-in}
 use Rattle.trace_cells.specs.Digits.{Bits}
 use Rattle.trace_walk.specs.Places.{Begins, Places}
-use Rattle.trace_pass.specs.Plan.{size, Plan, Loaded, Valued}
+use Rattle.trace_pass.specs.Plan.{size, Plan, Valued}
 use Rattle.trace_fit.specs.Fit.{bitsAt, memories-bits}
 use Rattle.trace_step.specs.Words.{baseAt, secondWords}
 use Rattle.trace_memory.specs.Ports.{PortFits, MemoryFits, MemoriesFit}

@@ -1,32 +1,31 @@
 -- A line on the tables of a run: the first one and the others leave them as the step rule does. Assumes nothing.
-use Prim.Native.Nat.{ℕ, zero, suc, _+_, _≤_, _<_}
+use Prim.Native.Nat.{ℕ, _≤_, _<_}
 use native.Mathlib.Omega.{arith}
-use mathlib.Core.Path.{_≡_, refl, sym, ap, subst, _∙_}
+use mathlib.Core.Path.{_≡_, refl, sym, ap, _∙_}
 use mathlib.Core.Bool.{Bool, true, false, cond}
 use mathlib.Core.Logic.{_⊎_, ⊎-elim}
-use mathlib.Core.List.{List, [], _∷_, _++_}
+use mathlib.Core.List.{List}
 use lib.Dec.{ltb}
-use lib.ListN.{length, drop, getD, set}
+use lib.ListN.{length, getD}
 use Rattle.spec_rtl.specs.Word.{bit, bit-lt}
-use Rattle.spec_tests.specs.Rules.{_≡?_, _≢?_, _or_, Fine}
+use Rattle.spec_tests.specs.Rules.{_≡?_, _or_, Fine}
 use Rattle.spec_tests.specs.Laws.{or-no, no-ne, yes-eq}
 use Rattle.spec_rules.specs.NetlistImage.{nodeWord, netlist}
 use Rattle.spec_rules.specs.Step.{Setting, Contents, act, net, dataWidth, ofNetlist}
-use Rattle.spec_netlist.specs.Accept.{nets, accepts}
+use Rattle.spec_netlist.specs.Accept.{accepts}
 use Rattle.spec_trace.specs.Opened.{inputNets}
-use Rattle.spec_trace.specs.Trace.{settingOf, wrongLine, zeroed, Now, Before, At, reached}
-use Rattle.law_told.specs.Told.{untrue, or-split}
+use Rattle.spec_trace.specs.Trace.{settingOf, wrongLine, zeroed, Before, At, reached}
+use Rattle.law_told.specs.Told.{or-split}
 use Rattle.law_reads.specs.Reads.{nodeOf, isSource}
 use Rattle.trace_cells.specs.Digits.{Bits}
-use Rattle.trace_pass.specs.Plan.{size, Loaded, Valued}
+use Rattle.trace_pass.specs.Plan.{size, Loaded}
 use Rattle.trace_pass.specs.Steps.{size-is}
 use Rattle.trace_plan.specs.Kinds.{is-source}
-use Rattle.trace_step.specs.Words.{spread, registersDone, baseAt, memoriesRead, memoriesWritten}
+use Rattle.trace_step.specs.Words.{spread, registersDone, memoriesRead, memoriesWritten}
 use Rattle.trace_sim.specs.Moves.{Moves, moves-spread}
 use Rattle.trace_sim.specs.Sources.{input-net, register-net, memory-net}
 use Rattle.trace_sim.specs.Registers.{Inputs}
-use Rattle.trace_sim.specs.Memories.{Rows}
-use Rattle.trace_sim.specs.Step.{Fit, Stored, after, want, loaded-after, stored-after}
+use Rattle.trace_sim.specs.Step.{Fit, Stored, loaded-after, stored-after}
 use Rattle.trace_sim.specs.Inputs.{input-char, input-at}
 use Rattle.trace_line.specs.State.{Prepared, Sized, Holds, fit-of, base-total}
 

@@ -1,16 +1,15 @@
 -- Characters read and written. Assumes nothing.
-use Prim.Native.Nat.{ℕ, zero, suc, _+_, _≤_, _<_}
+use Prim.Native.Nat.{ℕ, suc, _+_, _≤_, _<_}
 use native.Mathlib.Nat.{not-suc-le-zero}
 use native.Mathlib.Omega.{arith}
 use native.Mathlib.Decide.{decLt, ℕ-discrete}
-use mathlib.Core.Path.{_≡_, refl, sym, ap, subst, _∙_}
+use mathlib.Core.Path.{_≡_, refl, sym, ap, _∙_}
 use mathlib.Core.Bool.{Bool, true, false}
 use mathlib.Core.List.{List, [], _∷_, _++_, map}
 use lib.Dec.{eqb}
-use lib.ListN.{length, take, drop, getD, set, length-set, List·getD-eq-default}
+use lib.ListN.{length, take, getD, set, length-set, List·getD-eq-default}
 use lib.Seq.{getD-set-same, getD-set-other, take-suc, take-all}
 use Rattle.spec_rtl.specs.Word.{bit}
-use Rattle.spec_tests.specs.Rules.{_≡?_}
 use Rattle.spec_tests.specs.Laws.{eq-same, eq-no}
 use Rattle.spec_trace.specs.Trace.{digit}
 use Rattle.listing_text.specs.Text.{Wrote, wrote-none, wrote-more, wrote-same}

@@ -3,17 +3,16 @@ use Prim.Native.Nat.{ℕ, zero, suc, _+_, _≤_, _<_}
 use native.Mathlib.Nat.{not-suc-le-zero}
 use native.Mathlib.Numerals.{add-one}
 use native.Mathlib.Omega.{arith}
-use native.Mathlib.Decide.{decLt, ℕ-discrete}
+use native.Mathlib.Decide.{decLt}
 use mathlib.Core.Path.{_≡_, refl, sym, ap, subst, _∙_}
-use mathlib.Core.Bool.{Bool, true, false, not}
+use mathlib.Core.Bool.{Bool, true, false}
 use mathlib.Core.Logic.{⊎-elim}
 use mathlib.Core.List.{List, [], _∷_, _++_, map, append-assoc}
-use lib.Dec.{eqb}
-use lib.ListN.{length, take, drop, getD, length-take, take-append-drop, length-append}
-use lib.Seq.{getD-take, take-suc, take-all, take-append-seam}
-use Rattle.spec_tests.specs.Rules.{_<?_, _≡?_, _≢?_, _or_, _and_, pick, any, only, Refused, Fine}
-use Rattle.spec_tests.specs.Laws.{or-no, or-yes, or-hit, or-skip, and-miss, and-skip, ne-no, ne-yes, ne-same, no-lt, yes-lt, lt-yes, lt-no}
-use Rattle.spec_rules.specs.Listing.{text, decimal, line}
+use lib.ListN.{length, take, drop, getD, length-take}
+use lib.Seq.{getD-take, take-suc, take-all}
+use Rattle.spec_tests.specs.Rules.{_<?_, _≡?_, _≢?_, _or_, _and_, pick, only, Refused, Fine}
+use Rattle.spec_tests.specs.Laws.{or-no, or-yes, no-lt, yes-lt, lt-yes, lt-no}
+use Rattle.spec_rules.specs.Listing.{text}
 use Rattle.spec_trace.specs.Opened.{having, inputNets, outputNets}
 use Rattle.spec_trace.specs.Trace.{settingOf, wrongLine, digit, values, shown, Now, At, reached, said, textFrom}
 use Rattle.spec_rules.specs.NetlistImage.{netlist}
@@ -21,12 +20,12 @@ use Rattle.spec_rules.specs.Step.{Setting, Contents, net}
 use Rattle.spec_netlist.specs.Accept.{accepts}
 use Rattle.law_told.specs.Told.{untrue, pick-yes, pick-no}
 use Rattle.listing_text.specs.Text.{Wrote, wrote-same, refusalText, spaced, line-spaced}
-use Rattle.trace_pass.specs.Plan.{size, Valued}
+use Rattle.trace_pass.specs.Plan.{Valued}
 use Rattle.trace_step.specs.Words.{on}
 use Rattle.trace_sim.specs.Sources.{on-bit}
 use Rattle.trace_sim.specs.Inputs.{port-net}
 use Rattle.trace_pass.specs.Steps.{size-is}
-use Rattle.trace_line.specs.State.{Prepared, Sized, Holds}
+use Rattle.trace_line.specs.State.{Prepared, Holds}
 use Rattle.trace_line.specs.Standing.{Standing, After}
 use Rattle.trace_lines.specs.Pieces.{Free, text-goes, text-limit, text-wrong, text-long}
 

@@ -1,16 +1,15 @@
 -- The text of a trace, line by line as its bytes come. Assumes nothing.
-use Prim.Native.Nat.{ℕ, zero, suc, _+_, _≤_, _<_}
-use native.Mathlib.Nat.{not-suc-le-zero}
+use Prim.Native.Nat.{ℕ, suc, _+_, _≤_, _<_}
 use native.Mathlib.Omega.{arith}
-use mathlib.Core.Path.{_≡_, refl, sym, ap, subst, _∙_}
+use mathlib.Core.Path.{_≡_, refl, sym, ap, _∙_}
 use mathlib.Core.Bool.{Bool, true, false}
-use mathlib.Core.List.{List, [], _∷_, _++_, append-assoc}
+use mathlib.Core.List.{List, [], _∷_, _++_}
 use lib.ListN.{length, getD, length-append}
-use Rattle.spec_tests.specs.Rules.{_<?_, _≡?_, _≢?_, _or_, pick, Refused}
+use Rattle.spec_tests.specs.Rules.{_<?_, _≡?_, _or_, pick, Refused}
 use Rattle.spec_tests.specs.Laws.{pick-hit, pick-skip, or-hit, eq-yes, eq-no, ne-yes, lt-yes, lt-no}
 use Rattle.law_told.specs.Told.{pick-yes, pick-no}
-use Rattle.spec_trace.specs.Opened.{having, inputNets}
-use Rattle.spec_trace.specs.Trace.{settingOf, wrongLine, shown, Now, At, reached, After, Goes, Stops, lineDone, before, pieces, said, continued, traced, textFrom}
+use Rattle.spec_trace.specs.Opened.{inputNets}
+use Rattle.spec_trace.specs.Trace.{settingOf, wrongLine, shown, Now, At, reached, Goes, Stops, lineDone, before, pieces, said, continued, traced, textFrom}
 
 -- no byte of l ends a line
 abbrev pub Free : List ℕ → Type 0

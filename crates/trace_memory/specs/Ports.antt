@@ -1,18 +1,17 @@
 -- What memories ask of their records and places; a port that reads or writes, test by test. Assumes nothing.
-use Prim.Native.Nat.{ℕ, zero, suc, _+_, _*_, _-_, _≤_, _<_}
+use Prim.Native.Nat.{ℕ, _+_, _*_, _-_, _≤_, _<_}
 use native.Mathlib.Nat.{mul-le-mul}
 use native.Mathlib.Numerals.{add-one}
 use native.Mathlib.Omega.{arith}
 use mathlib.Core.Path.{_≡_, refl, sym, ap, subst, _∙_}
 use mathlib.Core.Bool.{Bool, true, false, not, cond, _&&_}
-use mathlib.Core.List.{List, [], _∷_, map}
-use mathlib.Core.Option.{Option, none, some}
+use mathlib.Core.List.{List, [], map}
 use lib.Dec.{ltb}
 use borrow.Author.Tests.{lt-ltb, le-ltb}
-use lib.ListN.{length, take, drop, getD, set, length-take}
+use lib.ListN.{length, take, drop, getD, length-take}
 use Rattle.spec_rtl.specs.Word.{bit, value}
-use Rattle.spec_tests.specs.Rules.{_<?_, _≡?_, pick}
-use Rattle.spec_tests.specs.Laws.{lt-yes, lt-no, eq-yes, eq-no, pick-hit, pick-skip, sum-none, sum-more}
+use Rattle.spec_tests.specs.Rules.{_≡?_}
+use Rattle.spec_tests.specs.Laws.{eq-yes, eq-no, pick-hit, pick-skip, sum-none, sum-more}
 use Rattle.spec_rules.specs.Image.{optional, controlOf}
 use Rattle.spec_rules.specs.NetlistImage.{portLists, portLength, memoryPortOf}
 use Rattle.spec_rules.specs.Step.{edge, active, enabled, netAccess}

@@ -1,6 +1,5 @@
 -- A cell's step of a netlist whose nets read lower ones is right: what the code computes is the value of each output net. Assumes nothing.
 use Prim.Native.Nat.{ℕ, zero, suc, _+_, _*_, _^_, _/_, _%_, _≤_, _<_}
-use native.Mathlib.Nat.{not-suc-le-zero}
 use native.Mathlib.Omega.{arith}
 use mathlib.Core.Path.{_≡_, refl, sym, ap, _∙_}
 use mathlib.Core.Bool.{true, false}
@@ -9,14 +8,14 @@ use mathlib.Core.Option.{none}
 use lib.ListN.{length, take, drop, getD}
 use lib.Seq.{take-take, getD-take}
 use Rattle.spec_rtl.specs.Word.{bit}
-use Rattle.spec_tests.specs.Rules.{each, listOf}
+use Rattle.spec_tests.specs.Rules.{listOf}
 use Rattle.spec_rules.specs.Image.{absent}
 use Rattle.spec_rules.specs.NetlistImage as N
 use Rattle.spec_rules.specs.NetlistImage.{netlist, nodeAt, nodeWord, arithmeticOf, comparisonOf}
 use Rattle.spec_rules.specs.Step.{Setting, Contents, net, nodeValue, arithmetic, comparison}
 use Rattle.law_reads.specs.Reads as D
 use Rattle.law_told.specs.Members.{member-here}
-use Rattle.law_told.specs.Ordered.{Ordered, readBy}
+use Rattle.law_told.specs.Ordered.{Ordered, readBy, length-each, getD-each}
 use Rattle.law_reads.specs.Reads.{net-is, member-there}
 use Rattle.spec_netlist.specs.Accept.{inputCount, member}
 use Rattle.trace_cells.specs.Digits.{Bits}
@@ -24,17 +23,6 @@ use Rattle.trace_cells.specs.Cells.{leftOf, rightOf, outsOf, totalOf, lesserOf,
 use Rattle.trace_pass.specs.Plan.{size, word, place, Settled, GateStep, ArithmeticStep, ComparisonStep}
 use Rattle.trace_pass.specs.Gates.{GateWords, gate-rule, Computed, constant, and-gate, or-gate, xor-gate, not-gate, mux, output}
 use Rattle.trace_pass.specs.Sums.{Agree, arithmetic-bit, comparison-bit}
-
-length-each : {A : Type 0} (f : ℕ → A) (i n : ℕ) → length (each f i n) ≡ n
-unfolding each
-length-each f i zero = refl
-length-each f i (suc n) = ap suc (length-each f (suc i) n)
-
-getD-each : {A : Type 0} (f : ℕ → A) (i n k : ℕ) (d : A) → k < n → getD (each f i n) k d ≡ f (i + k)
-unfolding each
-getD-each f i zero k d h = absurd (not-suc-le-zero h)
-getD-each f i (suc n) zero d h = let e : i ≡ i + 0 = omega arith in ap f e
-getD-each f i (suc n) (suc k) d h = let e : suc i + k ≡ i + suc k = omega arith in getD-each f (suc i) n k d (omega arith) ∙ ap f e
 
 -- the size is the header's net count, and a node is read from its six words
 pub size-is : (ws : List ℕ) → size ws ≡ getD ws 1 0

@@ -1,6 +1,6 @@
 -- A plan that is being made: the nets below j have been met, and there are n steps. Word k of a table says after which step net k has its
 -- value: 0 for a source; a large number as long as it has none. Assumes nothing.
-use Prim.Native.Nat.{ℕ, zero, suc, _+_, _*_, _^_, _/_, _%_, _≤_, _<_}
+use Prim.Native.Nat.{ℕ, _+_, _*_, _^_, _/_, _%_, _≤_, _<_}
 use native.Mathlib.Nat.{not-suc-le-zero}
 use native.Mathlib.Omega.{arith}
 use native.Mathlib.Decide.{decLt, ℕ-discrete}
@@ -14,9 +14,8 @@ use Rattle.spec_rtl.specs.Word.{bit}
 use Rattle.spec_rules.specs.NetlistImage.{netlist}
 use Rattle.spec_rules.specs.Step.{Setting, Contents, net}
 use Rattle.law_reads.specs.Reads.{nodeOf, isSource}
-use Rattle.trace_cells.specs.Digits.{Bits}
 use Rattle.trace_cells.specs.Cells.{leftOf, outsOf, totalOf, ArithmeticFits, Compares, lesserOf, greaterOf, answerOf}
-use Rattle.trace_pass.specs.Plan.{size, word, place, Settled, One, gateOf, GateStep, ArithmeticStep, ComparisonStep, Plan}
+use Rattle.trace_pass.specs.Plan.{size, word, place, Settled, GateStep, ArithmeticStep, ComparisonStep, Plan}
 
 abbrev pub at : List ℕ → ℕ → ℕ
 at due k = getD due k 0

@@ -1,26 +1,24 @@
 -- A cell's step in the plan, at the first of its outputs that is met. Assumes nothing.
 use Prim.Native.Nat.{ℕ, _+_, _*_, _≤_, _<_}
 use native.Mathlib.Omega.{arith}
-use mathlib.Core.Path.{_≡_, refl, sym, ap, subst, _∙_}
-use mathlib.Core.Bool.{true, false}
-use mathlib.Core.List.{List, [], _∷_, _++_, map}
+use mathlib.Core.Path.{_≡_, sym, ap, subst, _∙_}
+use mathlib.Core.List.{List, _++_, map}
 use lib.ListN.{length, take, drop, getD, set, length-take, length-drop, length-append, List·getD-append}
 use lib.Seq.{getD-take, getD-drop, getD-set-same, getD-set-other, take-append-seam}
 use Rattle.spec_tests.specs.Rules.{Fine}
-use Rattle.spec_rules.specs.Image.{absent}
 use Rattle.spec_rules.specs.NetlistImage as N
-use Rattle.spec_rules.specs.NetlistImage.{nodeWord, nodeAt, recordsOf, recordsWith, arithmeticOf, comparisonOf, netlist}
-use Rattle.spec_netlist.specs.Accept.{nets, countOf, accepts}
-use Rattle.law_told.specs.Told.{Told, told, Owner, owner, RightHere}
+use Rattle.spec_rules.specs.NetlistImage.{nodeWord, nodeAt, recordsWith, arithmeticOf, comparisonOf, netlist}
+use Rattle.spec_netlist.specs.Accept.{countOf, accepts}
+use Rattle.law_told.specs.Told.{told, owner}
 use Rattle.law_told.specs.Owned.{Own, Within}
 use Rattle.law_told.specs.Ordered.{ordered, noArithmetic, noComparison, belongs-cell, cell-number, arithmetic-cell, comparison-cell, arithmetic-there, comparison-there}
 use Rattle.law_sorts.specs.Found.{numbered}
 use Rattle.law_sorts.specs.Cells.{ArithmeticTold, ComparisonTold, arithmetic-told, comparison-told}
 use Rattle.trace_cells.specs.Digits.{Nets}
 use Rattle.trace_cells.specs.Cells.{leftOf, rightOf, outsOf, lesserOf, greaterOf}
-use Rattle.trace_walk.specs.Places.{Begins, Placed, Places}
-use Rattle.trace_pass.specs.Plan.{size, word, place}
-use Rattle.trace_pass.specs.Steps.{size-is, Due, ArithmeticWords, ArithmeticLists, ComparisonWords, arithmetic-step, comparison-step, arithmetic-cut, comparison-cut}
+use Rattle.trace_walk.specs.Places.{Begins, Places}
+use Rattle.trace_pass.specs.Plan.{size, place}
+use Rattle.trace_pass.specs.Steps.{size-is, ArithmeticWords, ArithmeticLists, ComparisonWords, arithmetic-step, comparison-step, arithmetic-cut, comparison-cut}
 use Rattle.trace_plan.specs.Building.{at, Building, Given, Pushed, only-new, given-one, pushed}
 use Rattle.trace_plan.specs.Marked.{Marked}
 use Rattle.trace_plan.specs.Kinds.{few-nets}

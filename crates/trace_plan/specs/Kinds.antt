@@ -10,14 +10,14 @@ use Rattle.spec_tests.specs.Rules.{_<?_, _≡?_, _or_, pick, Fine}
 use Rattle.spec_tests.specs.Laws.{yes-lt, no-lt, lt-yes, eq-yes, pick-hit, pick-skip, eq-no}
 use Rattle.spec_rules.specs.NetlistImage as N
 use Rattle.spec_rules.specs.NetlistImage.{netlist, nodeWord, nodeAt}
-use Rattle.spec_netlist.specs.Accept.{nets, inputCount, wrongNodeWord, accepts}
-use Rattle.law_told.specs.Told.{untrue, pick-no, Told, told, few, list-starts, node-right}
+use Rattle.spec_netlist.specs.Accept.{nets, wrongNodeWord, accepts}
+use Rattle.law_told.specs.Told.{untrue, pick-no, told, few, list-starts, node-right}
 use Rattle.law_told.specs.Ordered.{ordered}
 use Rattle.law_reads.specs.Reads.{nodeOf, isSource}
-use Rattle.trace_pass.specs.Plan.{size, word, GateStep}
+use Rattle.trace_pass.specs.Plan.{size, word}
 use Rattle.trace_pass.specs.Gates.{tableOf, Computed, constant, and-gate, or-gate, xor-gate, not-gate, mux, output, GateWords}
 use Rattle.trace_pass.specs.Steps.{size-is, node-is, gate-step, gate-lower}
-use Rattle.trace_plan.specs.Building.{at, Building, Given, Pushed, only-new, given-one, pushed}
+use Rattle.trace_plan.specs.Building.{at, Building, Pushed, only-new, given-one, pushed}
 
 pub kind-few : (ws : List ℕ) → accepts ws ≡ Fine → (k : ℕ) → k < nets ws → nodeWord ws k 0 ≤ 11
 unfolding wrongNodeWord

@@ -1,24 +1,24 @@
 -- The nets of a netlist's ports, read at the places of their records. Assumes nothing.
-use Prim.Native.Nat.{ℕ, zero, suc, _+_, _≤_, _<_}
+use Prim.Native.Nat.{ℕ, zero, suc, _+_, _≤_}
 use native.Mathlib.Numerals.{add-one}
 use native.Mathlib.Omega.{arith}
 use mathlib.Core.Path.{_≡_, refl, sym, ap, subst, _∙_}
 use mathlib.Core.Bool.{Bool, true, false}
 use mathlib.Core.List.{List, [], _∷_, _++_, map, append-assoc, append-nil}
-use lib.ListN.{length, take, drop, getD, length-drop, length-append, List·getD-append}
+use lib.ListN.{length, take, drop, getD, List·getD-append}
 use lib.Seq.{take-all, take-suc, take-append-seam}
-use Rattle.spec_tests.specs.Rules.{_≡?_, _<?_, pick, only, Fine}
+use Rattle.spec_tests.specs.Rules.{_≡?_, pick, only, Fine}
 use Rattle.spec_tests.specs.Laws.{pick-hit, pick-skip, eq-yes, eq-no}
-use Rattle.spec_rules.specs.NetlistImage.{nodeWord, recordsOf, recordsWith}
+use Rattle.spec_rules.specs.NetlistImage.{nodeWord, recordsWith}
 use Rattle.spec_rules.specs.Listing.{together}
 use Rattle.spec_netlist.specs.Accept.{accepts}
 use Rattle.spec_trace.specs.Opened.{portsWith, netsWith}
 use Rattle.law_told.specs.Told.{told}
 use Rattle.law_told.specs.Ordered.{only-append}
-use Rattle.law_told.specs.Ports.{PortTold, port-told}
-use Rattle.law_sorts.specs.Found.{Found, found, has-word}
-use Rattle.listing_text.specs.Text.{Wrote, wrote-none, wrote-same}
-use Rattle.trace_walk.specs.Places.{Begins, Placed, Places}
+use Rattle.law_told.specs.Ports.{port-told}
+use Rattle.law_sorts.specs.Found.{found, has-word}
+use Rattle.listing_text.specs.Text.{Wrote}
+use Rattle.trace_walk.specs.Places.{Begins, Places}
 
 -- the nets of the port whose record begins at word a, if they are of kind k
 unfoldable pub portNets : List ℕ → ℕ → ℕ → List ℕ

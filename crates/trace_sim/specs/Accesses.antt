@@ -1,23 +1,21 @@
 -- What a memory port's access reads on words is what the step rule reads on nets. Assumes nothing.
-use Prim.Native.Nat.{ℕ, zero, suc, _+_, _*_, _-_, _≤_, _<_}
-use native.Mathlib.Nat.{not-suc-le-zero}
+use Prim.Native.Nat.{ℕ, suc, _+_, _-_, _≤_, _<_}
 use native.Mathlib.Omega.{arith}
-use mathlib.Core.Path.{_≡_, refl, sym, ap, subst, _∙_}
-use mathlib.Core.Bool.{Bool, true, false, not, cond, _&&_}
-use mathlib.Core.List.{List, [], _∷_, _++_, map}
-use mathlib.Core.Option.{Option, none, some}
+use mathlib.Core.Path.{_≡_, refl, ap, _∙_}
+use mathlib.Core.Bool.{Bool, not}
+use mathlib.Core.List.{List, [], _∷_, map}
 use lib.ListN.{length, take, drop, getD, length-take, length-drop}
 use lib.Seq.{getD-take, getD-drop}
-use Rattle.spec_rtl.specs.Word.{bit, value}
+use Rattle.spec_rtl.specs.Word.{value}
 use Rattle.spec_rtl.specs.Ops.{xorB}
 use Rattle.spec_tests.specs.Rules.{_≡?_, Fine}
-use Rattle.spec_rules.specs.Image.{controlOf, optional}
-use Rattle.spec_rules.specs.NetlistImage.{nodeWord, portLists, portLength, memoryPortOf, netlist}
-use Rattle.spec_rules.specs.Step.{Setting, Contents, edge, active, enabled, net, netAccess}
+use Rattle.spec_rules.specs.Image.{controlOf}
+use Rattle.spec_rules.specs.NetlistImage.{nodeWord, portLists, memoryPortOf, netlist}
+use Rattle.spec_rules.specs.Step.{Setting, Contents, edge, net, netAccess}
 use Rattle.spec_netlist.specs.Accept.{nets, accepts}
 use Rattle.law_sorts.specs.Memories.{MemoryPortTold, own-length}
 use Rattle.law_sorts.specs.Cut.{lists-are}
-use Rattle.trace_pass.specs.Plan.{size, Valued}
+use Rattle.trace_pass.specs.Plan.{Valued}
 use Rattle.trace_pass.specs.Steps.{size-is}
 use Rattle.trace_step.specs.Words.{on}
 use Rattle.trace_sim.specs.Registers.{enabled-same, Inputs, on-old, on-new}

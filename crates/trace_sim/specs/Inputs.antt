@@ -7,7 +7,7 @@ use native.Mathlib.Decide.{decLt}
 use mathlib.Core.Path.{_≡_, refl, sym, ap, subst, _∙_}
 use mathlib.Core.Bool.{Bool, true, false}
 use mathlib.Core.List.{List, [], _∷_, _++_, map, append-assoc}
-use lib.ListN.{length, take, drop, getD, length-drop, length-append, List·getD-append}
+use lib.ListN.{length, drop, getD, length-drop, length-append, List·getD-append}
 use lib.Seq.{getD-drop}
 use Rattle.spec_tests.specs.Rules.{_<?_, _≡?_, _or_, _and_, pick, only, Fine}
 use Rattle.spec_tests.specs.Laws.{eq-yes, eq-no, yes-eq, lt-yes, and-miss, pick-hit, pick-skip}
@@ -15,11 +15,10 @@ use Rattle.spec_rules.specs.NetlistImage.{nodeWord, recordsOf, recordsWith}
 use Rattle.spec_rules.specs.Listing.{together}
 use Rattle.spec_netlist.specs.Accept.{nets, belongs, accepts}
 use Rattle.spec_trace.specs.Opened.{portsWith, netsWith, inputNets}
-use Rattle.spec_trace.specs.Trace.{settingBy, settingOf}
-use Rattle.law_told.specs.Told.{untrue, both, pick-yes, pick-no, Told, told, RightHere, Right, records-right, owner}
-use Rattle.law_told.specs.Owned.{Own, Within}
+use Rattle.spec_trace.specs.Trace.{settingBy}
+use Rattle.law_told.specs.Told.{untrue, both, pick-yes, pick-no, Told, told, Right, records-right, owner}
 use Rattle.law_told.specs.Ports.{PortTold, port-told, one-port}
-use Rattle.law_sorts.specs.Found.{ofSort, has-word, numbered}
+use Rattle.law_sorts.specs.Found.{ofSort, has-word}
 use Rattle.law_sorts.specs.Owners.{port-there, input-sort}
 
 abbrev kinds : List ℕ → ℕ → List (List ℕ) → List (List ℕ)

@@ -3,19 +3,18 @@ use Prim.Native.Nat.{ℕ, zero, suc, _+_, _*_, _-_, _≤_, _<_}
 use native.Mathlib.Nat.{not-suc-le-zero}
 use native.Mathlib.Omega.{arith}
 use native.Mathlib.Decide.{decLt, ℕ-discrete}
-use mathlib.Core.Path.{_≡_, refl, sym, ap, subst, _∙_}
-use mathlib.Core.Bool.{Bool, true, false, not, cond, _&&_}
-use mathlib.Core.List.{List, [], _∷_, _++_, map}
-use mathlib.Core.Option.{Option, none, some}
+use mathlib.Core.Path.{_≡_, refl, sym, ap, _∙_}
+use mathlib.Core.Bool.{Bool, true, false, cond, _&&_}
+use mathlib.Core.List.{List, [], _∷_, map}
 use lib.Dec.{ltb, eqb}
-use borrow.Author.Tests.{lt-ltb, le-ltb, eq-eqb, ne-eqb, eqb-true, ltb-true, ltb-false}
+use borrow.Author.Tests.{lt-ltb, eq-eqb, ne-eqb, eqb-true, ltb-true}
 use lib.ListN.{length, take, drop, getD, length-map}
 use lib.Seq.{getD-take, getD-drop}
-use Rattle.spec_rtl.specs.Word.{bit, value}
+use Rattle.spec_rtl.specs.Word.{bit}
 use Rattle.spec_tests.specs.Rules.{Fine}
 use Rattle.spec_rules.specs.NetlistImage.{nodeWord, memoryPortOf, netlist}
 use Rattle.spec_rules.specs.Step.{Setting, Contents, Access, net, netAccess, readNext, writeNext}
-use Rattle.spec_netlist.specs.Accept.{nets, accepts}
+use Rattle.spec_netlist.specs.Accept.{accepts}
 use Rattle.law_told.specs.Told.{untrue}
 use Rattle.law_sorts.specs.Memories.{MemoryPortTold}
 use Rattle.trace_pass.specs.Plan.{size, Valued}

@@ -1,28 +1,28 @@
 -- A register's next bit on words is what the step rule gives. Assumes nothing.
-use Prim.Native.Nat.{ℕ, zero, suc, _+_, _≤_, _<_}
+use Prim.Native.Nat.{ℕ, _<_}
 use native.Mathlib.Omega.{arith}
-use mathlib.Core.Path.{_≡_, refl, sym, ap, subst, _∙_}
-use mathlib.Core.Bool.{Bool, true, false, not, cond, _&&_}
-use mathlib.Core.List.{List, [], _∷_, _++_}
+use mathlib.Core.Path.{_≡_, refl, sym, ap, _∙_}
+use mathlib.Core.Bool.{Bool, true, false, not, _&&_}
+use mathlib.Core.List.{List, [], _∷_}
 use mathlib.Core.Option.{Option, none, some, Option·map}
 use lib.Dec.{eqb}
-use lib.ListN.{length, drop, getD, set}
+use lib.ListN.{length, getD}
 use Rattle.spec_rtl.specs.Word.{bit}
 use Rattle.spec_rtl.specs.Ops.{xorB}
 use Rattle.spec_rtl.specs.Rtl as R
-use Rattle.spec_tests.specs.Rules.{_≡?_, _≢?_, _or_, _and_, pick, Fine}
+use Rattle.spec_tests.specs.Rules.{_≡?_, _or_, _and_, pick, Fine}
 use Rattle.spec_tests.specs.Laws.{or-no, no-ne, no-eq, yes-eq, eq-yes, ne-yes}
 use Rattle.spec_rules.specs.Image.{absent, optional, controlOf, registerOf}
 use Rattle.spec_rules.specs.NetlistImage as N
 use Rattle.spec_rules.specs.NetlistImage.{nodeWord, recordsWith, registerBitOf, netlist}
-use Rattle.spec_rules.specs.Step.{Setting, Contents, Load, edge, active, perhaps, enabled, resets, registerNext, netLoad, resetBit, act, net, findBit, ofNetlist}
+use Rattle.spec_rules.specs.Step.{Setting, Contents, Load, edge, active, perhaps, enabled, resets, registerNext, netLoad, resetBit, act, net, ofNetlist}
 use Rattle.spec_netlist.specs.Accept.{accepts}
 use Rattle.spec_trace.specs.Opened.{noInput, registerUnfit}
 use Rattle.law_told.specs.Told.{untrue, and-second}
 use Rattle.trace_pass.specs.Plan.{size, Valued}
 use Rattle.trace_pass.specs.Steps.{size-is}
 use Rattle.trace_step.specs.Words.{on, registerBit}
-use Rattle.trace_sim.specs.Sources.{on-bit, input-net, register-net, RegisterAt, register-at, find-register}
+use Rattle.trace_sim.specs.Sources.{on-bit, input-net, register-net, register-at, find-register}
 
 resets-same : (asynchronous : Bool) (g h : ℕ → Bool) (r : List ℕ) → ((getD r 9 0 ≡ absent → ⊥) → not (xorB asynchronous (getD r 11 0 ≡? 1)) ≡ true → g (getD r 9 0) ≡ h (getD r 9 0))
     → resets asynchronous g (registerBitOf r .register .reset) ≡ resets asynchronous h (registerBitOf r .register .reset)

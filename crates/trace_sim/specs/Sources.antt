@@ -1,37 +1,34 @@
 -- The values of an accepted netlist's sources, and the records that the step rule finds for them. Assumes nothing.
-use Prim.Native.Nat.{ℕ, zero, suc, _+_, _-_, _≤_, _<_}
+use Prim.Native.Nat.{ℕ, zero, suc, _+_, _-_, _<_}
 use native.Mathlib.Nat.{not-suc-le-zero}
 use native.Mathlib.Omega.{arith}
-use native.Mathlib.Decide.{decLt}
-use mathlib.Core.Path.{_≡_, refl, sym, ap, subst, _∙_}
+use mathlib.Core.Path.{_≡_, refl, sym, ap, _∙_}
 use mathlib.Core.Bool.{Bool, true, false, cond, _&&_}
-use mathlib.Core.List.{List, [], _∷_, _++_, map}
-use mathlib.Core.Option.{Option, none, some}
+use mathlib.Core.List.{List, [], _∷_, map}
+use mathlib.Core.Option.{some}
 use lib.Dec.{eqb}
 use borrow.Author.Tests.{eqb-true, eq-eqb, ne-eqb}
 use lib.ListN.{length, take, drop, getD, length-take, length-drop}
 use lib.Seq.{getD-take, getD-drop}
 use Rattle.spec_rtl.specs.Word.{bit}
-use Rattle.spec_tests.specs.Rules.{_≡?_, pick, Fine}
+use Rattle.spec_tests.specs.Rules.{_≡?_, Fine}
 use Rattle.spec_tests.specs.Laws.{eq-yes, eq-no}
 use Rattle.spec_rules.specs.NetlistImage as N
-use Rattle.spec_rules.specs.NetlistImage.{nodeWord, nodeAt, portLists, recordsOf, recordsWith, registerBitOf, memoryPortOf, memoryOf, netlist}
-use Rattle.spec_rules.specs.Step.{Setting, Contents, net, nodeValue, findBit, findMemory, dataWidth, memoryBit, perhaps}
-use Rattle.spec_netlist.specs.Accept.{nets, belongs, member, secondData, ownNets, accepts}
-use Rattle.law_told.specs.Told.{untrue, pick-yes, pick-no, Told, told, Owner, owner}
+use Rattle.spec_rules.specs.NetlistImage.{nodeWord, nodeAt, recordsWith, registerBitOf, memoryPortOf, memoryOf, netlist}
+use Rattle.spec_rules.specs.Step.{Setting, Contents, net, nodeValue, findBit, findMemory, dataWidth, memoryBit}
+use Rattle.spec_netlist.specs.Accept.{belongs, member, secondData, ownNets, accepts}
+use Rattle.law_told.specs.Told.{untrue, pick-yes, pick-no, Told, told, owner}
 use Rattle.law_told.specs.Members.{member-here}
-use Rattle.law_told.specs.Owned.{Own, Spot, Within}
 use Rattle.law_told.specs.Ordered.{ordered, belongs-cell}
 use Rattle.law_told.specs.Ports.{unique}
 use Rattle.law_reads.specs.Reads.{net-is, member-there, member-left}
-use Rattle.law_sorts.specs.Found.{Found, found, numbered, has-word}
+use Rattle.law_sorts.specs.Found.{Found, found, has-word}
 use Rattle.law_sorts.specs.Registers.{RegisterTold, register-told}
-use Rattle.law_sorts.specs.Memories.{MemoryPortTold, MemoryTold, memory-told, own-length}
+use Rattle.law_sorts.specs.Memories.{MemoryTold, memory-told, own-length}
 use Rattle.law_sorts.specs.Cut.{lists-are}
-use Rattle.law_sorts.specs.Owners.{register-there, memory-there, register-sort, memory-sort, earlier-taken}
+use Rattle.law_sorts.specs.Owners.{earlier-taken}
 use Rattle.trace_pass.specs.Plan.{size}
-use Rattle.trace_pass.specs.Steps.{size-is, node-is}
-use Rattle.trace_step.specs.Words.{on}
+use Rattle.trace_pass.specs.Steps.{node-is}
 
 pub on-bit : (b : Bool) → (bit b ≡? 1) ≡ b
 unfolding _≡?_

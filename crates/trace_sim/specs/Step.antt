@@ -4,39 +4,38 @@ use native.Mathlib.Nat.{not-suc-le-zero}
 use native.Mathlib.Omega.{arith}
 use native.Mathlib.Decide.{decLt}
 use mathlib.Core.Path.{_≡_, refl, sym, ap, subst, _∙_}
-use mathlib.Core.Bool.{Bool, true, false, not, cond, _&&_}
+use mathlib.Core.Bool.{Bool, true, false, cond, _&&_}
 use mathlib.Core.Logic.{_⊎_, ⊎-elim}
-use mathlib.Core.List.{List, [], _∷_, _++_, map}
+use mathlib.Core.List.{List, [], _++_}
 use mathlib.Core.Option.{Option, none, some, Option·map}
 use lib.Dec.{ltb, eqb}
 use borrow.Author.Tests.{lt-ltb, le-ltb}
-use lib.ListN.{length, take, drop, getD, set, length-drop, List·getD-append}
-use lib.Seq.{getD-drop}
+use lib.ListN.{length, drop, getD, set, length-drop, List·getD-append}
 use Rattle.spec_rtl.specs.Word.{bit}
 use Rattle.spec_tests.specs.Rules.{_≡?_, _or_, pick, Fine}
 use Rattle.spec_tests.specs.Laws.{or-no, no-ne, eq-yes, eq-no, yes-eq, no-eq, sum-more}
 use Rattle.spec_rules.specs.NetlistImage as N
-use Rattle.spec_rules.specs.NetlistImage.{nodeWord, portLength, recordsWith, registerBitOf, memoryPortOf, memoryOf, netlist}
-use Rattle.spec_rules.specs.Step.{Setting, Contents, Access, Accesses, perhaps, act, net, netLoad, netAccess, netAccesses, findMemory, dataWidth, memoryBit, readNext, writeNext, dataNext, wordsNext, ofNetlist}
+use Rattle.spec_rules.specs.NetlistImage.{nodeWord, portLength, recordsWith, memoryPortOf, memoryOf, netlist}
+use Rattle.spec_rules.specs.Step.{Setting, Contents, Access, perhaps, act, net, netAccess, netAccesses, dataWidth, memoryBit, readNext, writeNext, dataNext, wordsNext, ofNetlist}
 use Rattle.spec_netlist.specs.Accept.{nets, belongs, member, secondData, countOf, accepts}
 use Rattle.spec_trace.specs.Opened.{noInput, registerUnfit, secondUnfit, memoryUnfit}
-use Rattle.law_told.specs.Told.{untrue, or-split, pick-yes, pick-no, told, owner}
+use Rattle.law_told.specs.Told.{or-split, pick-yes, pick-no, told, owner}
 use Rattle.law_told.specs.Members.{no-member, member-split}
 use Rattle.law_told.specs.Owned.{spot}
 use Rattle.law_told.specs.Ordered.{belongs-cell}
 use Rattle.law_reads.specs.Reads.{nodeOf, isSource}
 use Rattle.law_sorts.specs.Found.{numbered}
 use Rattle.law_sorts.specs.Owners.{register-there, memory-there, register-sort, memory-sort}
-use Rattle.law_sorts.specs.Memories.{MemoryPortTold, MemoryTold, own-length}
+use Rattle.law_sorts.specs.Memories.{MemoryTold, own-length}
 use Rattle.law_sorts.specs.Cut.{register-cut, port-cut, length-in, drop-in}
 use Rattle.trace_walk.specs.Places.{Begins, Places}
 use Rattle.trace_pass.specs.Plan.{size, Loaded, Valued}
 use Rattle.trace_pass.specs.Steps.{size-is}
 use Rattle.trace_plan.specs.Kinds.{is-source}
 use Rattle.trace_fit.specs.Fit.{bitsAt}
-use Rattle.trace_step.specs.Words.{on, registerBit, registerDone, registersDone, portRead, portWritten, secondWords, memoryRead, memoryWritten, baseAt, memoriesRead, memoriesWritten}
+use Rattle.trace_step.specs.Words.{registerBit, registerDone, registersDone, portRead, portWritten, secondWords, memoryRead, memoryWritten, baseAt, memoriesRead, memoriesWritten}
 use Rattle.trace_sim.specs.Moves.{Moves, moves-none, moves-then, moves-set}
-use Rattle.trace_sim.specs.Sources.{input-net, memory-net, RegisterAt, register-at, MemoryAt, memory-at, find-memory}
+use Rattle.trace_sim.specs.Sources.{input-net, memory-net, register-at, memory-at, find-memory}
 use Rattle.trace_sim.specs.Registers.{Inputs, register-wanted}
 use Rattle.trace_sim.specs.Accesses.{data-length, data-at}
 use Rattle.trace_sim.specs.Memories.{Rows, port-read, port-written, Written}

@@ -5,7 +5,7 @@ use native.Mathlib.Numerals.{add-one}
 use mathlib.Core.Path.{_≡_, refl, sym, ap, _∙_}
 use mathlib.Core.Bool.{Bool, true, false, not, cond, _&&_}
 use mathlib.Core.List.{List, [], _∷_}
-use mathlib.Core.Option.{Option, none, some}
+use mathlib.Core.Option.{none, some}
 use lib.Dec.{eqb}
 use lib.ListN.{length, drop, getD, set}
 use Rattle.spec_rtl.specs.Word.{bit}
@@ -15,7 +15,7 @@ use Rattle.spec_tests.specs.Rules.{_≡?_, pick}
 use Rattle.spec_tests.specs.Laws.{eq-yes, eq-no, eq-same, pick-hit, pick-skip}
 use Rattle.spec_rules.specs.Image.{absent, optional, controlOf, registerOf}
 use Rattle.spec_rules.specs.NetlistImage.{registerBitOf}
-use Rattle.spec_rules.specs.Step.{edge, active, perhaps, enabled, resets, registerNext, netLoad, resetBit}
+use Rattle.spec_rules.specs.Step.{edge, active, perhaps, enabled, resets, resetBit}
 use Rattle.law_told.specs.Told.{untrue}
 use Rattle.trace_step.specs.Words.{on, registerBit, registerDone, registersDone}
 

@@ -4,12 +4,11 @@ use Prim.Native.Nat.{ℕ, zero, suc, _+_, _*_}
 use mathlib.Core.Bool.{Bool, cond, _&&_}
 use mathlib.Core.List.{List, [], _∷_, map}
 use lib.Dec.{ltb}
-use lib.ListN.{length, take, drop, getD, set}
+use lib.ListN.{take, drop, getD, set}
 use Rattle.spec_rtl.specs.Word.{bit}
 use Rattle.spec_tests.specs.Rules.{_≡?_, pick, sumTo}
-use Rattle.spec_rules.specs.Image.{optional, controlOf}
 use Rattle.spec_rules.specs.NetlistImage.{portLength, registerBitOf, memoryPortOf}
-use Rattle.spec_rules.specs.Step.{edge, active, enabled, registerNext, netLoad, netAccess}
+use Rattle.spec_rules.specs.Step.{registerNext, netLoad, netAccess}
 use Rattle.trace_fit.specs.Fit.{bitsAt}
 
 -- the bit that a table of words has for net x

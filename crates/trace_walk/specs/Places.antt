@@ -1,7 +1,6 @@
 -- The places of the records of one sort in the image. Assumes nothing.
 use Prim.Native.Nat.{ℕ, _<_}
 use mathlib.Core.Path.{_≡_}
-use mathlib.Core.Bool.{Bool}
 use mathlib.Core.List.{List, [], _++_}
 use lib.ListN.{length, drop, getD}
 use Rattle.spec_rules.specs.NetlistImage.{recordsWith}

@@ -1,8 +1,8 @@
 -- `trace_fit::memory_bits` meets its contract. Assumes nothing.
 use Rattle.trace_fit.proofs.memory_bits.Statement.{statement}
 use Rattle.trace_fit.proofs.memory_bits.Tie as tie
-use Prim.Native.Nat.{_+_, _*_, _-_, _≤_, _<_}
-use mathlib.Core.Path.{_≡_, refl, sym, ap, _∙_}
+use Prim.Native.Nat.{_*_, _-_, _≤_}
+use mathlib.Core.Path.{_≡_, sym, _∙_}
 use native.Mathlib.Omega.{arith}
 use Rattle.spec_tests.specs.Rules.{sumTo}
 use Rattle.spec_tests.specs.Laws.{sum-none, sum-more}

@@ -1,7 +1,6 @@
 -- `trace_fit::port_unfit` meets its contract. Assumes nothing.
 use Rattle.trace_fit.proofs.port_unfit.Statement.{statement}
 use Rattle.trace_fit.proofs.port_unfit.Tie as tie
-use mathlib.Core.Path.{sym}
 use native.Mathlib.Omega.{arith}
 use Rattle.law_sorts.specs.Memories.{own-length}
 use Rattle.trace_fit.specs.Fit.{clock-at}

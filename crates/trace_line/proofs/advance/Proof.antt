@@ -1,8 +1,6 @@
 -- `trace_line::advance` meets its contract. Assumes nothing.
 use Rattle.trace_line.proofs.advance.Statement.{statement}
 use Rattle.trace_line.proofs.advance.Tie as tie
-use mathlib.Core.Path.{refl, sym, _∙_}
-use native.Mathlib.Omega.{arith}
 use Rattle.trace_line.specs.State.{memories-fit}
 use Rattle.trace_line.specs.Standing.{advance-ready, advance-after}
 use borrow.Author.Needs.{needs}

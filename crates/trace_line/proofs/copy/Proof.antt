@@ -1,7 +1,7 @@
 -- `trace_line::copy` meets its contract. Assumes nothing.
 use Rattle.trace_line.proofs.copy.Statement.{statement}
 use Rattle.trace_line.proofs.copy.Tie as tie
-use Prim.Native.Nat.{_-_, _≤_}
+use Prim.Native.Nat.{_-_}
 use mathlib.Core.Path.{_≡_, sym, _∙_}
 use native.Mathlib.Omega.{arith}
 use lib.ListN.{length}

@@ -2,7 +2,6 @@
 use Rattle.trace_line.proofs.digit_of.Statement.{statement}
 use Rattle.trace_line.proofs.digit_of.Tie as tie
 use Rattle.trace_line.specs.Text.{digit-yes, digit-no}
-use borrow.Author.Needs.{needs}
 
 returns : tie.Need-returns
 returns c = digit-yes _ (c .if1 .taken)

@@ -1,7 +1,7 @@
 -- `trace_line::load_line` meets its contract. Assumes nothing.
 use Rattle.trace_line.proofs.load_line.Statement.{statement}
 use Rattle.trace_line.proofs.load_line.Tie as tie
-use Prim.Native.Nat.{_-_, _≤_}
+use Prim.Native.Nat.{_-_}
 use mathlib.Core.Path.{_≡_, refl, sym, _∙_}
 use lib.ListN.{length}
 use Rattle.trace_memory.specs.Spread.{Spreading, spread-start, spread-more, spread-end}

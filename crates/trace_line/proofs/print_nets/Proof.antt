@@ -1,9 +1,8 @@
 -- `trace_line::print_nets` meets its contract. Assumes nothing.
 use Rattle.trace_line.proofs.print_nets.Statement.{statement}
 use Rattle.trace_line.proofs.print_nets.Tie as tie
-use Prim.Native.Nat.{_-_, _≤_}
+use Prim.Native.Nat.{_-_}
 use mathlib.Core.Path.{_∙_, ap}
-use native.Mathlib.Omega.{arith}
 use mathlib.Core.List.{map}
 use lib.ListN.{length, take}
 use Rattle.spec_trace.specs.Trace.{digit}

@@ -3,7 +3,6 @@ use Rattle.trace_lines.proofs.is_wrong_letter.Statement.{statement}
 use Rattle.trace_lines.proofs.is_wrong_letter.Tie as tie
 use mathlib.Core.Path.{refl}
 use Rattle.spec_tests.specs.Laws.{and-miss, and-skip, ne-no, ne-yes, ne-same}
-use borrow.Author.Needs.{needs}
 
 returns : tie.Need-returns
 returns c = and-miss _ (ne-no _ _ (c .if1 .taken))

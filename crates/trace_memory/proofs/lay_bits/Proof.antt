@@ -1,7 +1,7 @@
 -- `trace_memory::lay_bits` meets its contract. Assumes nothing.
 use Rattle.trace_memory.proofs.lay_bits.Statement.{statement}
 use Rattle.trace_memory.proofs.lay_bits.Tie as tie
-use Prim.Native.Nat.{_-_, _≤_}
+use Prim.Native.Nat.{_-_}
 use mathlib.Core.Path.{_≡_, refl, sym, ap, _∙_}
 use native.Mathlib.Omega.{arith}
 use lib.ListN.{length, length-set}

@@ -1,10 +1,7 @@
 -- `trace_memory::number` meets its contract. Assumes nothing.
 use Rattle.trace_memory.proofs.number.Statement.{statement}
 use Rattle.trace_memory.proofs.number.Tie as tie
-use Prim.Native.Nat.{_≤_, _<_}
-use mathlib.Core.Path.{_≡_, refl}
 use native.Mathlib.Omega.{arith}
-use lib.ListN.{length}
 use Rattle.spec_rtl.specs.Word.{bit-lt}
 use Rattle.trace_memory.specs.Spread.{Numbering, numbering-start, numbering-low, numbering-more, numbering-end}
 use borrow.Author.Needs.{needs}

@@ -1,8 +1,6 @@
 -- `trace_memory::read_port` meets its contract. Assumes nothing.
 use Rattle.trace_memory.proofs.read_port.Statement.{statement}
 use Rattle.trace_memory.proofs.read_port.Tie as tie
-use mathlib.Core.Path.{refl}
-use Prim.Native.Nat.{_+_}
 use native.Mathlib.Omega.{arith}
 use Rattle.law_sorts.specs.Memories.{own-length}
 use Rattle.trace_memory.specs.Ports.{row-in, stretch-few, tick-is, reads-is, read-at-is, read-data-is, read-still, read-shut, read-past, read-word}

@@ -1,9 +1,8 @@
 -- `trace_memory::spread_words` meets its contract. Assumes nothing.
 use Rattle.trace_memory.proofs.spread_words.Statement.{statement}
 use Rattle.trace_memory.proofs.spread_words.Tie as tie
-use Prim.Native.Nat.{_-_, _≤_}
+use Prim.Native.Nat.{_-_}
 use mathlib.Core.Path.{_≡_, refl, sym, _∙_}
-use native.Mathlib.Omega.{arith}
 use lib.ListN.{length}
 use Rattle.trace_step.specs.Words.{identity}
 use Rattle.trace_memory.specs.Spread.{Spreading, spread-start, spread-more, spread-end}

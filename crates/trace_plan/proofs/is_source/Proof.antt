@@ -3,7 +3,6 @@ use Rattle.trace_plan.proofs.is_source.Statement.{statement}
 use Rattle.trace_plan.proofs.is_source.Tie as tie
 use mathlib.Core.Path.{refl}
 use Rattle.spec_tests.specs.Laws.{or-hit, or-skip, eq-yes, eq-no, eq-same}
-use borrow.Author.Needs.{needs}
 
 returns : tie.Need-returns
 returns c = or-hit _ (eq-yes _ _ (c .if1 .taken))

@@ -3,7 +3,6 @@ use Rattle.trace_plan.proofs.lower_net.Statement.{statement}
 use Rattle.trace_plan.proofs.lower_net.Tie as tie
 use mathlib.Core.Path.{refl}
 use Rattle.spec_tests.specs.Laws.{pick-hit, pick-skip, lt-yes, lt-no}
-use borrow.Author.Needs.{needs}
 
 returns : tie.Need-returns
 returns c = pick-hit _ (lt-yes _ _ (c .if1 .taken)) refl

@@ -2,7 +2,7 @@
 use Rattle.trace_plan.proofs.mark_all.Statement.{statement}
 use Rattle.trace_plan.proofs.mark_all.Tie as tie
 use Prim.Native.Nat.{_-_, _≤_}
-use mathlib.Core.Path.{_≡_, refl, sym, ap, _∙_, subst}
+use mathlib.Core.Path.{_≡_, refl, sym, _∙_}
 use native.Mathlib.Omega.{arith}
 use lib.ListN.{length}
 use Rattle.trace_plan.specs.Marked.{Marked, mark-start, mark-more, mark-end}

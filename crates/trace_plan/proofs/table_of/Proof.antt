@@ -1,7 +1,6 @@
 -- `trace_plan::table_of` meets its contract. Assumes nothing.
 use Rattle.trace_plan.proofs.table_of.Statement.{statement}
 use Rattle.trace_plan.proofs.table_of.Tie as tie
-use mathlib.Core.Path.{sym}
 use Rattle.trace_plan.specs.Kinds.{constant-one, constant-zero, table-other}
 use borrow.Author.Needs.{needs}
 

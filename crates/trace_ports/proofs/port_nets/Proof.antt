@@ -3,7 +3,6 @@ use Rattle.trace_ports.proofs.port_nets.Statement.{statement}
 use Rattle.trace_ports.proofs.port_nets.Tie as tie
 use Prim.Native.Nat.{_≤_, _-_}
 use native.Mathlib.Omega.{arith}
-use lib.ListN.{length}
 use Rattle.listing_text.specs.Text.{Wrote, wrote-none, wrote-same, wrote-more}
 use Rattle.trace_ports.specs.Ports.{joined, joined-none, joined-more, joined-all}
 use borrow.Author.Needs.{needs}

@@ -1,7 +1,6 @@
 -- `trace_ports::put_port` meets its contract. Assumes nothing.
 use Rattle.trace_ports.proofs.put_port.Statement.{statement}
 use Rattle.trace_ports.proofs.put_port.Tie as tie
-use mathlib.Core.Path.{sym}
 use Rattle.listing_text.specs.Text.{wrote-none, wrote-same}
 use Rattle.trace_ports.specs.Ports.{port-other, port-of-kind}
 use borrow.Author.Needs.{needs}
