@@ -1,7 +1,7 @@
 //! Comparing the port with docs/RULES.md: cases, limits, the call with guarded
 //! buffers, what must be in them afterwards, shrinking, and the replay list; parts
-//! of the port with struo's own functions; and netlists taken back in with the
-//! reading of refusal 11. Also how calls are timed.
+//! of the port with struo's own functions; netlists taken back in with the reading
+//! of refusal 11; and the trace program with the oracle's. Also how calls are timed.
 
 pub mod args;
 pub mod builds;
@@ -24,6 +24,7 @@ pub mod shrunk;
 pub mod subject;
 pub mod tables;
 pub mod timing;
+pub mod traces;
 
 /// Number and two places; all 0 for acceptance.
 pub type Answer = [u32; 3];

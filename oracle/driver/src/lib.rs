@@ -1,8 +1,8 @@
 //! The oracle: runs struo's own lowering on module images and gives its answers
 //! in the form of docs/RULES.md and docs/FORMATS.md (netlist images, refusals, the
 //! listing's text).
-//! Also holds two simulators that follow the step rule, one for modules and one
-//! for netlists.
+//! Also holds simulators that follow the step rule, one for modules and two for
+//! netlists, and the trace program over one of these.
 
 mod big_stack;
 mod building;
@@ -14,6 +14,8 @@ mod netlist_sim;
 mod prepared;
 mod rtl;
 mod simulation;
+mod trace;
+mod trace_sim;
 mod validated;
 mod words;
 
@@ -33,6 +35,8 @@ pub use module_sim::ModuleSim;
 pub use netlist_sim::NetlistSim;
 pub use prepared::{Lowered, Prepared};
 pub use simulation::{Contents, NoRun, Observation, Setting, random_word};
+pub use trace::{TraceProgram, trace};
+pub use trace_sim::TraceSim;
 pub use validated::Rebuilt;
 pub use words::words;
 

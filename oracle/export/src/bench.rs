@@ -218,7 +218,7 @@ impl Writer<'_> {
         let setting = &self.run.settings[number];
         let bit = |event: &Event| match *event {
             Event::Reset { low, .. } if !resets => low,
-            Event::Clock { signal } | Event::Reset { signal, .. } => setting[&signal][0],
+            Event::Clock { signal, bit } | Event::Reset { signal, bit, .. } => setting[&signal][bit as usize],
         };
         let bits: Vec<bool> = self.sides[0].event_port.events.iter().map(bit).collect();
         if bits.is_empty() {

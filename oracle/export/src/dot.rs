@@ -174,7 +174,7 @@ impl Picture<'_> {
 
     fn registers(&mut self) {
         let netlist = self.netlist;
-        for (register, width) in (0..).zip(netlist.register_widths()) {
+        for (register, width) in (0..).zip(netlist.register_widths()).filter(|(_, width)| *width > 0) {
             let records = || {
                 netlist
                     .registers
@@ -213,8 +213,9 @@ impl Picture<'_> {
 
     fn memories(&mut self) {
         let netlist = self.netlist;
-        for (number, memory) in netlist.memories.iter().enumerate() {
-            let label = self.named(|image| &image.memories[number]);
+        for memory in &netlist.memories {
+            let number = memory.number;
+            let label = self.named(|image| &image.memories[number as usize]);
             let label = label.unwrap_or_else(|| format!("m{number}"));
             let (mut left, mut events) = (Vec::new(), Vec::new());
             for (port, letter) in memory.ports.iter().zip(["a", "b"]) {

@@ -13,6 +13,8 @@ mod needed;
 mod netlist_verilog;
 pub mod opened;
 pub mod tools;
+pub mod trace_bench;
+pub mod traces;
 mod verilog;
 pub mod witness;
 

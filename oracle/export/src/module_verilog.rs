@@ -207,7 +207,7 @@ impl<'a> Writer<'a> {
     fn reset_level(&self, record: &[u32; 12]) -> clocked::Level {
         let (signal, low) = (record[8], record[9] == 1);
         let wire = if record[10] == 1 {
-            self.event(Event::Reset { signal, low }, signal)
+            self.event(Event::Reset { signal, bit: 0, low }, signal)
         } else {
             self.signals[signal as usize].clone()
         };
@@ -222,7 +222,7 @@ impl<'a> Writer<'a> {
     }
 
     fn clock(&self, signal: u32, edge: u32) -> clocked::Clock {
-        let wire = self.event(Event::Clock { signal }, signal);
+        let wire = self.event(Event::Clock { signal, bit: 0 }, signal);
         clocked::Clock {
             wire,
             falling: edge == 1,
@@ -295,19 +295,21 @@ fn events(image: &Image) -> Result<Vec<Event>, String> {
     for register in &image.registers {
         events.insert(Event::Clock {
             signal: register[4],
+            bit: 0,
         });
         if register[8] != ABSENT && register[10] == 1 {
             events.insert(Event::Reset {
                 signal: register[8],
+                bit: 0,
                 low: register[9] == 1,
             });
         }
     }
     for port in image.memories.iter().flat_map(ports) {
-        events.insert(Event::Clock { signal: port[8] });
+        events.insert(Event::Clock { signal: port[8], bit: 0 });
     }
     let signal = |event: &Event| match *event {
-        Event::Clock { signal } | Event::Reset { signal, .. } => signal,
+        Event::Clock { signal, .. } | Event::Reset { signal, .. } => signal,
     };
     match events
         .iter()

@@ -35,7 +35,8 @@ pub fn netlist_verilog(
 struct Writer<'a> {
     netlist: &'a Netlist,
     names: Names,
-    ports: BTreeMap<u32, String>,
+    /// By signal and whether it is an input.
+    ports: BTreeMap<(u32, bool), String>,
     nets: Vec<String>,
     registers: Vec<String>,
     memories: Vec<String>,
@@ -55,7 +56,7 @@ impl<'a> Writer<'a> {
         let ports = netlist
             .ports
             .iter()
-            .map(|port| (port.signal, named(&mut names, port.signal)));
+            .map(|port| ((port.signal, port.input), named(&mut names, port.signal)));
         let ports = ports.collect();
         Ok(Writer {
             netlist,
@@ -101,7 +102,7 @@ impl<'a> Writer<'a> {
         let ports = self.netlist.ports.iter().map(|port| {
             let direction = if port.input { "input" } else { "output" };
             let width = range(port.nets.len() as u32);
-            format!("{direction} wire {width}{}", self.ports[&port.signal])
+            format!("{direction} wire {width}{}", self.ports[&(port.signal, port.input)])
         });
         ports.chain(self.event_port.declaration()).collect()
     }
@@ -115,7 +116,8 @@ impl<'a> Writer<'a> {
         for (name, cell) in self.arithmetic.iter().zip(&self.netlist.arithmetic) {
             text += &format!("  wire {}{name};\n", range(cell.lhs.len() as u32));
         }
-        for (name, width) in self.registers.iter().zip(self.netlist.register_widths()) {
+        let registers = self.registers.iter().zip(self.netlist.register_widths());
+        for (name, width) in registers.filter(|(_, width)| *width > 0) {
             text += &format!("  reg {}{name};\n", range(width));
         }
         for (names, memory) in self.read_data.iter().zip(&self.netlist.memories) {
@@ -136,7 +138,7 @@ impl<'a> Writer<'a> {
     fn value(&self, node: &Node) -> String {
         match *node {
             Node::Input { signal, bit } => {
-                select(&self.ports[&signal], self.port_width(signal), bit, 1)
+                select(&self.ports[&(signal, true)], self.input_width(signal), bit, 1)
             }
             Node::Constant(value) => format!("1'b{}", u32::from(value)),
             Node::And(a, b) => format!("{} & {}", self.net(a), self.net(b)),
@@ -165,7 +167,7 @@ impl<'a> Writer<'a> {
                     1,
                 )
             }
-            Node::MemoryOutput { memory, bit } => self.memory_output(memory as usize, bit),
+            Node::MemoryOutput { memory, bit } => self.memory_output(memory, bit),
             Node::ArithmeticOutput { cell, bit } => {
                 let width = self.netlist.arithmetic[cell as usize].lhs.len() as u32;
                 select(&self.arithmetic[cell as usize], width, bit, 1)
@@ -176,13 +178,16 @@ impl<'a> Writer<'a> {
         }
     }
 
-    fn port_width(&self, signal: u32) -> u32 {
-        let port = self.netlist.ports.iter().find(|port| port.signal == signal);
+    fn input_width(&self, signal: u32) -> u32 {
+        let mut inputs = self.netlist.ports.iter().filter(|port| port.input);
+        let port = inputs.find(|port| port.signal == signal);
         port.map_or(1, |port| port.nets.len() as u32)
     }
 
     /// A second port's bits number on.
-    fn memory_output(&self, memory: usize, bit: u32) -> String {
+    fn memory_output(&self, number: u32, bit: u32) -> String {
+        let mut memories = self.netlist.memories.iter();
+        let memory = memories.position(|memory| memory.number == number).expect("a memory of the list");
         let width = self.netlist.memories[memory].ports[0].read_data.len() as u32;
         select(
             &self.read_data[memory][(bit / width) as usize],
@@ -197,7 +202,7 @@ impl<'a> Writer<'a> {
         let line = |port: &image::netlist::Port| {
             format!(
                 "  assign {} = {};\n",
-                self.ports[&port.signal],
+                self.ports[&(port.signal, false)],
                 self.joined(&port.nets)
             )
         };
@@ -264,8 +269,8 @@ impl<'a> Writer<'a> {
     fn reset_level(&self, control: Control, asynchronous: bool) -> clocked::Level {
         let low = control.low;
         match self.netlist.nodes[control.net as usize] {
-            Node::Input { signal, .. } if asynchronous => {
-                let wire = self.event(Event::Reset { signal, low }, control.net);
+            Node::Input { signal, bit } if asynchronous => {
+                let wire = self.event(Event::Reset { signal, bit, low }, control.net);
                 clocked::Level { wire, low }
             }
             _ => self.level(control),
@@ -274,7 +279,7 @@ impl<'a> Writer<'a> {
 
     fn clock(&self, net: Net, falling: bool) -> clocked::Clock {
         let wire = match self.netlist.nodes[net as usize] {
-            Node::Input { signal, .. } => self.event(Event::Clock { signal }, net),
+            Node::Input { signal, bit } => self.event(Event::Clock { signal, bit }, net),
             _ => self.net(net).to_string(),
         };
         clocked::Clock { wire, falling }
@@ -372,28 +377,24 @@ fn read_data_names(names: &mut Names, netlist: &Netlist) -> Vec<Vec<String>> {
 
 /// Clocks and asynchronous resets, each once; all must be inputs.
 fn events(netlist: &Netlist) -> Result<Vec<Event>, String> {
-    let signal = |net: Net| match netlist.nodes[net as usize] {
-        Node::Input { signal, .. } => Ok(signal),
+    let input = |net: Net| match netlist.nodes[net as usize] {
+        Node::Input { signal, bit } => Ok((signal, bit)),
         _ => Err(format!(
             "net {net} is a clock or asynchronous reset and no input"
         )),
     };
+    let clocks = netlist.registers.iter().map(|record| record.clock);
+    let ports = netlist.memories.iter().flat_map(|memory| &memory.ports);
     let mut events = BTreeSet::new();
-    for record in &netlist.registers {
-        events.insert(Event::Clock {
-            signal: signal(record.clock)?,
-        });
-        if let (Some(reset), true) = (record.reset, record.asynchronous) {
-            events.insert(Event::Reset {
-                signal: signal(reset.net)?,
-                low: reset.low,
-            });
-        }
+    for clock in clocks.chain(ports.map(|port| port.clock)) {
+        let (signal, bit) = input(clock)?;
+        events.insert(Event::Clock { signal, bit });
     }
-    for port in netlist.memories.iter().flat_map(|memory| &memory.ports) {
-        events.insert(Event::Clock {
-            signal: signal(port.clock)?,
-        });
+    for record in netlist.registers.iter().filter(|record| record.asynchronous) {
+        if let Some(reset) = record.reset {
+            let (signal, bit) = input(reset.net)?;
+            events.insert(Event::Reset { signal, bit, low: reset.low });
+        }
     }
     Ok(events.into_iter().collect())
 }

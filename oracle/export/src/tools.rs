@@ -105,16 +105,29 @@ pub fn simulate(
     for (name, text) in &bench.files {
         place.write(name, text)?;
     }
-    let compile = [
-        "-g2012",
-        "-s",
-        "bench",
-        "-o",
-        "bench.vvp",
-        "rtl.v",
-        "netlist.v",
-        "bench.v",
-    ];
+    compiled_and_run(place, &["bench"], &["rtl.v", "netlist.v", "bench.v"])
+}
+
+/// What Icarus prints for benches that begin with these modules; every file whose
+/// name ends in `.v` is compiled.
+pub fn simulate_benches(
+    place: &Workplace,
+    files: &[(String, String)],
+    tops: &[String],
+) -> Result<String, String> {
+    for (name, text) in files {
+        place.write(name, text)?;
+    }
+    let names = files.iter().map(|(name, _)| name.as_str());
+    let sources: Vec<&str> = names.filter(|name| name.ends_with(".v")).collect();
+    let tops: Vec<&str> = tops.iter().map(String::as_str).collect();
+    compiled_and_run(place, &tops, &sources)
+}
+
+fn compiled_and_run(place: &Workplace, tops: &[&str], sources: &[&str]) -> Result<String, String> {
+    let mut compile = vec!["-g2012", "-o", "bench.vvp"];
+    compile.extend(tops.iter().flat_map(|top| ["-s", top]));
+    compile.extend(sources);
     let late = |program: &str| format!("{program} did not end in {MOST_TIME:?}");
     let (printed, good) = place
         .run("iverilog", &compile)?

@@ -16,10 +16,11 @@ pub enum Style {
 /// A bit of the event port.
 #[derive(Clone, Copy, PartialEq, Eq, PartialOrd, Ord, Debug)]
 pub enum Event {
-    /// A clock input.
-    Clock { signal: u32 },
-    /// An asynchronous reset input as registers of this polarity see it.
-    Reset { signal: u32, low: bool },
+    /// A bit of an input that is a clock.
+    Clock { signal: u32, bit: u32 },
+    /// A bit of an input that is an asynchronous reset, as registers of this
+    /// polarity see it.
+    Reset { signal: u32, bit: u32, low: bool },
 }
 
 /// The event port, if there is one, declared last; and its bits, bit 0 first.

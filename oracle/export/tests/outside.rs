@@ -3,6 +3,7 @@
 
 use export::bench::{Run, bench};
 use export::tools::{Proof, Workplace, is_installed, prove_equal, simulate};
+use export::traces::{first_difference, icarus, traced};
 use export::witness::{Counts, Effort, witness};
 use export::{Netlist, Style, module_verilog, netlist_verilog};
 use image::{BINARY_OPS, Builder, Image, Random, UNARY_OPS, assemble};
@@ -237,6 +238,26 @@ fn icarus_shows_a_wrong_netlist() {
     let printed = simulate(&place, &rtl.text, &wrong, &bench).expect("a run");
     assert_eq!(bench.expected, "module output 1 10\nnetlist output 1 10\n");
     assert_eq!(printed, "module output 1 10\nnetlist output 1 01\n");
+}
+
+/// Netlists made by hand among them: register bits with gaps, memories in any order,
+/// carries of every operation, clocks that are bits of a port.
+#[test]
+fn traces_by_icarus() {
+    if !installed(&["iverilog", "vvp"]) {
+        return;
+    }
+    let traced = driver::with_big_stack(|| traced(5, 0, 40));
+    let theirs = icarus(&traced).unwrap_or_else(|problem| panic!("{problem}"));
+    for (traced, theirs) in traced.iter().zip(&theirs) {
+        assert_eq!(
+            first_difference(&traced.text, theirs),
+            None,
+            "{}",
+            traced.number
+        );
+    }
+    assert!(first_difference(&traced[1].text, &traced[0].text).is_some());
 }
 
 #[test]

@@ -1,6 +1,8 @@
 //! The texts that are written for small images.
 
+use export::trace_bench::{Run, trace_bench};
 use export::{Netlist, Style, dot::dot, module_verilog, netlist_verilog};
+use image::netlist_parts::{exact, input, output, register, register_output};
 use image::{Image, assemble};
 
 const LIMIT: u32 = 1_024;
@@ -150,4 +152,28 @@ fn an_image_of_another_netlist_is_refused() {
     let netlist = netlist(&image(LISTING));
     assert!(netlist_verilog(&netlist, Some(&other), "netlist", Style::Plain).is_err());
     assert!(dot(&netlist, Some(&other)).is_err());
+}
+
+/// An input port of two bits whose second is a clock, a register bit alone, two lines.
+#[test]
+fn the_bench_of_a_trace() {
+    let nodes = [input(4, 0), input(4, 1), register_output(2, 3), output(4, 0, 2)];
+    let mut bit = register(2, 3, 2);
+    bit[5] = 1;
+    let netlist = Netlist::decode(&exact(&nodes, &[&[0, 4, 1, 3], &bit, &[0, 4, 2, 0, 1]])).expect("a netlist");
+    let lines = ["00".to_string(), "01".to_string()];
+    let bench = trace_bench(&[Run { netlist: &netlist, lines: &lines }]).expect("a bench");
+    assert_eq!(bench.tops, ["bench0"]);
+    assert_eq!(bench.files[1], ("trace0.txt".to_string(), "00\n01\n".to_string()));
+    let text = &bench.files[0].1;
+    for part in [
+        "output wire s4,\n  input wire [1:0] s4_,\n  input wire [0:0] events\n",
+        "  reg [3:0] r2;\n",
+        "always @(posedge events[0])\n    r2[3] <= n0;\n",
+        "  netlist0 dut ({out[0]}, {in[1], in[0]}, events);\n",
+        "    events = {next[1]};\n    in = next;\n    #1;\n    dut.r2 = 0;\n    #1 $display(\"0 %b\", out);\n",
+        "for (line = 1; line < 2; line = line + 1)",
+    ] {
+        assert!(text.contains(part), "{part:?} is not in\n{text}");
+    }
 }

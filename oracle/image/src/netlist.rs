@@ -1,6 +1,6 @@
 //! The netlist image (docs/FORMATS.md), read from its words alone into nodes and
 //! records. Whatever would make a wrong value, listing, drawing or Verilog is
-//! refused with one line of text.
+//! refused with one line of text; what refusal 11 lets pass is read.
 
 use crate::format::ABSENT;
 use std::collections::BTreeSet;
@@ -95,6 +95,7 @@ pub struct RegisterBit {
 
 /// A memory.
 pub struct Memory {
+    pub number: u32,
     pub depth: u32,
     pub ports: Vec<MemoryPort>,
 }
@@ -178,7 +179,7 @@ impl Netlist {
         match list.word()? {
             0 => self.ports.push(list.port(&self.nodes)?),
             1 => self.registers.push(list.register()?),
-            2 => self.memories.push(list.memory(self.memories.len())?),
+            2 => self.memories.push(list.memory()?),
             3 => self.arithmetic.push(list.arithmetic()?),
             4 => self.comparisons.push(list.comparison()?),
             sort => return Err(format!("no record of sort {sort}")),
@@ -225,7 +226,7 @@ impl Netlist {
                 return Err(format!("net {net} is below an operand of its cell"));
             }
         }
-        self.check_register_bits()
+        self.check_numbers()
     }
 
     /// The nodes that the records ask for.
@@ -239,7 +240,8 @@ impl Netlist {
         for &RegisterBit { register, bit, output, .. } in &self.registers {
             nodes.push((output, Node::RegisterOutput { register, bit }));
         }
-        for (memory, record) in (0..).zip(&self.memories) {
+        for record in &self.memories {
+            let memory = record.number;
             let nets: Vec<Net> = record
                 .ports
                 .iter()
@@ -281,28 +283,22 @@ impl Netlist {
         }
     }
 
-    /// Registers number from 0, and the bits of each from 0.
-    fn check_register_bits(&self) -> Result<(), String> {
+    /// No register bit and no memory has two records.
+    fn check_numbers(&self) -> Result<(), String> {
         let bits: BTreeSet<(u32, u32)> =
             self.registers.iter().map(|r| (r.register, r.bit)).collect();
-        let follows =
-            |&(register, bit): &(u32, u32)| match (register.checked_sub(1), bit.checked_sub(1)) {
-                (_, Some(below)) => bits.contains(&(register, below)),
-                (Some(before), None) => bits.contains(&(before, 0)),
-                (None, None) => true,
-            };
+        let memories: BTreeSet<u32> = self.memories.iter().map(|m| m.number).collect();
         if bits.len() != self.registers.len() {
             return Err("a register bit has two records".to_string());
         }
-        match bits.iter().find(|place| !follows(place)) {
-            Some((register, bit)) => Err(format!(
-                "nothing stands before register {register}, bit {bit}"
-            )),
-            None => Ok(()),
+        if memories.len() != self.memories.len() {
+            return Err("a memory has two records".to_string());
         }
+        Ok(())
     }
 
-    /// How many registers there are, and the width of each.
+    /// The width of each register up to the highest that is there: 0 where it has no
+    /// bit, else one more than its highest bit.
     pub fn register_widths(&self) -> Vec<u32> {
         let count = self
             .registers
@@ -472,17 +468,17 @@ impl List<'_> {
         })
     }
 
-    fn memory(&mut self, number: usize) -> Result<Memory, String> {
-        let [index, depth, _style, _latency, ports] = [
+    fn memory(&mut self) -> Result<Memory, String> {
+        let [number, depth, _style, _latency, ports] = [
             self.word()?,
             self.word()?,
             self.word()?,
             self.word()?,
             self.word()?,
         ];
-        if index as usize != number || depth == 0 || !(1..=2).contains(&ports) {
+        if depth == 0 || !(1..=2).contains(&ports) {
             return Err(format!(
-                "memory {index} of depth {depth} with {ports} ports, the {number}. in order"
+                "memory {number} of depth {depth} with {ports} ports"
             ));
         }
         let ports: Vec<MemoryPort> = (0..ports)
@@ -495,7 +491,7 @@ impl List<'_> {
         {
             return Err("its words have different widths".to_string());
         }
-        Ok(Memory { depth, ports })
+        Ok(Memory { number, depth, ports })
     }
 
     fn memory_port(&mut self) -> Result<MemoryPort, String> {
@@ -514,7 +510,7 @@ impl List<'_> {
 
     fn arithmetic(&mut self) -> Result<Arithmetic, String> {
         let (operation, width, carry) = (self.word()?, self.word()?, self.word()?);
-        if operation > 2 || carry != ABSENT && (operation != 0 || carry as usize >= self.nets) {
+        if operation > 2 || carry != ABSENT && carry as usize >= self.nets {
             return Err(format!("operation {operation} with carry {carry}"));
         }
         Ok(Arithmetic {

@@ -259,7 +259,7 @@ impl Records<'_> {
 }
 
 /// Cells are numbered by the order of their records.
-fn number_cells(nodes: &mut [Node], records: &[Vec<u32>]) {
+pub fn number_cells(nodes: &mut [Node], records: &[Vec<u32>]) {
     for (sort, head) in [(3, 4), (4, 3)] {
         for (cell, record) in (0..).zip(records.iter().filter(|record| record[0] == sort)) {
             let outputs = &record[head + 2 * record[2] as usize..];

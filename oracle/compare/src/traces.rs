@@ -1,0 +1,15 @@
+//! Runs of netlists over traces (request Q-4): inputs of the trace program that are
+//! lowered, made by hand or damaged, and what it prints, held against the oracle's
+//! trace program.
+
+pub mod cases;
+pub mod heavy;
+pub mod limits;
+pub mod lines;
+pub mod longest;
+pub mod machine;
+pub mod run;
+pub mod selftest;
+pub mod stored;
+pub mod stream;
+pub mod variants;
