@@ -21,6 +21,8 @@ pub struct Wish {
     pub from_edition_1: bool,
     pub nets: u32,
     pub words: u32,
+    /// Where the two limits come from.
+    pub limited_by: [&'static str; 2],
     pub image_out: Option<String>,
     pub words_out: Option<String>,
     /// Words of the buffers, where they are not as many as needed.
@@ -36,6 +38,7 @@ impl Wish {
             from_edition_1: false,
             nets: MOST,
             words: MOST,
+            limited_by: ["--nets", "--words"],
             image_out: None,
             words_out: None,
             netlist: None,

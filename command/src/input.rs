@@ -7,7 +7,15 @@
 ///
 /// Says in one line what is wrong with the file.
 pub fn image_in(file: &str) -> Result<Vec<u8>, String> {
-    let bytes = bytes_in(file)?;
+    image_of(file, bytes_in(file)?)
+}
+
+/// The image that a file's bytes are or stand for.
+///
+/// # Errors
+///
+/// Says in one line what is wrong with the file.
+pub fn image_of(file: &str, bytes: Vec<u8>) -> Result<Vec<u8>, String> {
     if file.ends_with(".img") || bytes.contains(&0) {
         return Ok(bytes);
     }
@@ -31,7 +39,15 @@ pub fn image_of_edition_1_in(file: &str) -> Result<Vec<u8>, String> {
 ///
 /// Says in one line what is wrong with the file.
 pub fn words_in(file: &str) -> Result<Vec<u32>, String> {
-    let bytes = bytes_in(file)?;
+    words_of(file, &bytes_in(file)?)
+}
+
+/// The words that a file's bytes are.
+///
+/// # Errors
+///
+/// Says in one line what is wrong with the file.
+pub fn words_of(file: &str, bytes: &[u8]) -> Result<Vec<u32>, String> {
     let (words, rest) = bytes.as_chunks();
     if !rest.is_empty() {
         return Err(format!("{file}: {} bytes are no whole words of four bytes", bytes.len()));
@@ -39,6 +55,17 @@ pub fn words_in(file: &str) -> Result<Vec<u32>, String> {
     Ok(words.iter().map(|&word| u32::from_le_bytes(word)).collect())
 }
 
-fn bytes_in(file: &str) -> Result<Vec<u8>, String> {
+/// Whether a file is a module's: a text, or an image by its name or edition. A
+/// netlist's edition is another.
+pub fn is_module(file: &str, bytes: &[u8]) -> bool {
+    file.ends_with(".img") || !bytes.contains(&0) || bytes.starts_with(&image::EDITION.to_le_bytes())
+}
+
+/// A file's bytes; `-` is standard input.
+///
+/// # Errors
+///
+/// Says in one line why they cannot be read.
+pub fn bytes_in(file: &str) -> Result<Vec<u8>, String> {
     image::read(file).map_err(|error| format!("{file}: {error}"))
 }

@@ -31,8 +31,8 @@ pub fn in_words(answer: Answer, image: &[u8], wish: &Wish, room: &Room) -> Strin
         6 => (format!("{} is needed and has no driver", bit_of_signal(image, first, second)), None),
         7 => (format!("combinational loop through {}", bit_of_signal(image, first, second)), None),
         8 => (format!("{} is no constant", reset_bit(image, first, second)), None),
-        9 => (too_many("nets", "--nets", wish.nets, taken(image).map(|(nets, _)| nets)), None),
-        10 => (too_many("list words", "--words", wish.words, taken(image).map(|(_, words)| words)), None),
+        9 => (too_many("nets", wish.limited_by[0], wish.nets, taken(image).map(|(nets, _)| nets)), None),
+        10 => (too_many("list words", wish.limited_by[1], wish.words, taken(image).map(|(_, words)| words)), None),
         _ => (unknown(), None),
     };
     let record = record.map_or(String::new(), |line| format!("  {line}\n"));
@@ -45,11 +45,12 @@ pub fn of_netlist_in_words(answer: Answer, netlist: &[u32]) -> String {
     line(answer, &if number == 11 { stored::why(netlist, place) } else { unknown() })
 }
 
-fn line([number, first, second]: Answer, words: &str) -> String {
+/// A refusal's line.
+pub(crate) fn line([number, first, second]: Answer, words: &str) -> String {
     format!("refused {number} {first} {second}: {words}\n")
 }
 
-fn unknown() -> String {
+pub(crate) fn unknown() -> String {
     "an answer that docs/RULES.md does not know".to_string()
 }
 
@@ -94,7 +95,7 @@ fn field(image: &[u8], field: u32) -> String {
     };
     let value = header.get(field as usize).copied().unwrap_or(0);
     let more = match field {
-        0 if value == 1 => ", which --from-edition-1 takes".to_string(),
+        0 if value == 1 => ", which ./lower --from-edition-1 takes".to_string(),
         0 => String::new(),
         1 => format!(", the image has {bytes} bytes"),
         _ if field % 2 == 0 => format!(", at most {}", MOST_RECORDS[section_of(field)]),
@@ -132,7 +133,7 @@ fn record(image: &[u8], section: u32, number: u32) -> String {
 }
 
 /// The name of a record that has one of printable bytes.
-fn record_name(image: &[u8], section: u32, number: u32) -> Option<String> {
+pub(crate) fn record_name(image: &[u8], section: u32, number: u32) -> Option<String> {
     let image = Image::decode(image)?;
     let number = number as usize;
     let name = match section {
@@ -169,7 +170,7 @@ fn reset_bit(image: &[u8], register: u32, bit: u32) -> String {
     format!("bit {bit} of the reset value of register {name}")
 }
 
-fn too_many(what: &str, option: &str, limit: u32, needed: Option<u32>) -> String {
+fn too_many(what: &str, limited_by: &str, limit: u32, needed: Option<u32>) -> String {
     let needed = needed.map_or(String::new(), |needed| format!("; {needed} are needed"));
-    format!("more than {limit} {what} ({option}) would be made{needed}")
+    format!("more than {limit} {what} ({limited_by}) would be made{needed}")
 }

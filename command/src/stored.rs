@@ -41,6 +41,11 @@ pub fn why(words: &[u32], place: u32) -> String {
     told.unwrap_or_else(|| format!("word {at} is {}, which breaks a rule of docs/RULES.md, stored netlist", stored.word(at)))
 }
 
+/// A node's kind with its article.
+pub fn kind_in_words(kind: u32) -> String {
+    nodes::kind(kind).map_or("no node".to_string(), nodes::Kind::a_name)
+}
+
 /// A netlist's words, which may be any.
 #[derive(Clone, Copy)]
 struct Stored<'a> {

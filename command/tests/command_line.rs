@@ -95,7 +95,7 @@ fn refusals_of_the_header() {
     let with = |line: &str| format!("{INVERTER}{line}\n");
     let edition = "refused 3 0 0: header field 0 (edition) is 7: \"Edition 2 of the module image\"\n";
     expect(&with("header 0 7"), &[], 1, edition);
-    let before = "refused 3 0 0: header field 0 (edition) is 1, which --from-edition-1 takes: \"Edition 1 is no longer read\"\n";
+    let before = "refused 3 0 0: header field 0 (edition) is 1, which ./lower --from-edition-1 takes: \"Edition 1 is no longer read\"\n";
     expect(&with("edition 1"), &[], 1, before);
     let length = "refused 3 1 0: header field 1 (total bytes) is 154, the image has 155 bytes: \
                   \"the slice is not the total length\"\n";
