@@ -25,11 +25,11 @@ abbrev pub fromNodes : List ℕ → Answer
 fromNodes ws = andThen (nodesAnswer ws) (fromList ws)
 
 -- the first wrong word of a stretch
-wrong-at : (p : ℕ → Bool) (place n : ℕ) {r : ℕ} → r ≡ first p n → r < n → firstWrong p place n ≡ Refused 11 (place + r) 0
+pub wrong-at : (p : ℕ → Bool) (place n : ℕ) {r : ℕ} → r ≡ first p n → r < n → firstWrong p place n ≡ Refused 11 (place + r) 0
 unfolding firstWrong
 wrong-at p place n {r} e h = sym (pick-hit _ (lt-yes (first p n) n (omega arith)) (ap (λ (k : ℕ). Refused 11 (place + k) 0) e))
 
-wrong-none : (p : ℕ → Bool) (place n : ℕ) {r : ℕ} → r ≡ first p n → n ≤ r → firstWrong p place n ≡ Fine
+pub wrong-none : (p : ℕ → Bool) (place n : ℕ) {r : ℕ} → r ≡ first p n → n ≤ r → firstWrong p place n ≡ Fine
 unfolding firstWrong
 wrong-none p place n {r} e h = sym (pick-skip _ (lt-no (first p n) n (omega arith)) refl)
 

@@ -40,10 +40,10 @@ word-4 ws = refl
 pub word-4-read : (ws : List ℕ) (i : ℕ) → i ≡ 4 → {n at : ℕ} → n ≡ nets ws → at ≡ getD ws i 0 → {r : Bool} → r ≡ wrongOffset n at → r ≡ wrongHeader ws i
 word-4-read ws i e p q a = a ∙ (ap₂ wrongOffset p (q ∙ ap (λ (j : ℕ). getD ws j 0) e) ∙ (sym (word-4 ws) ∙ ap (wrongHeader ws) (sym e)))
 
-record Offset (n at : ℕ) : Type 0 where
-  most : (at - 16) / 6 ≤ 65535
-  is : at ≡ 16 + 6 * ((at - 16) / 6)
-  enough : n ≤ (at - 16) / 6
+pub record Offset (n at : ℕ) : Type 0 where
+  pub most : (at - 16) / 6 ≤ 65535
+  pub is : at ≡ 16 + 6 * ((at - 16) / 6)
+  pub enough : n ≤ (at - 16) / 6
 
 offset : (n at : ℕ) → wrongOffset n at ≡ false → Offset n at
 unfolding wrongOffset
@@ -52,12 +52,16 @@ offset n at e =
     let k = or-no (h .1) in
     record { most = inside _ _ _ (h .0) .1; is = no-ne _ _ (k .0); enough = no-lt _ _ (k .1) }
 
+-- the list offset where the sixteen words are right
+pub header-offset : (ws : List ℕ) → first (wrongHeader ws) 16 ≡ 16 → Offset (nets ws) (listAt ws)
+header-offset ws e = offset (nets ws) (listAt ws) (rw (word-4 ws) at (none (wrongHeader ws) 16 e 4 (omega arith)))
+
 -- the sections fit where the sixteen words and the length are right
 pub opens : (ws : List ℕ) → first (wrongHeader ws) 16 ≡ 16 → tooShort ws ≡ false → Opened ws
 unfolding tooShort
 opens ws e s =
     let passes = none (wrongHeader ws) 16 e in
-    let o = offset (nets ws) (listAt ws) (rw (word-4 ws) at (passes 4 (omega arith))) in
+    let o = header-offset ws e in
     record {
       nodesAt = no-ne _ _ (rw (word-2 ws) at (passes 2 (omega arith)));
       listStarts = o .is;
@@ -78,9 +82,9 @@ short-few ws e s = go (length ws <? 16) refl
     go false q =
         let l = no-lt (length ws) 16 q in
         let n : min 16 (length ws) ≡ 16 = omega arith in
-        let passes = none (wrongHeader ws) 16 (ap (first (wrongHeader ws)) (sym n) ∙ (e ∙ n)) in
-        let o = offset (nets ws) (listAt ws) (rw (word-4 ws) at (passes 4 (omega arith))) in
-        let u = no-lt _ _ (rw (word-3 ws) at (passes 3 (omega arith))) in
+        let right = ap (first (wrongHeader ws)) (sym n) ∙ (e ∙ n) in
+        let o = header-offset ws right in
+        let u = no-lt _ _ (rw (word-3 ws) at (none (wrongHeader ws) 16 right 3 (omega arith))) in
         ⊎-elim (λ (y : (length ws <? 16) ≡ true). omega (arith, yes-lt _ _ y)) (λ (y : (length ws <? listAt ws + used ws) ≡ true). omega (arith, yes-lt _ _ y, o .is, o .most, u)) (or-yes s)
 
 -- the sixteen words are there and right
