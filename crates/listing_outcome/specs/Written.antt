@@ -5,8 +5,7 @@ use mathlib.Core.Path.{_≡_, _∙_}
 use lib.ListN.{length, take}
 use Rattle.spec_tests.specs.Rules.{Answer, Fine}
 use Rattle.spec_rules.specs.Listing.{listing}
-use Rattle.listing_text.specs.Text.{Wrote}
-use Rattle.listing_whole.specs.Whole.{wrote-whole}
+use Rattle.listing_text.specs.Text.{Wrote, wrote-whole}
 use Rattle.listing_whole.specs.Length.{AllSmall}
 
 -- t is the first r bytes of the buffer o

@@ -129,3 +129,7 @@ writing-done {o} {at} {t} {o₁} {a} {rest} e p = record {
 
 abbrev pub refusalText : ℕ → ℕ → ℕ → List ℕ
 refusalText n a b = text "refused" ++ ((32 ∷ decimal n) ++ ((32 ∷ decimal a) ++ ((32 ∷ decimal b) ++ (10 ∷ []))))
+
+-- a text for which there is room stands there whole
+pub wrote-whole : {o t o′ : List ℕ} {r : ℕ} → Wrote o 0 t o′ r → length t ≤ length o → take r o′ ≡ t
+wrote-whole {o} {t} w h = w .text ∙ take-all (length o) t h

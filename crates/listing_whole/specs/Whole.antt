@@ -1,9 +1,8 @@
 -- The whole text of the listing, piece by piece.
-use Prim.Native.Nat.{ℕ, _≤_}
+use Prim.Native.Nat.{ℕ}
 use mathlib.Core.List.{List, [], _∷_, _++_, map, append-assoc}
 use mathlib.Core.Path.{_≡_, _∙_}
-use lib.ListN.{length, take, getD}
-use lib.Seq.{take-all}
+use lib.ListN.{getD}
 use Rattle.spec_tests.specs.Rules.{listOf, Fine, Refused}
 use Rattle.spec_rules.specs.NetlistImage.{recordsOf}
 use Rattle.spec_rules.specs.Listing.{text, decimal, together, netLine, recordLine, listing}
@@ -19,7 +18,3 @@ listing-wrote s ws a b c = wrote-more a (wrote-more b c)
 pub refusal : (n a b : ℕ) (s ws : List ℕ) → listing s (Refused n a b) ws ≡ text "refused" ++ ((32 ∷ decimal n) ++ ((32 ∷ decimal a) ++ ((32 ∷ decimal b) ++ (10 ∷ []))))
 unfolding listing spaced
 refusal n a b s ws = line-spaced _ _ ∙ simp append-assoc
-
--- a text for which there is room stands there whole
-pub wrote-whole : {o t o′ : List ℕ} {r : ℕ} → Wrote o 0 t o′ r → length t ≤ length o → take r o′ ≡ t
-wrote-whole {o} {t} w h = w .text ∙ take-all (length o) t h

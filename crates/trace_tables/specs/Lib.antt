@@ -1,0 +1,3 @@
+-- The tables of a run, made from an accepted netlist.
+pub mod Few
+pub mod Ready
