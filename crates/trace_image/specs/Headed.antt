@@ -112,7 +112,7 @@ module _ (N P : ℕ) (ws : List ℕ) where
   short-body l = then-refused _ 11 (length ws) 0 (sym (pick-hit _ (sym (or-hit _ (lt-yes _ _ l))) refl))
 
   stages : (a : Answer) (b c : Bool) → (length ws <? 16) ≡ c
-    → andThen a (andThen (refuse b 12) (bodyAnswer ws)) ≡ andThen (andThen a (andThen (refuse b 12) (pick c (Refused 11 (length ws) 0) Fine))) (andThen a (bodyAnswer ws))
+      → andThen a (andThen (refuse b 12) (bodyAnswer ws)) ≡ andThen (andThen a (andThen (refuse b 12) (pick c (Refused 11 (length ws) 0) Fine))) (andThen a (bodyAnswer ws))
   unfolding andThen refuse pick
   stages (Refused n x y) b c e = refl
   stages Fine true c e = refl

@@ -8,7 +8,7 @@ use mathlib.Core.Path.{_≡_, refl, sym, ap, subst, _∙_}
 use mathlib.Core.Bool.{Bool, true, false}
 use mathlib.Core.Logic.{⊎-elim}
 use mathlib.Core.List.{List, [], _∷_, _++_, map, append-assoc}
-use lib.ListN.{length, take, drop, getD, length-take}
+use lib.ListN.{length, take, drop, getD, length-take, length-append, length-map}
 use lib.Seq.{getD-take, take-suc, take-all}
 use Rattle.spec_tests.specs.Rules.{_<?_, _≡?_, _≢?_, _or_, _and_, pick, only, Refused, Fine}
 use Rattle.spec_tests.specs.Laws.{or-no, or-yes, no-lt, yes-lt, lt-yes, lt-no}
@@ -65,6 +65,10 @@ shown-is {ws} ok {s} {c} {v} x e =
     (let z = size-is ws in
     let b = port-net ws ok 8 i h in
     ap digit (ap (λ (k : ℕ). k ≡? 1) (x .holds (getD (outputNets ws) i 0) (omega arith)) ∙ on-bit (net (netlist ws) s c (getD (outputNets ws) i 0))))))
+
+shown-length : (ws : List ℕ) (s : Setting) (c : Contents) → length (shown ws s c) ≡ length (outputNets ws) + 1
+unfolding shown
+shown-length ws s c = length-append (map (λ k. digit (getD (values (netlist ws) s c) k false)) (outputNets ws)) (10 ∷ []) ∙ ap (λ (n : ℕ). n + 1) (length-map (outputNets ws) (λ k. digit (getD (values (netlist ws) s c) k false)))
 
 having-snoc : (f : ℕ → Bool) (xs : List ℕ) (x : ℕ) → having f xs ≡ false → f x ≡ false → having f (xs ++ (x ∷ [])) ≡ false
 unfolding having only pick
@@ -144,6 +148,7 @@ module _ (ws steps : List ℕ) (count : ℕ) (inputs outputs registers : List �
   -- a line was taken, and this text is its answer
   pub record Gone (p : Prepared ws steps count inputs outputs registers nr memories nm) (n : Now) (used : ℕ) (values′ memory′ out′ : List ℕ) (to : ℕ) : Type 0 where
     pub text : List ℕ
+    pub short : length text ≡ length (outputNets ws) + 1
     pub wrote : Wrote out at text out′ to
     pub next : Now
     pub holds : Holds ws (p .ok) memories (k + 1) next values′ memory′
@@ -155,6 +160,7 @@ module _ (ws steps : List ℕ) (count : ℕ) (inputs outputs registers : List �
     pub stops : stop ≡ true → Wrote out at (refusalText 13 k 0) out′ to × ((n : Now) (more : List ℕ) → textFrom ws k n (bytes ++ more) ≡ refusalText 13 k 0)
     pub waits : stop ≡ false → used ≡ 0 → ((out′ ≡ out) × (to ≡ at)) × ((Free bytes × (length bytes ≤ length (inputNets ws))) × ((values′ ≡ values) × (memory′ ≡ memory)))
     pub goes : stop ≡ false → 0 < used → (p : Prepared ws steps count inputs outputs registers nr memories nm) (n : Now) → Holds ws (p .ok) memories k n values memory → Gone p n used values′ memory′ out′ to
+    pub few : stop ≡ false → 0 < used → k < 4294967295
     pub standing : stop ≡ false → 0 < used → Standing ws steps count inputs outputs registers nr memories nm (k + 1) values′ memory′
 
 its-inputs : {ws steps : List ℕ} {count : ℕ} {inputs outputs registers : List ℕ} {nr : ℕ} {memories : List ℕ} {nm k : ℕ} {values memory : List ℕ}
@@ -171,6 +177,7 @@ module _ {ws steps : List ℕ} {count : ℕ} {inputs outputs registers : List �
     stops = λ y. (f .wrote, λ now more. refused-text r h more ws k now (q ∙ ap (λ (i : List ℕ). 4294967294 <? k or (length i ≢? n or having (λ b. b ≢? 48 and b ≢? 49) i)) el ∙ ap (λ (i : ℕ). 4294967294 <? k or (length (take e bytes) ≢? i or having (λ b. b ≢? 48 and b ≢? 49) (take e bytes))) (en ∙ its-inputs x)) t);
     waits = λ y u. untrue (sym y ∙ f .last);
     goes = λ y u. untrue (sym y ∙ f .last);
+    few = λ y u. untrue (sym y ∙ f .last);
     standing = λ y u. untrue (sym y ∙ f .last);
   }
 
@@ -185,6 +192,7 @@ module _ {ws steps : List ℕ} {count : ℕ} {inputs outputs registers : List �
           stops = λ y. (f .wrote, λ now more. text-long ws k now bytes more (free-all r h) (let z = its-inputs x in omega arith) ∙ said-is k);
           waits = λ y u. untrue (sym y ∙ f .last);
           goes = λ y u. untrue (sym y ∙ f .last);
+          few = λ y u. untrue (sym y ∙ f .last);
           standing = λ y u. untrue (sym y ∙ f .last);
         })
     | no l ↦ (
@@ -195,6 +203,7 @@ module _ {ws steps : List ℕ} {count : ℕ} {inputs outputs registers : List �
           stops = λ y. untrue (sym (f .0) ∙ y);
           waits = λ y u. ((f .1 .0, f .1 .1), ((free-all r h, (let z = its-inputs x in omega arith)), (refl, refl)));
           goes = λ y u. absurd (let z = w .none in omega arith);
+          few = λ y u. absurd (let z = w .none in omega arith);
           standing = λ y u. absurd (let z = w .none in omega arith);
         })
   ]
@@ -211,6 +220,7 @@ module _ {ws steps : List ℕ} {count : ℕ} {inputs outputs registers : List �
         let g = subst (λ (z : List ℕ). Holds ws (p .ok) memories (k + 1) (At (settingOf ws z) (reached ws now (settingOf ws z))) values′ memory′) el (a .says p now holds) in
         record {
           text = shown ws (settingOf ws (take e bytes)) (reached ws now (settingOf ws (take e bytes)));
+          short = shown-length ws (settingOf ws (take e bytes)) (reached ws now (settingOf ws (take e bytes)));
           wrote = wrote-same (sym (shown-is (p .ok) (g .1 .0) (p .outputs-are))) w;
           next = At (settingOf ws (take e bytes)) (reached ws now (settingOf ws (take e bytes)));
           holds = g;
@@ -218,6 +228,7 @@ module _ {ws steps : List ℕ} {count : ℕ} {inputs outputs registers : List �
               ∙ ap (λ (i : ℕ). 4294967294 <? k or (length (take e bytes) ≢? i or having (λ b. b ≢? 48 and b ≢? 49) (take e bytes))) (en ∙ its-inputs x)) t
               ∙ ap (λ (i : ℕ). shown ws (settingOf ws (take e bytes)) (reached ws now (settingOf ws (take e bytes))) ++ textFrom ws (k + 1) (At (settingOf ws (take e bytes)) (reached ws now (settingOf ws (take e bytes)))) (drop i bytes ++ more)) (sym eu);
         });
+    few = λ y u. (let z = no-lt 4294967294 k (or-no (sym q ∙ t) .0) in omega arith);
     standing = λ y u. record { prepared = x .prepared; sized = a .sized; now = At (settingOf ws l) (reached ws (x .now) (settingOf ws l)); holds = a .says (x .prepared) (x .now) (x .holds) };
   }
 

@@ -1,11 +1,10 @@
 // The lines of a trace as its bytes come: the first whole line among some bytes is judged, taken and answered.
 ghost use mathlib.Core.Path.{_≡_};
 ghost use mathlib.Core.Bool.{true, false};
-ghost use Prim.Native.Nat.{ℕ, _+_, _≤_, _<_};
+ghost use Prim.Native.Nat.{_+_, _≤_, _<_};
 ghost use lib.ListN.{length};
-ghost use Rattle.spec_tests.specs.Rules.{_<?_, _≡?_, _≢?_, _or_, _and_};
+ghost use Rattle.spec_tests.specs.Rules.{_<?_, _≢?_, _or_, _and_};
 ghost use Rattle.spec_trace.specs.Opened.{having};
-ghost use Rattle.listing_text.specs.Text.{Wrote, refusalText};
 ghost use Rattle.trace_line.specs.Standing.{Standing};
 ghost use Rattle.trace_lines.specs.Answers.{LineEnd, Refuses, Waits, Answered};
 

@@ -1,0 +1,119 @@
+-- What became of some bytes of a trace: the lines that were taken, their text, and what is left. Assumes nothing.
+use Prim.Native.Nat.{ℕ, _+_, _-_, _≤_, _<_}
+use native.Mathlib.Omega.{arith}
+use mathlib.Core.Path.{_≡_, refl, sym, ap, subst, _∙_}
+use mathlib.Core.Bool.{Bool, true, false, not}
+use mathlib.Core.List.{List, [], _++_, append-assoc}
+use lib.ListN.{length, take, drop, length-take, length-append, length-drop}
+use Rattle.spec_tests.specs.Rules.{_<?_}
+use Rattle.spec_tests.specs.Laws.{no-lt}
+use lib.Seq.{take-all, drop-drop}
+use Rattle.spec_trace.specs.Trace.{Now, textFrom}
+use Rattle.law_told.specs.Told.{untrue}
+use Rattle.listing_text.specs.Text.{Wrote, refusalText}
+use Rattle.listing_whole.specs.Whole.{refusal}
+use Rattle.listing_whole.specs.Length.{refusal-short}
+use Rattle.trace_line.specs.State.{Prepared, Holds}
+use Rattle.trace_line.specs.Standing.{Standing}
+use Rattle.trace_lines.specs.Pieces.{Free}
+use Rattle.trace_lines.specs.Answers.{Answered}
+
+-- a text for which there is room
+pub wrote-room : {o t o′ : List ℕ} {at r : ℕ} → Wrote o at t o′ r → at + length t ≤ length o → take r o′ ≡ take at o ++ t
+wrote-room {o} {t} {o′} {at} w h =
+    let l = length-append (take at o) t in
+    let m = length-take at o in
+    w .text ∙ take-all (length o) (take at o ++ t) (omega arith)
+
+refusal-few : (k : ℕ) → k < 4294967296 → length (refusalText 13 k 0) ≤ 41
+refusal-few k h = let e = ap length (refusal 13 k 0 [] []) in let s = refusal-short 13 k 0 [] [] (omega arith) h (omega arith) in omega arith
+
+module _ (ws steps : List ℕ) (count : ℕ) (inputs outputs registers : List ℕ) (nr : ℕ) (memories : List ℕ) (nm k : ℕ) (bytes values memory : List ℕ) where
+  -- from where the run stands on: the text of the lines taken, and where it then stands; where it stops, that is all
+  pub record Told (p : Prepared ws steps count inputs outputs registers nr memories nm) (n : Now) (used k′ : ℕ) (text : List ℕ) (stop : Bool) (values′ memory′ : List ℕ) : Type 0 where
+    pub next : Now
+    pub stops : stop ≡ true → (more : List ℕ) → textFrom ws k n (bytes ++ more) ≡ text
+    pub goes : stop ≡ false → (more : List ℕ) → textFrom ws k n (bytes ++ more) ≡ text ++ textFrom ws k′ next (drop used bytes ++ more)
+    pub holds : stop ≡ false → Holds ws (p .ok) memories k′ next values′ memory′
+
+  pub record Ran (used at k′ : ℕ) (wait stop : Bool) (out values′ memory′ : List ℕ) : Type 0 where
+    pub upTo : used ≤ length bytes
+    pub place : at ≤ length out
+    pub says : (p : Prepared ws steps count inputs outputs registers nr memories nm) (n : Now) → Holds ws (p .ok) memories k n values memory → Told p n used k′ (take at out) stop values′ memory′
+    pub waits : wait ≡ true → Free (drop used bytes)
+    pub standing : stop ≡ false → Standing ws steps count inputs outputs registers nr memories nm k′ values′ memory′
+
+module _ {ws steps : List ℕ} {count : ℕ} {inputs outputs registers : List ℕ} {nr : ℕ} {memories : List ℕ} {nm k : ℕ} {bytes values memory : List ℕ} where
+  -- nothing is taken yet
+  pub ran-start : (out : List ℕ) → Standing ws steps count inputs outputs registers nr memories nm k values memory → Ran ws steps count inputs outputs registers nr memories nm k bytes values memory 0 0 k false false out values memory
+  ran-start out x = record {
+    upTo = omega arith;
+    place = omega arith;
+    says = λ p n h. record { next = n; stops = λ e. untrue e; goes = λ e more. refl; holds = λ e. h };
+    waits = λ e. untrue e;
+    standing = λ e. x;
+  }
+
+  module _ {used at k₁ : ℕ} {out values₁ memory₁ : List ℕ} (r : Ran ws steps count inputs outputs registers nr memories nm k bytes values memory used at k₁ false false out values₁ memory₁)
+      {u to : ℕ} {stop : Bool} {rest out′ values₂ memory₂ : List ℕ} (er : rest ≡ drop used bytes)
+      (a : Answered ws steps count inputs outputs registers nr memories nm k₁ rest out at values₁ memory₁ u to stop out′ values₂ memory₂) (room : at + length outputs + 42 ≤ length out) where
+    behind : (more : List ℕ) → rest ++ more ≡ drop used bytes ++ more
+    behind more = ap (λ (l : List ℕ). l ++ more) er
+
+    pub ran-stops : stop ≡ true → k₁ < 4294967296 → Ran ws steps count inputs outputs registers nr memories nm k bytes values memory used to k₁ false true out′ values₂ memory₂
+    ran-stops e small = record {
+      upTo = r .upTo;
+      place = a .place;
+      says = λ p n h. (
+          let t = r .says p n h in
+          record {
+            next = n;
+            stops = λ f more. t .goes refl more ∙ ap (λ (l : List ℕ). take at out ++ textFrom ws k₁ (t .next) l) (sym (behind more)) ∙ ap (λ (l : List ℕ). take at out ++ l) (a .stops e .1 (t .next) more) ∙ sym (wrote-room (a .stops e .0) (let f = refusal-few k₁ small in omega arith));
+            goes = λ f. untrue (sym f);
+            holds = λ f. untrue (sym f);
+          });
+      waits = λ f. untrue f;
+      standing = λ f. untrue (sym f);
+    }
+
+    pub ran-waits : stop ≡ false → u ≡ 0 → Ran ws steps count inputs outputs registers nr memories nm k bytes values memory used to k₁ true false out′ values₂ memory₂
+    ran-waits e z =
+        let w = a .waits e z in
+        record {
+          upTo = r .upTo;
+          place = a .place;
+          says = λ p n h. rw (w .0 .0, w .0 .1, w .1 .1 .0, w .1 .1 .1) (r .says p n h);
+          waits = λ f. subst Free er (w .1 .0 .0);
+          standing = λ f. rw (w .1 .1 .0, w .1 .1 .1) (r .standing f);
+        }
+
+    pub ran-goes : stop ≡ false → 0 < u → Ran ws steps count inputs outputs registers nr memories nm k bytes values memory (used + u) to (k₁ + 1) false false out′ values₂ memory₂
+    ran-goes e b = record {
+      upTo = (let z = a .upTo in let y = ap length er in let d = length-drop used bytes in let q = r .upTo in omega arith);
+      place = a .place;
+      says = λ p n h. (
+          let t = r .says p n h in
+          let g = a .goes e b p (t .next) (t .holds refl) in
+          record {
+            next = g .next;
+            stops = λ f. untrue f;
+            goes = λ f more. t .goes refl more ∙ ap (λ (l : List ℕ). take at out ++ textFrom ws k₁ (t .next) l) (sym (behind more)) ∙ ap (λ (l : List ℕ). take at out ++ l) (g .says more)
+                ∙ sym (append-assoc (take at out) (g .text) (textFrom ws (k₁ + 1) (g .next) (drop u rest ++ more)))
+                ∙ ap (λ (l : List ℕ). l ++ textFrom ws (k₁ + 1) (g .next) (drop u rest ++ more)) (sym (wrote-room (g .wrote) (let s = g .short in let o = ap length (p .outputs-are) in omega arith)))
+                ∙ ap (λ (l : List ℕ). take to out′ ++ textFrom ws (k₁ + 1) (g .next) (l ++ more)) (ap (drop u) er ∙ drop-drop u used bytes);
+            holds = λ f. g .holds;
+          });
+      waits = λ f. untrue f;
+      standing = λ f. a .standing e b;
+    }
+
+-- the bytes that are left
+pub rest-is : (bytes : List ℕ) (used : ℕ) → take (length bytes - used) (drop used bytes) ≡ drop used bytes
+rest-is bytes used = take-all (length bytes - used) (drop used bytes) (let d = length-drop used bytes in omega arith)
+
+pub room-there : {b : Bool} {x y : ℕ} → b ≡ not (x <? y) → b ≡ true → y ≤ x
+room-there {b} {x} {y} e t = no-lt x y (go (x <? y) (sym e ∙ t))
+  where
+    go : (c : Bool) → not c ≡ true → c ≡ false
+    go true e = untrue e
+    go false e = refl
