@@ -1,6 +1,6 @@
 // Refusal 12 after 11: a clock or asynchronous reset that is no input net, or too many memory bits.
 ghost use mathlib.Core.Path.{_≡_};
-ghost use Prim.Native.Nat.{ℕ, _*_, _≤_, _<_};
+ghost use Prim.Native.Nat.{_*_, _<_};
 ghost use lib.ListN.{drop, getD};
 ghost use Rattle.spec_tests.specs.Rules.{any, sumTo, Fine};
 ghost use Rattle.spec_rules.specs.NetlistImage.{memoryPortOf, memoryOf};

@@ -2,18 +2,17 @@
 use Prim.Native.Nat.{ℕ, zero, suc, _+_, _*_}
 use native.Mathlib.Omega.{arith}
 use mathlib.Core.Path.{_≡_, refl, sym, ap, _∙_}
-use mathlib.Core.Bool.{Bool, true, false}
+use mathlib.Core.Bool.{true, false}
 use mathlib.Core.List.{List, [], _∷_}
-use lib.ListN.{length, take}
-use Rattle.spec_tests.specs.Rules.{Answer, Fine, Refused, andThen}
-use Rattle.spec_rules.specs.Checks.{refuse}
+use lib.ListN.{take}
+use Rattle.spec_tests.specs.Rules.{Fine, Refused, andThen}
 use Rattle.spec_netlist.specs.Accept.{accepts}
 use Rattle.spec_trace.specs.Opened.{wordsOf, wordCount, imageOf, traceOf, opened, unfit}
 use Rattle.spec_trace.specs.Trace.{Before, said, textFrom, unless, traceText}
 use Rattle.check_image.specs.Checked.{refuse-yes, refuse-no}
 use Rattle.law_told.specs.Told.{then-both}
 use Rattle.trace_image.specs.Headed.{headed, opened-headed}
-use Rattle.trace_image.specs.Whole.{imageWords, headed-sixteen, words-fine, opened-cut}
+use Rattle.trace_image.specs.Whole.{imageWords, words-fine, opened-cut}
 
 -- words of the first bytes
 pub words-take : (m : ℕ) (bs : List ℕ) → wordsOf (take (4 * m) bs) ≡ take m (wordsOf bs)

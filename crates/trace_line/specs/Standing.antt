@@ -16,8 +16,8 @@ module _ (ws steps : List ℕ) (count : ℕ) (inputs outputs registers : List �
   pub record Standing (values memory : List ℕ) : Type 0 where
     pub prepared : Prepared ws steps count inputs outputs registers nr memories nm
     pub sized : Sized ws values memory
-    pub now : Now
-    pub holds : Holds ws (prepared .ok) memories k now values memory
+    pub stands : Now
+    pub holds : Holds ws (prepared .ok) memories k stands values memory
 
   pub record After (l values memory values′ memory′ : List ℕ) : Type 0 where
     pub says : (p : Prepared ws steps count inputs outputs registers nr memories nm) (n : Now) → Holds ws (p .ok) memories k n values memory
@@ -50,29 +50,29 @@ module _ {ws steps : List ℕ} {count : ℕ} {inputs outputs registers : List �
   ready n = (x .prepared .plan, ((let a = x .sized .wide in let b = n .long in omega arith), n .bits))
 
   pub begin-ready : k ≡ 0 → {w : List ℕ} → w ≡ spread char values inputs l → Plan ws steps count × ((size ws ≤ length w) × Bits w)
-  begin-ready z e = ready (begins (x .prepared) (x .sized) (x .now) (subst (λ (i : ℕ). Holds ws (x .prepared .ok) memories i (x .now) values memory) z (x .holds)) e)
+  begin-ready z e = ready (begins (x .prepared) (x .sized) (x .stands) (subst (λ (i : ℕ). Holds ws (x .prepared .ok) memories i (x .stands) values memory) z (x .holds)) e)
 
   pub begin-after : k ≡ 0 → {w values′ : List ℕ} → w ≡ spread char values inputs l → ((s : Setting) (d : Contents) → Loaded ws s d w → Valued ws s d values′) × Bits values′ → length values′ ≡ length w
       → After ws steps count inputs outputs registers nr memories nm k l values memory values′ memory
   begin-after z {w} {values′} e f b = record {
     says = λ p n h. settled p (x .sized) k (begins p (x .sized) n (subst (λ (i : ℕ). Holds ws (p .ok) memories i n values memory) z h) e) (f .0);
-    sized = sizes (x .prepared) (x .sized) (begins (x .prepared) {l = l} (x .sized) (x .now) (subst (λ (i : ℕ). Holds ws (x .prepared .ok) memories i (x .now) values memory) z (x .holds)) e) (f .1) b;
+    sized = sizes (x .prepared) (x .sized) (begins (x .prepared) {l = l} (x .sized) (x .stands) (subst (λ (i : ℕ). Holds ws (x .prepared .ok) memories i (x .stands) values memory) z (x .holds)) e) (f .1) b;
   }
 
   module _ (b : 0 < k) {v w₁ w₂ w₃ m : List ℕ} (ev : v ≡ values) (e₁ : w₁ ≡ spread char values inputs l) (e₂ : w₂ ≡ registersDone ws v registers nr w₁) (e₃ : w₃ ≡ memoriesRead ws memory v memories nm w₂)
       (e₄ : m ≡ memoriesWritten ws v w₃ memories nm memory) where
     pub advance-ready : Plan ws steps count × ((size ws ≤ length w₃) × Bits w₃)
-    advance-ready = ready (advances (x .prepared) (x .sized) b (x .now) (x .holds) ev e₁ e₂ e₃ e₄)
+    advance-ready = ready (advances (x .prepared) (x .sized) b (x .stands) (x .holds) ev e₁ e₂ e₃ e₄)
 
     pub advance-after : {values′ : List ℕ} → ((s : Setting) (d : Contents) → Loaded ws s d w₃ → Valued ws s d values′) × Bits values′ → length values′ ≡ length w₃
         → After ws steps count inputs outputs registers nr memories nm k l values memory values′ m
     advance-after {values′} f q = record {
       says = λ p n h. settled p (x .sized) k (advances p (x .sized) b n h ev e₁ e₂ e₃ e₄) (f .0);
-      sized = sizes (x .prepared) (x .sized) (advances (x .prepared) {l = l} (x .sized) b (x .now) (x .holds) ev e₁ e₂ e₃ e₄) (f .1) q;
+      sized = sizes (x .prepared) (x .sized) (advances (x .prepared) {l = l} (x .sized) b (x .stands) (x .holds) ev e₁ e₂ e₃ e₄) (f .1) q;
     }
 
   pub at-first : k ≡ 0 → Standing ws steps count inputs outputs registers nr memories nm 0 values memory
-  at-first z = record { prepared = x .prepared; sized = x .sized; now = x .now; holds = subst (λ (i : ℕ). Holds ws (x .prepared .ok) memories i (x .now) values memory) z (x .holds) }
+  at-first z = record { prepared = x .prepared; sized = x .sized; stands = x .stands; holds = subst (λ (i : ℕ). Holds ws (x .prepared .ok) memories i (x .stands) values memory) z (x .holds) }
 
 pub after-first : {ws steps : List ℕ} {count : ℕ} {inputs outputs registers : List ℕ} {nr : ℕ} {memories : List ℕ} {nm k : ℕ} {l values memory values′ memory′ : List ℕ} → k ≡ 0
     → After ws steps count inputs outputs registers nr memories nm 0 l values memory values′ memory′ → After ws steps count inputs outputs registers nr memories nm k l values memory values′ memory′

@@ -1,10 +1,8 @@
 // One line of a trace on the tables of a run: values has the values of all nets, memory the memories' bits, a word each; old is lent.
 ghost use mathlib.Core.Path.{_≡_};
 ghost use mathlib.Core.List.{_∷_, [], _++_, map};
-ghost use Prim.Native.Nat.{ℕ, _+_, _≤_, _<_};
-ghost use lib.ListN.{length, getD, set};
-ghost use Rattle.spec_rtl.specs.Word.{bit};
-ghost use Rattle.spec_tests.specs.Rules.{_≡?_};
+ghost use Prim.Native.Nat.{_+_, _≤_, _<_};
+ghost use lib.ListN.{length, getD};
 ghost use Rattle.spec_trace.specs.Trace.{digit};
 ghost use Rattle.listing_text.specs.Text.{Wrote};
 ghost use Rattle.trace_step.specs.Words.{on, spread};

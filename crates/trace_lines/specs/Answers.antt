@@ -229,7 +229,7 @@ module _ {ws steps : List ℕ} {count : ℕ} {inputs outputs registers : List �
               ∙ ap (λ (i : ℕ). shown ws (settingOf ws (take e bytes)) (reached ws now (settingOf ws (take e bytes))) ++ textFrom ws (k + 1) (At (settingOf ws (take e bytes)) (reached ws now (settingOf ws (take e bytes)))) (drop i bytes ++ more)) (sym eu);
         });
     few = λ y u. (let z = no-lt 4294967294 k (or-no (sym q ∙ t) .0) in omega arith);
-    standing = λ y u. record { prepared = x .prepared; sized = a .sized; now = At (settingOf ws l) (reached ws (x .now) (settingOf ws l)); holds = a .says (x .prepared) (x .now) (x .holds) };
+    standing = λ y u. record { prepared = x .prepared; sized = a .sized; stands = At (settingOf ws l) (reached ws (x .stands) (settingOf ws l)); holds = a .says (x .prepared) (x .stands) (x .holds) };
   }
 
 -- ---- searches ----

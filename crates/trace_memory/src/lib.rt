@@ -2,8 +2,8 @@
 // inputs; memory has the memories' bits, a word each.
 ghost use mathlib.Core.Path.{_≡_};
 ghost use mathlib.Core.List.{map};
-ghost use Prim.Native.Nat.{ℕ, _+_, _*_, _≤_, _<_};
-ghost use lib.ListN.{length, drop, getD, set};
+ghost use Prim.Native.Nat.{_+_, _*_, _≤_, _<_};
+ghost use lib.ListN.{length};
 ghost use Rattle.spec_rtl.specs.Word.{bit, value};
 ghost use Rattle.trace_step.specs.Words.{on, spread, identity, laid, portRead, portWritten, memoryRead, memoryWritten, memoriesRead, memoriesWritten};
 ghost use Rattle.trace_memory.specs.Ports.{PortFits, MemoryFits, MemoriesFit};

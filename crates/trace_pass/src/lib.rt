@@ -1,6 +1,6 @@
 // The values of a netlist's nets, one word a net, by a plan of steps made once for the netlist.
 ghost use mathlib.Core.Path.{_≡_};
-ghost use Prim.Native.Nat.{ℕ, _+_, _*_, _≤_, _<_};
+ghost use Prim.Native.Nat.{_+_, _*_, _≤_, _<_};
 ghost use lib.ListN.{length, getD, set, drop};
 ghost use Rattle.spec_rules.specs.Step.{Setting, Contents};
 ghost use Rattle.trace_cells.specs.Digits.{Bits};

@@ -1,7 +1,7 @@
 // The plan of an accepted netlist: a step for each constant, gate and output node, and one for each cell at the first of its outputs.
 ghost use mathlib.Core.Path.{_≡_};
-ghost use Prim.Native.Nat.{ℕ, _+_, _*_, _≤_, _<_};
-ghost use lib.ListN.{length, getD, set};
+ghost use Prim.Native.Nat.{_+_, _*_, _≤_, _<_};
+ghost use lib.ListN.{length, set};
 ghost use Rattle.spec_tests.specs.Rules.{_≡?_, _or_, Fine};
 ghost use Rattle.spec_rules.specs.NetlistImage.{nodeWord};
 ghost use Rattle.spec_netlist.specs.Accept.{nets, accepts};

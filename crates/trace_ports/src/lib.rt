@@ -1,5 +1,4 @@
 // The nets of a netlist's input ports or of its output ports, ports in list order, bit 0 first.
-ghost use mathlib.Core.Path.{_≡_};
 ghost use mathlib.Core.List.{[], _∷_};
 ghost use Prim.Native.Nat.{_≤_};
 ghost use lib.ListN.{length};

@@ -39,7 +39,7 @@ module _ (ws steps : List ℕ) (count : ℕ) (inputs outputs registers : List �
   -- where a run begins: nothing is taken, and all tables hold 0
   pub at-start : Prepared ws steps count inputs outputs registers nr memories nm → {values memory : List ℕ} → size ws ≤ length values → 65536 ≤ length memory → Bits values → ((j : ℕ) → getD values j 0 ≡ 0) → ((j : ℕ) → getD memory j 0 ≡ 0)
       → Standing ws steps count inputs outputs registers nr memories nm 0 values memory
-  at-start p w r b v m = record { prepared = p; sized = record { wide = w; bits = b; room = r }; now = Before; holds = (refl, (v, m)) }
+  at-start p w r b v m = record { prepared = p; sized = record { wide = w; bits = b; room = r }; stands = Before; holds = (refl, (v, m)) }
 
   pub trace-text : (p : Prepared ws steps count inputs outputs registers nr memories nm) {values memory : List ℕ} → ((j : ℕ) → getD values j 0 ≡ 0) → ((j : ℕ) → getD memory j 0 ≡ 0)
       → {trace t : List ℕ} → Calls 0 [] values memory trace t → textFrom ws 0 Before trace ≡ t

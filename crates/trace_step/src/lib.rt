@@ -2,15 +2,14 @@
 // and read data, and has the new inputs.
 ghost use mathlib.Core.Path.{_≡_};
 ghost use mathlib.Core.Bool.{true, false};
-ghost use mathlib.Core.List.{map};
-ghost use Prim.Native.Nat.{ℕ, _≤_, _<_};
-ghost use lib.ListN.{length, drop, getD, set};
-ghost use Rattle.spec_rtl.specs.Word.{bit, value};
+ghost use Prim.Native.Nat.{_<_};
+ghost use lib.ListN.{set};
+ghost use Rattle.spec_rtl.specs.Word.{bit};
 ghost use Rattle.spec_tests.specs.Rules.{_≡?_};
 ghost use Rattle.spec_rules.specs.Image.{optional, controlOf};
 ghost use Rattle.spec_rules.specs.NetlistImage.{registerBitOf};
 ghost use Rattle.spec_rules.specs.Step.{edge, active, enabled, resets};
-ghost use Rattle.trace_step.specs.Words.{on, spread, identity, laid, registerBit, registerDone, registersDone};
+ghost use Rattle.trace_step.specs.Words.{on, registerBit, registerDone, registersDone};
 ghost use Rattle.trace_step.specs.Chains.{clockedBit};
 use image_numbers::*;
 
