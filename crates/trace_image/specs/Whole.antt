@@ -117,3 +117,6 @@ module _ (N P : ℕ) where
         go : (a : Answer) → headed N P ws ≡ a → imageWords (take 16 ws) ≤ 16 + 6 * N + P
         go Fine e = let o = heads N P ws e in let s = o .listStarts in let u = o .fewWords in let w = words-fine e in omega arith
         go (Refused n a b) e = let w = words-refused e in let l = length-take 16 ws in omega arith
+
+    pub words-most : length ws ≤ 16 → imageWords ws ≤ 16 + 6 * N + P
+    words-most h = let e = take-all 16 ws h in rw e at words-few

@@ -48,9 +48,9 @@ pub record Waits (k n inputs : ℕ) (out : List ℕ) (at : ℕ) (out′ : List �
 
 -- ---- the text ----
 
-pub said-is : (k : ℕ) → said (Refused 13 k 0) ≡ refusalText 13 k 0
+pub said-is : (n a b : ℕ) → said (Refused n a b) ≡ refusalText n a b
 unfolding said spaced
-said-is k = line-spaced _ _ ∙ simp append-assoc
+said-is n a b = line-spaced _ _ ∙ simp append-assoc
 
 -- what is shown is what the nets hold
 map-same : (f g : ℕ → ℕ) (xs : List ℕ) → ((i : ℕ) → i < length xs → f (getD xs i 0) ≡ g (getD xs i 0)) → map f xs ≡ map g xs
@@ -129,7 +129,7 @@ module _ {bytes : List ℕ} {e : ℕ} (r : LineEnd bytes e) (h : e < length byte
   refused-text ws k now q t =
       ap (textFrom ws k now) whole ∙ ⊎-elim (λ (a : (4294967294 <? k) ≡ true). (let z = yes-lt 4294967294 k a in text-limit ws k now (take e bytes) (drop (e + 1) bytes ++ more) (free-line bytes e r) (omega arith)))
       (λ (a : (length (take e bytes) ≢? length (inputNets ws) or having (λ b. b ≢? 48 and b ≢? 49) (take e bytes)) ≡ true). text-wrong ws k now (take e bytes) (drop (e + 1) bytes ++ more) (free-line bytes e r) a) (or-yes (sym q ∙ t))
-      ∙ said-is k
+      ∙ said-is 13 k 0
 
   pub goes-text : (ws : List ℕ) (k : ℕ) (now : Now) {b : Bool} → b ≡ (4294967294 <? k or (length (take e bytes) ≢? length (inputNets ws) or having (λ b. b ≢? 48 and b ≢? 49) (take e bytes))) → b ≡ false
       → textFrom ws k now (bytes ++ more) ≡ shown ws (settingOf ws (take e bytes)) (reached ws now (settingOf ws (take e bytes)))
@@ -189,7 +189,7 @@ module _ {ws steps : List ℕ} {count : ℕ} {inputs outputs registers : List �
         record {
           upTo = (let z = w .none in omega arith);
           place = f .wrote .upto;
-          stops = λ y. (f .wrote, λ now more. text-long ws k now bytes more (free-all r h) (let z = its-inputs x in omega arith) ∙ said-is k);
+          stops = λ y. (f .wrote, λ now more. text-long ws k now bytes more (free-all r h) (let z = its-inputs x in omega arith) ∙ said-is 13 k 0);
           waits = λ y u. untrue (sym y ∙ f .last);
           goes = λ y u. untrue (sym y ∙ f .last);
           few = λ y u. untrue (sym y ∙ f .last);

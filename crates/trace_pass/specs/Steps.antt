@@ -85,6 +85,7 @@ comparison-rule {ws} {t} {due} {i} {cell} o w s c v b h =
 
 -- lists of one length, inputs below outputs
 pub record ArithmeticLists (r : List ℕ) : Type 0 where
+  pub narrow : length (leftOf r) ≤ 1024
   pub wide : length (outsOf r) ≡ length (leftOf r)
   pub left-below : (a b : ℕ) → a < length (leftOf r) → b < length (leftOf r) → getD (leftOf r) a 0 < getD (outsOf r) b 0
   pub right-below : (a b : ℕ) → a < length (leftOf r) → b < length (leftOf r) → getD (rightOf r) a 0 < getD (outsOf r) b 0
@@ -109,8 +110,7 @@ arithmetic-step {ws} {t} {due} {i} {cell} o w x only = record {
     };
     operation = w .operation;
     carry-in = λ z. omega (arith, w .carry z .0);
-    right-free = λ a b h k e. absurd (omega (arith, x .right-below a b h k));
-    left-free = λ a b h k e. absurd (omega (arith, x .left-below a b h k));
+    narrow = x .narrow;
   };
   only = only;
   rule = arithmetic-rule o w;

@@ -170,6 +170,7 @@ arithmetic-built {ws} {t} {t′} {due} {due′} {n} {j} {p} ok a b h {outs} eo m
 
     lists : ArithmeticLists (place ws t′ n)
     lists = rw here (record {
+      narrow = (let c = left-length a in let d = a .told .narrow in omega arith);
       wide = outs-length a ∙ sym (left-length a);
       left-below = λ x y l k. (let c = left-length a in let d = left-at a x (omega arith) in let e = outs-at a y (omega arith) in let f = a .told .above y x (omega arith) (omega arith) in omega arith);
       right-below = λ x y l k. (let c = left-length a in let d = right-at a x (omega arith) in let e = outs-at a y (omega arith) in let f = a .told .above y (getD (a .r) 2 0 + x) (omega arith) (omega arith) in omega arith);

@@ -4,14 +4,14 @@ use mathlib.Core.Path.{_≡_, refl, sym, ap, _∙_}
 use mathlib.Core.Bool.{Bool, true, false}
 use mathlib.Core.List.{List, [], _++_, append-assoc, append-nil}
 use lib.ListN.{length, take, drop, getD}
-use Rattle.spec_tests.specs.Rules.{_≡?_, pick, Refused}
-use Rattle.spec_trace.specs.Trace.{Now, Before, said, textFrom}
+use Rattle.spec_trace.specs.Trace.{Now, Before, textFrom}
 use Rattle.trace_cells.specs.Digits.{Bits}
 use Rattle.trace_pass.specs.Plan.{size}
 use Rattle.trace_line.specs.State.{Prepared, Holds}
 use Rattle.trace_line.specs.Standing.{Standing}
 use Rattle.trace_lines.specs.Pieces.{Free, text-end}
 use Rattle.trace_run.specs.Ran.{Ran}
+use Rattle.trace_run.specs.Held.{endText}
 
 module _ (ws steps : List ℕ) (count : ℕ) (inputs outputs registers : List ℕ) (nr : ℕ) (memories : List ℕ) (nm : ℕ) where
   -- before line k, bytes read and not used up yet, the tables, the bytes still to come, and all that is written from here on
@@ -25,10 +25,11 @@ module _ (ws steps : List ℕ) (count : ℕ) (inputs outputs registers : List �
     -- more bytes come
     Read : {k : ℕ} {bytes values memory t : List ℕ} (some more : List ℕ) → Calls k (bytes ++ some) values memory more t → Calls k bytes values memory (some ++ more) t
     -- none come any more: what is left is no line
-    End : {k : ℕ} {bytes values memory : List ℕ} → Free bytes → Calls k bytes values memory [] (pick (length bytes ≡? 0) [] (said (Refused 13 k 0)))
+    End : {k : ℕ} {bytes values memory : List ℕ} → Free bytes → Calls k bytes values memory [] (endText (length bytes) k)
 
   pub calls-text : (p : Prepared ws steps count inputs outputs registers nr memories nm) {k : ℕ} {bytes values memory more t : List ℕ} → Calls k bytes values memory more t → (n : Now) → Holds ws (p .ok) memories k n values memory
       → textFrom ws k n (bytes ++ more) ≡ t
+  unfolding endText
   calls-text p {more = more} (Last r) n h = r .says p n h .stops refl more
   calls-text p {more = more} (Then {at = at} {out = out} r c) n h =
       let s = r .says p n h in

@@ -18,6 +18,14 @@ use Rattle.trace_line.specs.Standing.{Standing}
 use Rattle.trace_lines.specs.Pieces.{Free}
 use Rattle.trace_lines.specs.Answers.{Answered}
 
+-- a line of n characters and its end fit in, or a refusal
+abbrev pub roomy : List ℕ → ℕ → ℕ → Bool
+roomy out at n = not (length out <? at + n + 42)
+
+-- where the text is not the last: the next line must still come, or there is no room
+abbrev pub Stopped : List ℕ → ℕ → ℕ → Bool → Bool → Type 0
+Stopped out at n wait stop = stop ≡ false → wait ≡ roomy out at n
+
 -- a text for which there is room
 pub wrote-room : {o t o′ : List ℕ} {at r : ℕ} → Wrote o at t o′ r → at + length t ≤ length o → take r o′ ≡ take at o ++ t
 wrote-room {o} {t} {o′} {at} w h =
@@ -25,8 +33,8 @@ wrote-room {o} {t} {o′} {at} w h =
     let m = length-take at o in
     w .text ∙ take-all (length o) (take at o ++ t) (omega arith)
 
-refusal-few : (k : ℕ) → k < 4294967296 → length (refusalText 13 k 0) ≤ 41
-refusal-few k h = let e = ap length (refusal 13 k 0 [] []) in let s = refusal-short 13 k 0 [] [] (omega arith) h (omega arith) in omega arith
+pub refusal-few : (n k : ℕ) → n < 4294967296 → k < 4294967296 → length (refusalText n k 0) ≤ 41
+refusal-few n k l h = let e = ap length (refusal n k 0 [] []) in let s = refusal-short n k 0 [] [] l h (omega arith) in omega arith
 
 module _ (ws steps : List ℕ) (count : ℕ) (inputs outputs registers : List ℕ) (nr : ℕ) (memories : List ℕ) (nm k : ℕ) (bytes values memory : List ℕ) where
   -- from where the run stands on: the text of the lines taken, and where it then stands; where it stops, that is all
@@ -40,7 +48,7 @@ module _ (ws steps : List ℕ) (count : ℕ) (inputs outputs registers : List �
     pub upTo : used ≤ length bytes
     pub place : at ≤ length out
     pub says : (p : Prepared ws steps count inputs outputs registers nr memories nm) (n : Now) → Holds ws (p .ok) memories k n values memory → Told p n used k′ (take at out) stop values′ memory′
-    pub waits : wait ≡ true → Free (drop used bytes)
+    pub waits : wait ≡ true → Free (drop used bytes) × (length (drop used bytes) ≤ length inputs)
     pub standing : stop ≡ false → Standing ws steps count inputs outputs registers nr memories nm k′ values′ memory′
 
 module _ {ws steps : List ℕ} {count : ℕ} {inputs outputs registers : List ℕ} {nr : ℕ} {memories : List ℕ} {nm k : ℕ} {bytes values memory : List ℕ} where
@@ -68,7 +76,7 @@ module _ {ws steps : List ℕ} {count : ℕ} {inputs outputs registers : List �
           let t = r .says p n h in
           record {
             next = n;
-            stops = λ f more. t .goes refl more ∙ ap (λ (l : List ℕ). take at out ++ textFrom ws k₁ (t .next) l) (sym (behind more)) ∙ ap (λ (l : List ℕ). take at out ++ l) (a .stops e .1 (t .next) more) ∙ sym (wrote-room (a .stops e .0) (let f = refusal-few k₁ small in omega arith));
+            stops = λ f more. t .goes refl more ∙ ap (λ (l : List ℕ). take at out ++ textFrom ws k₁ (t .next) l) (sym (behind more)) ∙ ap (λ (l : List ℕ). take at out ++ l) (a .stops e .1 (t .next) more) ∙ sym (wrote-room (a .stops e .0) (let f = refusal-few 13 k₁ (omega arith) small in omega arith));
             goes = λ f. untrue (sym f);
             holds = λ f. untrue (sym f);
           });
@@ -83,9 +91,12 @@ module _ {ws steps : List ℕ} {count : ℕ} {inputs outputs registers : List �
           upTo = r .upTo;
           place = a .place;
           says = λ p n h. rw (w .0 .0, w .0 .1, w .1 .1 .0, w .1 .1 .1) (r .says p n h);
-          waits = λ f. subst Free er (w .1 .0 .0);
+          waits = λ f. (subst Free er (w .1 .0 .0), (let l = w .1 .0 .1 in let n = ap length er in let i = ap length (r .standing refl .prepared .inputs-are) in omega arith));
           standing = λ f. rw (w .1 .1 .0, w .1 .1 .1) (r .standing f);
         }
+
+    pub stopped-waits : stop ≡ false → u ≡ 0 → {b : Bool} → b ≡ roomy out at (length outputs) → b ≡ true → Stopped out′ to (length outputs) true false
+    stopped-waits e z q t f = let w = a .waits e z in sym t ∙ q ∙ rw (w .0 .0, w .0 .1) refl
 
     pub ran-goes : stop ≡ false → 0 < u → Ran ws steps count inputs outputs registers nr memories nm k bytes values memory (used + u) to (k₁ + 1) false false out′ values₂ memory₂
     ran-goes e b = record {

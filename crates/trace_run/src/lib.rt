@@ -2,10 +2,12 @@
 ghost use mathlib.Core.Path.{_≡_};
 ghost use mathlib.Core.Bool.{not};
 ghost use Prim.Native.Nat.{_+_, _≤_};
-ghost use lib.ListN.{length};
+ghost use lib.ListN.{length, take, drop};
 ghost use Rattle.spec_tests.specs.Rules.{_<?_};
 ghost use Rattle.trace_line.specs.Standing.{Standing};
-ghost use Rattle.trace_run.specs.Ran.{Ran};
+ghost use Rattle.listing_text.specs.Text.{Wrote};
+ghost use Rattle.trace_run.specs.Ran.{roomy, Ran, Stopped};
+ghost use Rattle.trace_run.specs.Held.{endText};
 
 // How many bytes are used up, where the text ends, the next line's number; whether the next line must still come, and whether the text is
 // the last.
@@ -20,7 +22,7 @@ pub struct Run {
 // A line of n characters and its end fit in from a place on, and so does a refusal.
 fn has_room(out: &[u8], at: usize, n: usize) -> bool
     requires { ⌜ at ≤ length (now out) ⌝ }
-    ensures { λ r. ⌜ r ≡ not (length (now (out .entry)) <? at + n + 42) ⌝ }
+    ensures { λ r. ⌜ r ≡ roomy (now (out .entry)) at n ⌝ }
 {
     if out.len() - at < 42 {
         return false;
@@ -50,7 +52,7 @@ pub fn take_lines(
     out: &mut [u8],
 ) -> Run
     requires { ⌜ (Standing (now net) (now steps) count (now inputs) (now outputs) (now registers) nr (now memories) nm k (now values) (now memory)) × (length (now old) ≡ length (now values)) ⌝ }
-    ensures { λ r. ⌜ Ran (now (net .entry)) (now (steps .entry)) count (now (inputs .entry)) (now (outputs .entry)) (now (registers .entry)) nr (now (memories .entry)) nm k (now (bytes .entry)) (now (values .entry)) (now (memory .entry)) (r .used) (r .at) (r .line) (r .wait) (r .stop) (now (out .exit)) (now (values .exit)) (now (memory .exit)) ⌝ }
+    ensures { λ r. ⌜ Ran (now (net .entry)) (now (steps .entry)) count (now (inputs .entry)) (now (outputs .entry)) (now (registers .entry)) nr (now (memories .entry)) nm k (now (bytes .entry)) (now (values .entry)) (now (memory .entry)) (r .used) (r .at) (r .line) (r .wait) (r .stop) (now (out .exit)) (now (values .exit)) (now (memory .exit)) × Stopped (now (out .exit)) (r .at) (length (now (outputs .entry))) (r .wait) (r .stop) ⌝ }
 {
     let mut used: usize = 0;
     let mut at: usize = 0;
@@ -103,4 +105,27 @@ pub fn take_lines(
         wait: false,
         stop: false,
     }
+}
+
+// Moves n bytes from a place on to the front.
+pub fn move_down(bytes: &mut [u8], from: usize, n: usize)
+    requires { ⌜ from + n ≤ length (now bytes) ⌝ }
+    ensures { λ _. ⌜ (take n (now (bytes .exit)) ≡ take n (drop from (now (bytes .entry)))) × (length (now (bytes .exit)) ≡ length (now (bytes .entry))) ⌝ }
+{
+    let mut i: usize = 0;
+    while i < n {
+        bytes[i] = bytes[from + i];
+        i += 1;
+    }
+}
+
+// At the input's end: where bytes are left, refuses the line that they are. The next place.
+pub fn put_end(out: &mut [u8], at: usize, left: usize, k: u32) -> usize
+    requires { ⌜ at ≤ length (now out) ⌝ }
+    ensures { λ r. ⌜ Wrote (now (out .entry)) at (endText left k) (now (out .exit)) r ⌝ }
+{
+    if left == 0 {
+        return at;
+    }
+    listing_text::put_refusal(out, at, 13, k, 0)
 }

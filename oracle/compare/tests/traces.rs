@@ -204,7 +204,7 @@ const LIMITS: [(&str, &str); 75] = [
 ];
 
 fn file(folder: &str, name: &str) -> Vec<u8> {
-    let path = std::path::Path::new(env!("CARGO_MANIFEST_DIR")).join("stored").join(folder).join(name);
+    let path = std::path::Path::new(env!("CARGO_MANIFEST_DIR")).join("../../crates").join(folder).join(name);
     std::fs::read(&path).unwrap_or_else(|error| panic!("{}: {error}", path.display()))
 }
 

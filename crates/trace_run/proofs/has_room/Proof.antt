@@ -6,7 +6,6 @@ use mathlib.Core.Bool.{not}
 use native.Mathlib.Omega.{arith}
 use Rattle.spec_tests.specs.Laws.{lt-yes, lt-no}
 use borrow.Author.Needs.{needs}
-use borrow.Author.Needs.{needs}
 
 returns : tie.Need-returns
 returns c = sym (ap not (lt-yes _ _ (omega (arith, c .if1 .taken))))

@@ -1,7 +1,7 @@
 //! Makes the stored runs of the trace program, or describes them: what
 //! `compare::traces::stored` writes, as `stdin` and `stdout`. Also the run of the
 //! controller, whose files are the program's own input and output. The folders are
-//! oracle/compare/stored/trace_runs and oracle/compare/stored/trace.
+//! crates/trace_runs and crates/trace.
 
 use compare::args::parse_number;
 use compare::traces::stored::{controller, describe, make, read, stdin, stdout};

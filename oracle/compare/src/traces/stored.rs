@@ -1,7 +1,7 @@
 //! Stored runs of the trace program: how many inputs there are, then of
 //! each the number of its bytes (both 32 bits, low byte first) and the bytes; as
 //! answers the oracle's text of each input, and a line `--` after it. They stand in
-//! oracle/compare/stored.
+//! crates/trace_runs.
 
 use super::cases::{by_hand, case, lowered, trace, Origin};
 use super::limits::{at_the_limits, bytes};

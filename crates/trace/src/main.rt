@@ -1,0 +1,275 @@
+// The trace program: reads a netlist image and a trace from standard input, and prints the output bits after each line, or the refusal. What
+// it prints is made by proved functions; that it reads and prints these bytes, in this order, is this page.
+ghost use mathlib.Core.Path.{_≡_};
+ghost use mathlib.Core.Bool.{true, not};
+ghost use Prim.Native.Nat.{_*_, _-_, _≤_, _<_};
+ghost use lib.ListN.{length, take, replicate};
+ghost use Rattle.spec_tests.specs.Rules.{_and_};
+ghost use Rattle.trace_line.specs.Standing.{Standing};
+use libc::STDIN_FILENO;
+use libc::STDOUT_FILENO;
+use trace_open::Opened;
+use trace_tables::Tables;
+
+// Where the bytes that were read and are not used up begin and end in their buffer, the next line's number, and whether the run goes on.
+struct Held {
+    from: usize,
+    end: usize,
+    line: u32,
+    go: bool,
+}
+
+// As many bytes as an image has at most.
+fn image_bytes() -> [u8; 32832]
+    ensures { λ r. ⌜ 32832 ≡ length r ⌝ }
+{
+    [0; 32832]
+}
+
+// Prints a refusal.
+fn refuse(number: u32, place: u32) {
+    let mut out = io::buffer();
+    let end = listing_text::put_refusal(&mut out, 0, number, place, 0);
+    io::write_all(STDOUT_FILENO, image_fields::stretch(&out, 0, end));
+}
+
+// Reads bytes of the image into their places; where those that are there then end.
+fn read_bytes(bytes: &mut [u8], from: usize, to: usize) -> usize
+    requires { ⌜ (from ≤ to) × (to ≤ length (now bytes)) ⌝ }
+    ensures { λ r. ⌜ r ≤ to ⌝ }
+{
+    from + io::read_full(STDIN_FILENO, &mut bytes[from..to])
+}
+
+// The words of the first n bytes; how many.
+fn words_of(bytes: &[u8], n: usize, net: &mut [u32]) -> usize
+    requires { ⌜ (n ≤ 32832) × (8208 ≤ length (now net)) ⌝ }
+    ensures { λ r. ⌜ (4 * r ≤ n) × (r ≤ length (now (net .exit))) ⌝ }
+{
+    trace_image::read_words(image_fields::stretch(bytes, 0, n), net)
+}
+
+// Where the image ends, by its first words.
+fn image_end(net: &[u32], words: usize) -> usize
+    requires { ⌜ words ≤ 16 ⌝ }
+    ensures { λ r. ⌜ r ≤ 32832 ⌝ }
+{
+    4 * trace_image::image_words(net_words::stretch(net, 0, words))
+}
+
+// Reads the image: sixteen words, and as many more as these say. How many there are.
+fn read_image(bytes: &mut [u8], net: &mut [u32]) -> usize
+    requires { ⌜ (32832 ≤ length (now bytes)) × (8208 ≤ length (now net)) ⌝ }
+    ensures { λ r. ⌜ r ≤ length (now (net .exit)) ⌝ }
+{
+    let first = read_bytes(bytes, 0, 64);
+    let words = words_of(bytes, first, net);
+    let end = image_end(net, words);
+    if end <= first {
+        return words;
+    }
+    let all = read_bytes(bytes, first, end);
+    words_of(bytes, all, net)
+}
+
+// At the input's end: refuses the line that the bytes left are, if there are any.
+fn end(left: usize, line: u32) {
+    let mut out = io::buffer();
+    let to = trace_run::put_end(&mut out, 0, left, line);
+    io::write_all(STDOUT_FILENO, image_fields::stretch(&out, 0, to));
+}
+
+// The bytes held move to the front, and more are read behind them.
+fn read_more(h: Held, bytes: &mut [u8]) -> Held
+    requires { ⌜ (h .from ≤ h .end) × (h .end ≤ length (now bytes)) × (h .end - h .from < length (now bytes)) ⌝ }
+    ensures { λ r. ⌜ (r .line ≡ h .line) × (r .from ≤ r .end) × (r .end ≤ length (now (bytes .exit))) ⌝ }
+{
+    let n = h.end - h.from;
+    trace_run::move_down(bytes, h.from, n);
+    let got = libc::read(STDIN_FILENO, &mut bytes[n..]);
+    let more = io::count(got, &bytes[n..]);
+    if more == 0 {
+        end(n, h.line);
+    }
+    Held {
+        from: 0,
+        end: n + more,
+        line: h.line,
+        go: more != 0,
+    }
+}
+
+// The run goes on where its text was printed and is not the last.
+fn goes_on(written: bool, stop: bool) -> bool
+    ensures { λ r. ⌜ r ≡ (written and not stop) ⌝ }
+{
+    if written {
+        return !stop;
+    }
+    false
+}
+
+// Takes the lines among the bytes held and prints their text; reads on where the next line must still come.
+fn turn(
+    net: &[u32],
+    steps: &[u32],
+    count: usize,
+    inputs: &[u32],
+    outputs: &[u32],
+    registers: &[u32],
+    nr: usize,
+    memories: &[u32],
+    nm: usize,
+    h: Held,
+    bytes: &mut [u8],
+    values: &mut [u32],
+    old: &mut [u32],
+    memory: &mut [u32],
+    out: &mut [u8],
+) -> Held
+    requires { ⌜ (Standing (now net) (now steps) count (now inputs) (now outputs) (now registers) nr (now memories) nm (h .line) (now values) (now memory)) × (length (now old) ≡ length (now values)) × (h .from ≤ h .end) × (h .end ≤ length (now bytes)) × (length (now inputs) < length (now bytes)) ⌝ }
+    ensures { λ r. ⌜ (r .go ≡ true → Standing (now (net .entry)) (now (steps .entry)) count (now (inputs .entry)) (now (outputs .entry)) (now (registers .entry)) nr (now (memories .entry)) nm (r .line) (now (values .exit)) (now (memory .exit))) × (r .from ≤ r .end) × (r .end ≤ length (now (bytes .exit))) ⌝ }
+{
+    let from = h.from;
+    let end = h.end;
+    let r = trace_run::take_lines(
+        net,
+        steps,
+        count,
+        inputs,
+        outputs,
+        registers,
+        nr,
+        memories,
+        nm,
+        h.line,
+        &bytes[from..end],
+        values,
+        old,
+        memory,
+        out,
+    );
+    let written = io::write_all(STDOUT_FILENO, image_fields::stretch(out, 0, r.at));
+    let next = Held {
+        from: from + r.used,
+        end,
+        line: r.line,
+        go: goes_on(written, r.stop),
+    };
+    if next.go && r.wait {
+        return read_more(next, bytes);
+    }
+    next
+}
+
+// The lines of a trace. A proved loop has to end, and nothing says that a trace does: so it counts its turns down, from a number that no run
+// uses up.
+fn run(
+    net: &[u32],
+    steps: &[u32],
+    count: usize,
+    inputs: &[u32],
+    outputs: &[u32],
+    registers: &[u32],
+    nr: usize,
+    memories: &[u32],
+    nm: usize,
+    values: &mut [u32],
+    old: &mut [u32],
+    memory: &mut [u32],
+    bytes: &mut [u8],
+    out: &mut [u8],
+)
+    requires { ⌜ (Standing (now net) (now steps) count (now inputs) (now outputs) (now registers) nr (now memories) nm 0 (now values) (now memory)) × (length (now old) ≡ length (now values)) × (length (now inputs) < length (now bytes)) ⌝ }
+{
+    let mut h = Held {
+        from: 0,
+        end: 0,
+        line: 0,
+        go: true,
+    };
+    let mut turns = u64::MAX;
+    while turns > 0 && h.go {
+        h = turn(
+            net,
+            steps,
+            count,
+            inputs,
+            outputs,
+            registers,
+            nr,
+            memories,
+            nm,
+            h,
+            bytes,
+            values,
+            old,
+            memory,
+            out,
+        );
+        turns -= 1;
+    }
+}
+
+// A trace, by the tables of an image.
+fn take_trace(
+    net: &[u32],
+    t: Tables,
+    steps: &[u32],
+    inputs: &[u32],
+    outputs: &[u32],
+    registers: &[u32],
+    memories: &[u32],
+)
+    requires { ⌜ (Standing (now net) (now steps) (t .steps) (take (t .inputs) (now inputs)) (take (t .outputs) (now outputs)) (now registers) (t .registers) (now memories) (t .memories) 0 (replicate 1024 0) (replicate 65536 0)) × (length (now inputs) ≤ 2048) ⌝ }
+{
+    let mut values = trace_open::value_table();
+    let mut old = trace_open::value_table();
+    let mut memory = trace_open::memory_table();
+    let mut bytes = io::large_buffer();
+    let mut out = io::large_buffer();
+    run(
+        net,
+        steps,
+        t.steps,
+        net_words::stretch(inputs, 0, t.inputs),
+        net_words::stretch(outputs, 0, t.outputs),
+        registers,
+        t.registers,
+        memories,
+        t.memories,
+        &mut values,
+        &mut old,
+        &mut memory,
+        &mut bytes,
+        &mut out,
+    );
+}
+
+// Refuses an image, or takes its trace.
+fn start(net: &[u32]) {
+    let mut steps = trace_open::step_table();
+    let mut inputs = trace_open::list_table();
+    let mut outputs = trace_open::list_table();
+    let mut registers = trace_open::list_table();
+    let mut memories = trace_open::list_table();
+    match trace_open::open(
+        net,
+        &mut steps,
+        &mut inputs,
+        &mut outputs,
+        &mut registers,
+        &mut memories,
+    ) {
+        Opened::Run(t) => take_trace(net, t, &steps, &inputs, &outputs, &registers, &memories),
+        Opened::Wrong(p) => refuse(11, p),
+        Opened::Unfit => refuse(12, 0),
+    }
+}
+
+fn main() {
+    let mut bytes = image_bytes();
+    let mut net = trace_open::image_table();
+    let n = read_image(&mut bytes, &mut net);
+    start(&net[..n]);
+}

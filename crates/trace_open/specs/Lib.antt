@@ -1,0 +1,3 @@
+-- The opening of a trace.
+pub mod Opens
+pub mod Begins
