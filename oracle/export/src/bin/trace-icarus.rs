@@ -1,22 +1,24 @@
-//! Runs netlists over traces by Icarus Verilog and by the oracle's trace program.
-//! Stands outside the proof. `oracle/run-trace-icarus` builds and starts it.
+//! Runs netlists over traces by Icarus Verilog, by the oracle's trace program and, where
+//! TRACE_PROGRAM names it, by the port's. Stands outside the proof.
+//! `oracle/run-trace-icarus` builds and starts it.
 
 use std::process::ExitCode;
 use std::time::Instant;
 
 use compare::args::Words;
 use compare::plan::Plan;
-use compare::traces::run::Tracer;
+use compare::traces::run::{Program, Tracer};
 use compare::traces::variants::{FAULTS, Fault, Variant};
 use export::tools::is_installed;
-use export::traces::{first_difference, icarus, traced};
+use export::traces::{Traced, first_difference, icarus, traced};
 
 const HELP: &str = "usage: trace-icarus --seed S --count TRACES [--first I]
        trace-icarus --self-test
 
 Writes netlists (lowered, and made by hand) as Verilog, has Icarus Verilog run
 them over traces, many in one simulation, and compares the output bits after each
-line with the oracle's trace program. With --self-test, rules of the step and of
+line with the oracle's trace program, and with the program that the variable
+TRACE_PROGRAM names, if it does. With --self-test, rules of the step and of
 values read wrongly on purpose must each differ from Icarus. Exits with 1 at the
 first difference, with 2 where a tool is missing.";
 
@@ -55,14 +57,26 @@ fn fail(problem: &str, code: u8) -> ExitCode {
     ExitCode::from(code)
 }
 
+/// The first difference of a trace: Icarus and the oracle, then the program and Icarus.
+fn differs(traced: &Traced, theirs: &str, program: Option<&Program>) -> Result<Option<String>, String> {
+    let oracle = first_difference(&traced.text, theirs);
+    if oracle.is_some() {
+        return Ok(oracle);
+    }
+    let Some(program) = program else { return Ok(None) };
+    let text = program.trace(&traced.input)?;
+    Ok(first_difference(&String::from_utf8_lossy(&text), theirs).map(|difference| format!("the program: {difference}")))
+}
+
 fn run(plan: &Plan) -> Result<String, String> {
     let start = Instant::now();
+    let program = std::env::var_os("TRACE_PROGRAM").map(|path| Program(path.into()));
     let (mut next, mut left) = (plan.first, plan.count as usize);
     let (mut lines, mut nets, mut stored) = (0, 0, 0);
     while left > 0 {
         let batch = traced(plan.seed, next, left.min(TOGETHER));
         for (traced, theirs) in batch.iter().zip(icarus(&batch)?) {
-            if let Some(difference) = first_difference(&traced.text, &theirs) {
+            if let Some(difference) = differs(traced, &theirs, program.as_ref())? {
                 return Err(format!("seed {}, trace {}: {difference}", plan.seed, traced.number));
             }
             lines += traced.lines.len();
@@ -73,8 +87,9 @@ fn run(plan: &Plan) -> Result<String, String> {
         next = batch.last().map_or(next, |traced| traced.number + 1);
     }
     let (count, seconds) = (plan.count, start.elapsed().as_secs_f64());
+    let port = if program.is_some() { ", the trace program" } else { "" };
     Ok(format!(
-        "equal: Icarus, and the oracle's trace program: {count} traces, {stored} of them with registers or memories, {lines} lines, {nets} nets; \
+        "equal: Icarus{port}, and the oracle's trace program: {count} traces, {stored} of them with registers or memories, {lines} lines, {nets} nets; \
          seed {}; {seconds:.1} s",
         plan.seed
     ))
@@ -86,7 +101,7 @@ fn self_test() -> Result<String, (String, u8)> {
     let theirs = icarus(&batch).map_err(|problem| (problem, 1))?;
     let first = FAULTS.iter().position(|fault| *fault == Fault::BySignal).expect("a fault of the list");
     for fault in &FAULTS[first..] {
-        let differs = |(traced, theirs): (&export::traces::Traced, &String)| {
+        let differs = |(traced, theirs): (&Traced, &String)| {
             let ours = Variant(Some(*fault)).trace(&traced.input).expect("a text");
             first_difference(&String::from_utf8_lossy(&ours), theirs)
         };
