@@ -1,3 +1,2 @@
--- What the trace program's buffers hold.
-pub mod Image
+-- What the trace program's turns leave.
 pub mod Turn

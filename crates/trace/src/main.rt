@@ -1,8 +1,8 @@
 // The trace program: reads a netlist image and a trace from standard input, and prints the output bits after each line, or the refusal. What
-// it prints is made by proved functions; that it reads and prints these bytes, in this order, is this page.
+// it prints is made by proved functions; that it reads and prints these bytes, in this order, is said here alone.
 ghost use mathlib.Core.Path.{_≡_};
 ghost use mathlib.Core.Bool.{true, not};
-ghost use Prim.Native.Nat.{_*_, _-_, _≤_, _<_};
+ghost use Prim.Native.Nat.{_-_, _≤_, _<_};
 ghost use lib.ListN.{length, take, replicate};
 ghost use Rattle.spec_tests.specs.Rules.{_and_};
 ghost use Rattle.trace_line.specs.Standing.{Standing};
@@ -33,43 +33,24 @@ fn refuse(number: u32, place: u32) {
     io::write_all(STDOUT_FILENO, image_fields::stretch(&out, 0, end));
 }
 
-// Reads bytes of the image into their places; where those that are there then end.
-fn read_bytes(bytes: &mut [u8], from: usize, to: usize) -> usize
-    requires { ⌜ (from ≤ to) × (to ≤ length (now bytes)) ⌝ }
-    ensures { λ r. ⌜ r ≤ to ⌝ }
+// Reads up to a place into the bytes from another on; where those that are there then end.
+fn read_up_to(bytes: &mut [u8], from: usize, to: usize) -> usize
+    requires { ⌜ to ≤ length (now bytes) ⌝ }
 {
+    if to <= from {
+        return from;
+    }
     from + io::read_full(STDIN_FILENO, &mut bytes[from..to])
-}
-
-// The words of the first n bytes; how many.
-fn words_of(bytes: &[u8], n: usize, net: &mut [u32]) -> usize
-    requires { ⌜ (n ≤ 32832) × (8208 ≤ length (now net)) ⌝ }
-    ensures { λ r. ⌜ (4 * r ≤ n) × (r ≤ length (now (net .exit))) ⌝ }
-{
-    trace_image::read_words(image_fields::stretch(bytes, 0, n), net)
-}
-
-// Where the image ends, by its first words.
-fn image_end(net: &[u32], words: usize) -> usize
-    requires { ⌜ words ≤ 16 ⌝ }
-    ensures { λ r. ⌜ r ≤ 32832 ⌝ }
-{
-    4 * trace_image::image_words(net_words::stretch(net, 0, words))
 }
 
 // Reads the image: sixteen words, and as many more as these say. How many there are.
 fn read_image(bytes: &mut [u8], net: &mut [u32]) -> usize
     requires { ⌜ (32832 ≤ length (now bytes)) × (8208 ≤ length (now net)) ⌝ }
-    ensures { λ r. ⌜ r ≤ length (now (net .exit)) ⌝ }
 {
-    let first = read_bytes(bytes, 0, 64);
-    let words = words_of(bytes, first, net);
-    let end = image_end(net, words);
-    if end <= first {
-        return words;
-    }
-    let all = read_bytes(bytes, first, end);
-    words_of(bytes, all, net)
+    let first = read_up_to(bytes, 0, 64);
+    let words = trace_open::words_by_header(image_fields::stretch(bytes, 0, first), net);
+    let all = read_up_to(bytes, first, 4 * words);
+    trace_open::read_image(image_fields::stretch(bytes, 0, all), words, net)
 }
 
 // At the input's end: refuses the line that the bytes left are, if there are any.
@@ -271,5 +252,5 @@ fn main() {
     let mut bytes = image_bytes();
     let mut net = trace_open::image_table();
     let n = read_image(&mut bytes, &mut net);
-    start(&net[..n]);
+    start(net_words::stretch(&net, 0, n));
 }

@@ -1,7 +1,9 @@
 // The opening of a trace: the judgement of its netlist image by refusals 11 and 12, and the tables of the run.
 ghost use mathlib.Core.Path.{_≡_};
-ghost use Prim.Native.Nat.{_≤_};
-ghost use lib.ListN.{length, replicate};
+ghost use Prim.Native.Nat.{_*_, _≤_};
+ghost use lib.ListN.{length, take, replicate};
+ghost use Rattle.spec_trace.specs.Opened.{wordsOf};
+ghost use Rattle.trace_image.specs.Whole.{imageWords};
 ghost use Rattle.trace_open.specs.Opens.{Opens, ifFit};
 use trace_image::Judged;
 use trace_tables::Tables;
@@ -46,6 +48,23 @@ pub fn memory_table() -> [u32; 65536]
     ensures { λ r. ⌜ r ≡ replicate 65536 0 ⌝ }
 {
     [0; 65536]
+}
+
+// How many words the image has that these bytes begin with, by its first sixteen; net is lent.
+pub fn words_by_header(input: &[u8], net: &mut [u32]) -> usize
+    requires { ⌜ 8208 ≤ length (now net) ⌝ }
+    ensures { λ r. ⌜ r ≡ imageWords 1024 2048 (take 16 (wordsOf (now (input .entry)))) ⌝ }
+{
+    let n = trace_image::read_words(image_fields::stretch(input, 0, 64), net);
+    trace_image::image_words(net_words::stretch(net, 0, n))
+}
+
+// So many words of an image; how many are there.
+pub fn read_image(input: &[u8], words: usize, net: &mut [u32]) -> usize
+    requires { ⌜ (words ≤ 8208) × (8208 ≤ length (now net)) ⌝ }
+    ensures { λ r. ⌜ take r (now (net .exit)) ≡ take words (wordsOf (now (input .entry))) ⌝ }
+{
+    trace_image::read_words(image_fields::stretch(input, 0, 4 * words), net)
 }
 
 // A run, if the netlist is fit for one.

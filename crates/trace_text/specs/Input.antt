@@ -1,24 +1,23 @@
 -- The trace program's text by its image and what follows it; the image's words as they are read from an input in memory. Assumes nothing.
-use Prim.Native.Nat.{ℕ, _*_, _/_, _≤_, _<_}
+use Prim.Native.Nat.{ℕ, _*_, _≤_}
 use native.Mathlib.Omega.{arith}
 use mathlib.Core.Path.{_≡_, refl, sym, ap, _∙_}
 use mathlib.Core.Bool.{Bool, true, false}
 use mathlib.Core.List.{List}
-use lib.ListN.{length, take, drop, length-take, length-drop}
+use lib.ListN.{length, take, drop, length-drop}
 use lib.Seq.{take-all}
 use Rattle.spec_tests.specs.Rules.{Answer, Fine, Refused, andThen}
 use Rattle.spec_rules.specs.Checks.{refuse}
 use Rattle.spec_trace.specs.Opened.{wordsOf, opened, unfit}
 use Rattle.spec_trace.specs.Trace.{Before, said, textFrom, unless, program}
 use Rattle.check_image.specs.Checked.{refuse-yes, refuse-no}
-use Rattle.trace_image.specs.Words.{ReadWords}
-use Rattle.trace_image.specs.Whole.{imageWords, words-few}
-use Rattle.trace_image.specs.Program.{image, words-take, text-refused, text-unfit, text-run, image-end}
+use Rattle.trace_image.specs.Program.{image, text-refused, text-unfit, text-run, image-end}
 use Rattle.trace_tables.specs.declared.Tables.{Tables}
 use Rattle.trace_open.specs.declared.Opened.{Opened}
 use Rattle.trace_open.specs.declared.Opened.the-variants as O
 use Rattle.trace_open.specs.Opens.{answerOf, judgement, Opens}
 use Rattle.trace_open.specs.Begins.{judged-fine}
+use Rattle.trace_open.specs.Image.{words}
 use Rattle.trace_text.specs.Begins.{Begins, begins-same, begins-spare}
 
 -- the text for an image that was judged
@@ -39,44 +38,24 @@ module _ {ws steps inputs outputs registers memories : List ℕ} {o : Opened} (r
 -- ---- the program ----
 
 module _ (input : List ℕ) where
-  abbrev words : ℕ
-  words = imageWords 1024 2048 (take 16 (wordsOf input))
-
   abbrev ws : List ℕ
   ws = image 1024 2048 65536 input
 
-  pub program-by : program input ≡ judgedText ws (drop (4 * words) input)
+  pub program-by : program input ≡ judgedText ws (drop (4 * words input) input)
   unfolding judgedText judgement unless andThen
   program-by = go (opened 1024 2048 ws) refl (unfit 65536 ws) refl
     where
-      go : (a : Answer) → opened 1024 2048 ws ≡ a → (b : Bool) → unfit 65536 ws ≡ b → program input ≡ unless (andThen (opened 1024 2048 ws) (refuse (unfit 65536 ws) 12)) (textFrom ws 0 Before (drop (4 * words) input))
+      go : (a : Answer) → opened 1024 2048 ws ≡ a → (b : Bool) → unfit 65536 ws ≡ b → program input ≡ unless (andThen (opened 1024 2048 ws) (refuse (unfit 65536 ws) 12)) (textFrom ws 0 Before (drop (4 * words input) input))
       go (Refused n a b) e u f = text-refused 1024 2048 65536 input e ∙ rw e refl
       go Fine e true f = text-unfit 1024 2048 65536 input e f ∙ rw (e, refuse-yes 12 f) refl
       go Fine e false f =
           text-run 1024 2048 65536 input e f
           ∙ rw (e, refuse-no 12 f) (ap (λ (n : ℕ). textFrom ws 0 Before (drop (4 * n) input)) (sym (image-end 1024 2048 65536 input e)))
 
-  -- ---- its words, as they are read ----
-
-  pub few-words : words ≤ 8208
-  few-words = words-few 1024 2048 (wordsOf input)
-
-  pub first-fit : {s : List ℕ} (net : List ℕ) → s ≡ take 64 (drop 0 input) → 8208 ≤ length net → (length s / 4 ≤ length net) × (length s < 18446744073709551612)
-  first-fit net e h = let l = ap length e ∙ length-take 64 input in (omega arith, omega arith)
-
-  pub first-are : {s t net : List ℕ} {n k : ℕ} → s ≡ take 64 (drop 0 input) → ReadWords s net n → t ≡ take n (drop 0 net) → k ≡ imageWords 1024 2048 t → k ≡ words
-  first-are e r f q = q ∙ ap (imageWords 1024 2048) (f ∙ r .words ∙ ap wordsOf e ∙ words-take 16 input)
-
-  pub all-fit : {s : List ℕ} (n : ℕ) (net : List ℕ) → s ≡ take (4 * n) (drop 0 input) → n ≤ 8208 → 8208 ≤ length net → (length s / 4 ≤ length net) × (length s < 18446744073709551612)
-  all-fit n net e h l = let k = ap length e ∙ length-take (4 * n) input in (omega arith, omega arith)
-
-  pub all-are : {s net : List ℕ} {m : ℕ} (n : ℕ) → s ≡ take (4 * n) (drop 0 input) → ReadWords s net m → take m net ≡ take n (wordsOf input)
-  all-are n e r = r .words ∙ ap wordsOf e ∙ words-take n input
-
-  pub program-text : {net′ trace out : List ℕ} {to : ℕ} (n m len : ℕ) (net : List ℕ) → n ≡ words → take m net ≡ take n (wordsOf input) → net′ ≡ take m (drop 0 net) → trace ≡ take len (drop (4 * n) input) → len ≡ length input
+  pub program-text : {net′ trace out : List ℕ} {to : ℕ} (n m len : ℕ) (net : List ℕ) → n ≡ words input → take m net ≡ take n (wordsOf input) → net′ ≡ take m (drop 0 net) → trace ≡ take len (drop (4 * n) input) → len ≡ length input
       → Begins 2090 (judgedText net′ trace) out to → Begins 2090 (program input) out to
   program-text n m len net e f g h l b =
       let d = length-drop (4 * n) input in
       let z = take-all len (drop (4 * n) input) (omega arith) in
-      begins-same (program-by ∙ sym (ap (λ (j : List ℕ). judgedText j (drop (4 * words) input)) (g ∙ f ∙ ap (λ (k : ℕ). take k (wordsOf input)) e)
+      begins-same (program-by ∙ sym (ap (λ (j : List ℕ). judgedText j (drop (4 * words input) input)) (g ∙ f ∙ ap (λ (k : ℕ). take k (wordsOf input)) e)
       ) ∙ sym (ap (judgedText _) (h ∙ z ∙ ap (λ (k : ℕ). drop (4 * k) input) e))) b

@@ -1,10 +1,7 @@
 // The trace program's text for an input in memory, in a lent buffer. It is whole where the buffer has 2,090 bytes to spare; else its start.
-ghost use mathlib.Core.Path.{_≡_};
-ghost use Prim.Native.Nat.{_+_, _*_, _≤_};
-ghost use lib.ListN.{length, take, replicate};
-ghost use Rattle.spec_trace.specs.Opened.{wordsOf};
+ghost use Prim.Native.Nat.{_+_};
+ghost use lib.ListN.{length, replicate};
 ghost use Rattle.spec_trace.specs.Trace.{Before, textFrom, program};
-ghost use Rattle.trace_image.specs.Whole.{imageWords};
 ghost use Rattle.trace_line.specs.Standing.{Standing};
 ghost use Rattle.trace_text.specs.Begins.{Begins};
 ghost use Rattle.trace_text.specs.Input.{judgedText};
@@ -91,30 +88,13 @@ fn judged_text(net: &[u32], trace: &[u8], out: &mut [u8]) -> usize
     }
 }
 
-// How many words the image has, by the first sixteen.
-fn words_by_header(input: &[u8], net: &mut [u32]) -> usize
-    requires { ⌜ 8208 ≤ length (now net) ⌝ }
-    ensures { λ r. ⌜ r ≡ imageWords 1024 2048 (take 16 (wordsOf (now (input .entry)))) ⌝ }
-{
-    let n = trace_image::read_words(image_fields::stretch(input, 0, 64), net);
-    trace_image::image_words(net_words::stretch(net, 0, n))
-}
-
-// The image's words; how many are there.
-fn read_image(input: &[u8], words: usize, net: &mut [u32]) -> usize
-    requires { ⌜ (words ≤ 8208) × (8208 ≤ length (now net)) ⌝ }
-    ensures { λ r. ⌜ take r (now (net .exit)) ≡ take words (wordsOf (now (input .entry))) ⌝ }
-{
-    trace_image::read_words(image_fields::stretch(input, 0, 4 * words), net)
-}
-
 // The program's text.
 pub fn text(input: &[u8], out: &mut [u8]) -> usize
     ensures { λ r. ⌜ Begins 2090 (program (now (input .entry))) (now (out .exit)) r ⌝ }
 {
     let mut net = trace_open::image_table();
-    let words = words_by_header(input, &mut net);
-    let n = read_image(input, words, &mut net);
+    let words = trace_open::words_by_header(input, &mut net);
+    let n = trace_open::read_image(input, words, &mut net);
     let trace = image_fields::stretch(input, 4 * words, input.len());
     judged_text(net_words::stretch(&net, 0, n), trace, out)
 }

@@ -3,7 +3,8 @@ use Rattle.trace_text.proofs.text.Statement.{statement}
 use Rattle.trace_text.proofs.text.Tie as tie
 use mathlib.Core.Path.{refl}
 use native.Mathlib.Omega.{arith}
-use Rattle.trace_text.specs.Input.{few-words, program-text}
+use Rattle.trace_text.specs.Input.{program-text}
+use Rattle.trace_open.specs.Image.{few-words}
 use borrow.Author.Needs.{needs}
 
 read-image-requires : tie.Need-read-image-requires

@@ -1,7 +1,7 @@
--- `trace_text::words_by_header` meets its contract. Assumes nothing.
-use Rattle.trace_text.proofs.words_by_header.Statement.{statement}
-use Rattle.trace_text.proofs.words_by_header.Tie as tie
-use Rattle.trace_text.specs.Input.{first-fit, first-are}
+-- `trace_open::words_by_header` meets its contract. Assumes nothing.
+use Rattle.trace_open.proofs.words_by_header.Statement.{statement}
+use Rattle.trace_open.proofs.words_by_header.Tie as tie
+use Rattle.trace_open.specs.Image.{first-fit, first-are}
 use borrow.Author.Needs.{needs}
 
 read-words-requires : tie.Need-read-words-requires

@@ -1,7 +1,7 @@
--- `trace_text::read_image` meets its contract. Assumes nothing.
-use Rattle.trace_text.proofs.read_image.Statement.{statement}
-use Rattle.trace_text.proofs.read_image.Tie as tie
-use Rattle.trace_text.specs.Input.{all-fit, all-are}
+-- `trace_open::read_image` meets its contract. Assumes nothing.
+use Rattle.trace_open.proofs.read_image.Statement.{statement}
+use Rattle.trace_open.proofs.read_image.Tie as tie
+use Rattle.trace_open.specs.Image.{all-fit, all-are}
 use borrow.Author.Needs.{needs}
 
 read-words-requires : tie.Need-read-words-requires
