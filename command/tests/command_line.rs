@@ -1,9 +1,11 @@
 //! The command as people meet it: listings, each refusal in words, stored
 //! netlists, help, bad input, and its ends.
 
-use std::io::Write;
+mod common;
+
+use common::text;
 use std::path::PathBuf;
-use std::process::{Command, Output, Stdio};
+use std::process::{Command, Output};
 
 /// The example of docs/RULES.md, listing, byte for byte.
 const LISTING: &str = "nets 3 list 8\n0 input a\n1 not 0\n2 output y 1\nport a 0\nport y 2\n";
@@ -33,20 +35,7 @@ impl Drop for Temporary {
 }
 
 fn run(words: &[&str], stdin: &[u8]) -> Output {
-    let mut child = Command::new(env!("CARGO_BIN_EXE_lower"))
-        .args(words)
-        .stdin(Stdio::piped())
-        .stdout(Stdio::piped())
-        .stderr(Stdio::piped())
-        .spawn()
-        .expect("the command starts");
-    // A command that does not read its input may be gone.
-    let _ = child.stdin.take().expect("a pipe").write_all(stdin);
-    child.wait_with_output().expect("the command ends")
-}
-
-fn text(bytes: &[u8]) -> &str {
-    std::str::from_utf8(bytes).expect("text")
+    common::run(Command::new(env!("CARGO_BIN_EXE_lower")).args(words), stdin)
 }
 
 /// The command on a text prints `printed` and ends with `status`.

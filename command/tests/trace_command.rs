@@ -2,28 +2,16 @@
 //! help, files that are no good, modules that are refused, other programs in the
 //! program's place. examples/test-trace has its runs.
 
-use std::io::Write;
-use std::process::{Command, Output, Stdio};
+mod common;
+
+use common::text;
+use std::process::{Command, Output};
 
 const CONTROLLER: &str = concat!(env!("CARGO_MANIFEST_DIR"), "/../corpus/controller.txt");
 
 /// Runs the command with a program; the trace is on standard input.
 fn run(program: &str, words: &[&str], stdin: &str) -> Output {
-    let mut child = Command::new(env!("CARGO_BIN_EXE_trace"))
-        .env("TRACE_PROGRAM", program)
-        .args(words)
-        .stdin(Stdio::piped())
-        .stdout(Stdio::piped())
-        .stderr(Stdio::piped())
-        .spawn()
-        .expect("the command starts");
-    // A command that does not read its input may be gone.
-    let _ = child.stdin.take().expect("a pipe").write_all(stdin.as_bytes());
-    child.wait_with_output().expect("the command ends")
-}
-
-fn text(bytes: &[u8]) -> &str {
-    std::str::from_utf8(bytes).expect("text")
+    common::run(Command::new(env!("CARGO_BIN_EXE_trace")).env("TRACE_PROGRAM", program).args(words), stdin.as_bytes())
 }
 
 /// The command is an error that begins so.

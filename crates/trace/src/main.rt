@@ -1,11 +1,13 @@
-// The trace program: reads a netlist image and a trace from standard input, and prints the output bits after each line, or the refusal. What
-// it prints is made by proved functions; that it reads and prints these bytes, in this order, is said here alone.
+// The trace program: reads a netlist image and a trace from standard input, and prints the output bits after each line, or the refusal. What it
+// prints is made by proved functions, and a turn of its loop is one of the calls that write the text (`Turned`); that the bytes are those of standard
+// input, and that the text goes to standard output, is said here alone.
 ghost use mathlib.Core.Path.{_≡_};
 ghost use mathlib.Core.Bool.{true, not};
 ghost use Prim.Native.Nat.{_-_, _≤_, _<_};
 ghost use lib.ListN.{length, take, replicate};
 ghost use Rattle.spec_tests.specs.Rules.{_and_};
 ghost use Rattle.trace_line.specs.Standing.{Standing};
+ghost use Rattle.trace.specs.Turn.{held, Came, Turned};
 use libc::STDIN_FILENO;
 use libc::STDOUT_FILENO;
 use trace_open::Opened;
@@ -63,7 +65,7 @@ fn end(left: usize, line: u32) {
 // The bytes held move to the front, and more are read behind them.
 fn read_more(h: Held, bytes: &mut [u8]) -> Held
     requires { ⌜ (h .from ≤ h .end) × (h .end ≤ length (now bytes)) × (h .end - h .from < length (now bytes)) ⌝ }
-    ensures { λ r. ⌜ (r .line ≡ h .line) × (r .from ≤ r .end) × (r .end ≤ length (now (bytes .exit))) ⌝ }
+    ensures { λ r. ⌜ (r .line ≡ h .line) × (r .from ≤ r .end) × (r .end ≤ length (now (bytes .exit))) × Came (held (now (bytes .entry)) (h .from) (h .end)) (held (now (bytes .exit)) (r .from) (r .end)) ⌝ }
 {
     let n = h.end - h.from;
     trace_run::move_down(bytes, h.from, n);
@@ -109,7 +111,7 @@ fn turn(
     out: &mut [u8],
 ) -> Held
     requires { ⌜ (Standing (now net) (now steps) count (now inputs) (now outputs) (now registers) nr (now memories) nm (h .line) (now values) (now memory)) × (length (now old) ≡ length (now values)) × (h .from ≤ h .end) × (h .end ≤ length (now bytes)) × (length (now inputs) < length (now bytes)) ⌝ }
-    ensures { λ r. ⌜ (r .go ≡ true → Standing (now (net .entry)) (now (steps .entry)) count (now (inputs .entry)) (now (outputs .entry)) (now (registers .entry)) nr (now (memories .entry)) nm (r .line) (now (values .exit)) (now (memory .exit))) × (r .from ≤ r .end) × (r .end ≤ length (now (bytes .exit))) ⌝ }
+    ensures { λ r. ⌜ (r .go ≡ true → Standing (now (net .entry)) (now (steps .entry)) count (now (inputs .entry)) (now (outputs .entry)) (now (registers .entry)) nr (now (memories .entry)) nm (r .line) (now (values .exit)) (now (memory .exit))) × (r .from ≤ r .end) × (r .end ≤ length (now (bytes .exit))) × (r .go ≡ true → Turned (now (net .entry)) (now (steps .entry)) count (now (inputs .entry)) (now (outputs .entry)) (now (registers .entry)) nr (now (memories .entry)) nm (h .line) (held (now (bytes .entry)) (h .from) (h .end)) (now (values .entry)) (now (memory .entry)) (r .line) (held (now (bytes .exit)) (r .from) (r .end)) (now (values .exit)) (now (memory .exit))) ⌝ }
 {
     let from = h.from;
     let end = h.end;

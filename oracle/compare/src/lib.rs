@@ -15,6 +15,7 @@ pub mod listings;
 pub mod netlists;
 pub mod parts;
 pub mod plan;
+pub mod printed;
 pub mod replay;
 pub mod run;
 pub mod scratch;

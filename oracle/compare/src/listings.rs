@@ -5,6 +5,7 @@ use crate::call::What;
 use crate::cases::{case, SizeChoice};
 use crate::inputs::{at_the_limits, near_the_limits};
 use crate::plan::Plan;
+use crate::printed::Difference;
 use crate::run::Tally;
 use crate::shrunk::Shrunk;
 use image::Random;
@@ -51,24 +52,6 @@ pub struct Listed {
 impl fmt::Display for Listed {
     fn fmt(&self, f: &mut fmt::Formatter) -> fmt::Result {
         write!(f, "{}; {} bytes of text, at most {} of an input", self.tally, self.bytes, self.longest)
-    }
-}
-
-/// How an output differs.
-#[derive(Clone, Debug)]
-pub enum Difference {
-    /// The program did not end well.
-    Failed(String),
-    /// The first line that differs, from 1, as expected and as printed.
-    Line(usize, String, String),
-}
-
-impl fmt::Display for Difference {
-    fn fmt(&self, f: &mut fmt::Formatter) -> fmt::Result {
-        match self {
-            Difference::Failed(problem) => write!(f, "{problem}"),
-            Difference::Line(number, expected, got) => write!(f, "line {number}: expected {expected:?}, got {got:?}"),
-        }
     }
 }
 
@@ -138,7 +121,7 @@ pub fn answer(text: &str) -> crate::Answer {
     [(); 3].map(|()| words.next().and_then(|word| word.parse().ok()).expect("a refusal's number"))
 }
 
-/// Two texts that differ.
+/// Two texts that differ; lines are counted from 1.
 fn first_difference(expected: &str, got: &str) -> Difference {
     let (mut left, mut right) = (expected.split_inclusive('\n'), got.split_inclusive('\n'));
     let mut number = 1;

@@ -7,6 +7,7 @@ pub mod crowded;
 pub mod damage;
 pub mod draft;
 pub mod free;
+pub mod item;
 pub mod places;
 pub mod run;
 pub mod selftest;

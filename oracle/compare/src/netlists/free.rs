@@ -4,10 +4,10 @@
 //! gates on output nodes, registers and memories on any net.
 
 use super::draft::Draft;
+use super::item::{node, Item};
+use image::netlist_parts::NodeWords;
 use image::{Random, ABSENT};
 use std::collections::BTreeSet;
-
-type Node = [u32; 6];
 
 /// How large a netlist is.
 #[derive(Clone, Copy, PartialEq, Eq)]
@@ -18,15 +18,6 @@ pub enum Size {
     Middle,
     /// One record of the largest width.
     Wide,
-}
-
-/// What a node is before it has a net.
-#[derive(Clone, Copy)]
-enum Item {
-    Constant,
-    Gate,
-    /// Kind, owner (of a cell: its number here, not yet that of its record), bit.
-    Owned(u32, u32, u32),
 }
 
 /// What is in a netlist: owners by their numbers, widths.
@@ -47,7 +38,7 @@ struct Plan {
 pub fn free(random: &mut Random, size: Size) -> Draft {
     let plan = plan(random, size);
     let items = items(random, &plan);
-    let mut nodes: Vec<Node> = (0..).zip(&items).map(|(net, &item)| node(random, net, item)).collect();
+    let mut nodes: Vec<NodeWords> = (0..).zip(&items).map(|(net, &item)| node(random, net, item, lower)).collect();
     let mut records = Records { random, nodes: &nodes, list: Vec::new() };
     records.push_all(&plan);
     let mut records = records.list;
@@ -151,30 +142,11 @@ fn lower(random: &mut Random, net: u32) -> u32 {
     }
 }
 
-fn node(random: &mut Random, net: u32, item: Item) -> Node {
-    let mut node = [ABSENT; 6];
-    match item {
-        Item::Constant => node[..2].copy_from_slice(&[1, random.range(0, 1)]),
-        Item::Gate => {
-            let (kind, inputs) = random.pick(&[(2, 2), (3, 2), (4, 2), (5, 1), (6, 3)]);
-            node[0] = kind;
-            node[3..3 + inputs].fill_with(|| lower(random, net));
-        }
-        Item::Owned(kind, owner, bit) => {
-            node[..3].copy_from_slice(&[kind, owner, bit]);
-            if kind == 8 {
-                node[3] = lower(random, net);
-            }
-        }
-    }
-    node
-}
-
 // ---- records ----
 
 struct Records<'a> {
     random: &'a mut Random,
-    nodes: &'a [Node],
+    nodes: &'a [NodeWords],
     list: Vec<Vec<u32>>,
 }
 
@@ -259,7 +231,7 @@ impl Records<'_> {
 }
 
 /// Cells are numbered by the order of their records.
-pub fn number_cells(nodes: &mut [Node], records: &[Vec<u32>]) {
+pub fn number_cells(nodes: &mut [NodeWords], records: &[Vec<u32>]) {
     for (sort, head) in [(3, 4), (4, 3)] {
         for (cell, record) in (0..).zip(records.iter().filter(|record| record[0] == sort)) {
             let outputs = &record[head + 2 * record[2] as usize..];

@@ -5,6 +5,7 @@
 
 use crate::netlists::draft::Draft;
 use crate::netlists::free::number_cells;
+use crate::netlists::item::{node, Item};
 use image::netlist_parts::NodeWords;
 use image::{Random, ABSENT};
 use std::collections::BTreeSet;
@@ -49,20 +50,11 @@ struct Plan {
     gates: usize,
 }
 
-/// What a node is before it has a net.
-#[derive(Clone, Copy)]
-enum Item {
-    Constant,
-    Gate,
-    /// Kind, owner (of a cell: its number here, not yet that of its record), bit.
-    Owned(u32, u32, u32),
-}
-
 /// A netlist of this size, with room for 1,024 nets.
 pub fn machine(random: &mut Random, size: Size) -> Draft {
     let plan = plan(random, size);
     let items = items(random, &plan);
-    let mut nodes: Vec<NodeWords> = (0..).zip(&items).map(|(net, &item)| node(random, net, item)).collect();
+    let mut nodes: Vec<NodeWords> = (0..).zip(&items).map(|(net, &item)| node(random, net, item, lower)).collect();
     let mut records = Records { random, nodes: &nodes, list: Vec::new() };
     records.push_all(&plan);
     let mut records = records.list;
@@ -261,25 +253,6 @@ fn lower(random: &mut Random, net: u32) -> u32 {
         0 => net - 1 - random.below(net.min(8) as usize) as u32,
         _ => random.below(net as usize) as u32,
     }
-}
-
-fn node(random: &mut Random, net: u32, item: Item) -> NodeWords {
-    let mut node = [ABSENT; 6];
-    match item {
-        Item::Constant => node[..2].copy_from_slice(&[1, random.range(0, 1)]),
-        Item::Gate => {
-            let (kind, inputs) = random.pick(&[(2, 2), (3, 2), (4, 2), (5, 1), (6, 3)]);
-            node[0] = kind;
-            node[3..3 + inputs].fill_with(|| lower(random, net));
-        }
-        Item::Owned(kind, owner, bit) => {
-            node[..3].copy_from_slice(&[kind, owner, bit]);
-            if kind == 8 {
-                node[3] = lower(random, net);
-            }
-        }
-    }
-    node
 }
 
 // ---- records ----

@@ -4,6 +4,7 @@
 use super::cases::{case, Case, Origin};
 use super::limits::bytes;
 use crate::plan::Plan;
+use crate::printed::Difference;
 use image::Random;
 use std::collections::BTreeMap;
 use std::fmt;
@@ -112,24 +113,6 @@ impl fmt::Display for Tally {
     }
 }
 
-/// How an output differs.
-#[derive(Clone, Debug)]
-pub enum Difference {
-    /// The program did not end well.
-    Failed(String),
-    /// The first line that differs, from 0, as expected and as printed.
-    Line(usize, String, String),
-}
-
-impl fmt::Display for Difference {
-    fn fmt(&self, f: &mut fmt::Formatter) -> fmt::Result {
-        match self {
-            Difference::Failed(problem) => write!(f, "{problem}"),
-            Difference::Line(number, expected, got) => write!(f, "line {number}: expected {expected:?}, got {got:?}"),
-        }
-    }
-}
-
 /// A difference, where it was met, and the smallest input found that shows one.
 pub struct Failure {
     pub number: u64,
@@ -198,6 +181,7 @@ pub fn compare(tracer: &dyn Tracer, input: &[u8], expected: &[u8]) -> Option<Dif
     }
 }
 
+/// Two texts that differ; lines are counted from 0.
 fn first_difference(expected: &[u8], got: &[u8]) -> Difference {
     let lines = |text: &[u8]| -> Vec<String> { text.split_inclusive(|&byte| byte == b'\n').map(|line| String::from_utf8_lossy(line).into_owned()).collect() };
     let (expected, got) = (lines(expected), lines(got));
