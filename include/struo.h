@@ -95,7 +95,8 @@ void struo_check(const uint8_t *image, size_t image_len, uint32_t n, uint32_t p,
  *
  * An accepted netlist image does what the module does: where clocks and asynchronous resets are inputs, from all first contents of
  * registers and memories and over every list of input settings, outputs, register bits, read data and memory words are equal after
- * each step (`Demand3` in crates/spec_rules/specs/Step.antt). */
+ * each step, up to the first one in which both ports of a memory write one word, which both meet in the same step (`Demand3` in
+ * crates/spec_rules/specs/Step.antt). */
 void struo_lower(const uint8_t *image, size_t image_len, uint32_t n, uint32_t p, uint32_t *netlist, size_t netlist_len,
                  uint32_t *scratch, size_t scratch_len, uint32_t answer[3]);
 

@@ -149,13 +149,27 @@ fn refusal_13() {
 }
 
 #[test]
+fn refusal_14() {
+    let port = "raddr c rdata q waddr c wdata d wenable c clock c";
+    let ports = format!("input c 1\ninput d 1\noutput q 1\noutput p 1\nmemory m depth 2 port {port} port {}\n", port.replace('q', "p"));
+    let mut given = given(&ports);
+    let told = |name: &str| {
+        let clash = format!("both ports of memory {name} write to one word in the step to line 7, counted from 0");
+        format!("refused 14 7 0: {clash}, so this step has no defined end\n")
+    };
+    assert_eq!(said([14, 7, 0], &given, "10", true), told("m"));
+    given.image = None;
+    assert_eq!(said([14, 7, 0], &given, "10", true), told("0"));
+}
+
+#[test]
 fn other_refusals() {
     let given = given(CONTROLLER);
     let most = "refused 13 4294967295 0: a trace has at most 4294967295 lines\n";
     assert_eq!(said([13, u32::MAX, 0], &given, "010000", true), most);
     let unknown = |answer: [u32; 3]| format!("refused {} {} {}: an answer that docs/RULES.md does not know\n", answer[0], answer[1], answer[2]);
     // A right line, and a number that there is not.
-    for answer in [[13, 7, 0], [14, 1, 0]] {
+    for answer in [[13, 7, 0], [15, 1, 0]] {
         assert_eq!(said(answer, &given, "010000", true), unknown(answer));
     }
 }

@@ -1,5 +1,5 @@
 //! The program's refusals in words: which word of the netlist, which clock,
-//! reset or memory, which character of which line.
+//! reset or memory, which character of which line, which memory's ports.
 
 use super::given::Given;
 use super::lines::Stopped;
@@ -18,11 +18,12 @@ const NAMED: usize = 16;
 
 /// `refused`, the three numbers, and what they mean.
 pub fn in_words(answer: Answer, given: &Given, stopped: &Stopped) -> String {
-    let [number, place, _] = answer;
+    let [number, place, memory] = answer;
     let words = match number {
         11 => stored::why(&given.words, place),
         12 => not_taken(given),
         13 => wrong_line(place, given.ports.as_ref().map_or(&[], |ports| &ports.inputs), stopped),
+        14 => write_clash(place, memory, given),
         _ => unknown(),
     };
     line(answer, &words)
@@ -110,6 +111,11 @@ fn wrong_line(number: u32, inputs: &[Port], stopped: &Stopped) -> String {
         return format!("{at} has {more}{length} characters, and there are {asked} input bits{}", named(inputs));
     }
     wrong_letter(inputs, line).map_or(unknown(), |wrong| format!("{at} has {wrong}"))
+}
+
+fn write_clash(number: u32, memory: u32, given: &Given) -> String {
+    let name = given.name_of("memory", 5, memory);
+    format!("both ports of {name} write to one word in the step to line {number}, counted from 0, so this step has no defined end")
 }
 
 /// The ports in the order of a line, where they are not too many.

@@ -12,7 +12,7 @@ use Rattle.spec_tests.specs.Rules.{Answer, Fine, Refused}
 use Rattle.spec_rules.specs.Image.{decode}
 use Rattle.spec_rules.specs.Checks.{checked, netlistNeed, scratchNeed}
 use Rattle.spec_rules.specs.NetlistImage.{netlist}
-use Rattle.spec_rules.specs.Step.{Setting, Contents, settled, run, ofModule, net, Demand2, Demand3}
+use Rattle.spec_rules.specs.Step.{Setting, Contents, Machine, settled, run, ofModule, ofNetlist, net, Ported, Demand2, Demand3}
 use Rattle.spec_rules.specs.Promise as Promise
 use Rattle.spec_rules.specs.Promise.{over, left}
 use Rattle.spec_model.specs.Words.{absent, words}
@@ -101,8 +101,8 @@ module _ (s : List ℕ) (N P : ℕ) (buffer scratch : List ℕ) (passed : checke
         → settled (decode s) u t c p i ≡ net (netlist (Call.bufferAfter s N P buffer scratch)) t c k
     resolved = rw netlist-is (demands.resolved (decode s) is-good false N P small st ok)
 
-    demand3-here : Demand3 (decode s) (netlist (Call.bufferAfter s N P buffer scratch))
-    demand3-here = rw netlist-is (demands.demand3 (decode s) is-good false N P small st ok)
+    same-machine-here : Ported (decode s) → (u : Valuation) → ofModule (decode s) u ≡ ofNetlist (netlist (Call.bufferAfter s N P buffer scratch))
+    same-machine-here = rw netlist-is (demands.same-machine (decode s) is-good false N P small st ok)
 
     determined-here : (u u′ : Valuation) (c : Contents) (settings : List Setting) → run (ofModule (decode s) u) c settings ≡ run (ofModule (decode s) u′) c settings
     determined-here = demands.determined (decode s) is-good false N P small st ok
@@ -125,9 +125,13 @@ module _ (s : List ℕ) (N P : ℕ) (buffer scratch : List ℕ) where
     pub ended : Ends s N P
     ended = ends s N P (both .1)
 
+    -- module and netlist read and show the same, from all contents
+    pub same-machine : Ported (decode s) → (u : Valuation) → ofModule (decode s) u ≡ ofNetlist (netlist (Call.bufferAfter s N P buffer scratch))
+    same-machine = same-machine-here s N P buffer scratch passes (ended .state) (ended .is)
+
     -- over every list of settings, from all first contents, module and netlist show the same
     pub demand3 : Demand3 (decode s) (netlist (Call.bufferAfter s N P buffer scratch))
-    demand3 = demand3-here s N P buffer scratch passes (ended .state) (ended .is)
+    demand3 ported u c settings = ap (λ (x : Machine). run x c settings) (same-machine ported u)
 
     -- the module has one run: what it shows does not depend on the values before the first round
     pub determined : (u u′ : Valuation) (c : Contents) (settings : List Setting) → run (ofModule (decode s) u) c settings ≡ run (ofModule (decode s) u′) c settings

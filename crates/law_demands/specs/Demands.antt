@@ -16,7 +16,7 @@ use Rattle.spec_rtl.specs.Rtl as R
 use Rattle.spec_rtl.specs.Rtl.{Module, Valuation, word, dirOf}
 use Rattle.spec_rules.specs.NetlistImage as N
 use Rattle.spec_rules.specs.NetlistImage.{netlist}
-use Rattle.spec_rules.specs.Step.{Setting, Contents, perhaps, Load, Machine, act, onward, net, run, settled, bitCount, widthOf, isOutput, moduleLoad, moduleAccess, moduleAccesses, netLoad, netAccess, netAccesses, findMemory, findBit, findPort, ofModule, ofNetlist, IsInput, Ported, Demand2, Demand3}
+use Rattle.spec_rules.specs.Step.{Setting, Contents, perhaps, Load, Machine, net, run, settled, bitCount, widthOf, isOutput, moduleLoad, moduleAccess, moduleAccesses, netLoad, netAccess, netAccesses, findMemory, findBit, findPort, ofModule, ofNetlist, IsInput, Ported, Demand2, Demand3}
 use Rattle.spec_model.specs.Words.{Netlist, absent, words}
 use Rattle.spec_model.specs.Builder.{Out, done}
 use Rattle.spec_model.specs.Lowering.{signalBit, State, cell, whole, expressionNet, signalWidth, lowerState}
@@ -35,16 +35,9 @@ use Rattle.law_phases.specs.Sources.{inside}
 use Rattle.law_phases.specs.Outputs.{Lowered, lowered}
 use Rattle.law_demands.specs.Reads.{bit-at, word-at, halfLoad, half-load, net-load, halfAccess, half-access, net-access}
 
--- ---- machines that read and show the same run alike ----
-
-pub run-alike : (a b : Machine) → ((s : Setting) (c : Contents) → a .outputs s c ≡ b .outputs s c) → ((s : Setting) (c : Contents) (t : Setting) → a .reads s c t ≡ b .reads s c t)
-    → (c : Contents) (settings : List Setting) → run a c settings ≡ run b c settings
-run-alike a b o r c [] = refl
-run-alike a b o r c (s ∷ ts) = go s c ts
-  where
-    go : (s : Setting) (c : Contents) (ts : List Setting) → onward a s c ts ≡ onward b s c ts
-    go s c [] = rw (o s c)
-    go s c (t ∷ ts) = rw (o s c, r s c t, go t (act (b .reads s c t) c) ts)
+-- machines that read and show the same are one
+machine-alike : (a b : Machine) → ((s : Setting) (c : Contents) → a .outputs s c ≡ b .outputs s c) → ((s : Setting) (c : Contents) (t : Setting) → a .reads s c t ≡ b .reads s c t) → a ≡ b
+machine-alike a b o r = λ i. record { reads = λ s c t. r s c t i; outputs = λ s c. o s c i }
 
 -- ---- lists by number ----
 
@@ -214,15 +207,14 @@ module _ (m : Module) (good : Good m) (ob : Bool) (lim : ℕ × ℕ) (st : State
 
   -- ---- demand 3 ----
 
-  pub runs : Demand3 m (meaningOf L)
+  pub machines : Ported m → (u : Valuation) → ofModule m u ≡ ofNetlist (meaningOf L)
   unfolding netValue
-  runs ported u c settings = run-alike (ofModule m u) (ofNetlist (meaningOf L))
+  machines ported u = machine-alike (ofModule m u) (ofNetlist (meaningOf L))
       (λ s c. fun-ext (λ p. fun-ext (λ i. shown u s c p i)))
       (λ s c t i. record {
         register = λ k b. registers-read u s c t ported k b i;
         memory = λ k. memories-read u s c t ported k i;
       })
-      c settings
 
   -- ---- the module has one run ----
 
@@ -269,11 +261,10 @@ module _ (m : Module) (good : Good m) (ob : Bool) (lim : ℕ × ℕ) (st : State
               let f = memory-is k x e in
               ap some (rw (port-alike (x .first) (f .value .first) (f .holds .first), second-alike (x .second) (f .value .second) (f .holds .second)))
 
-    pub one-run : (c : Contents) (settings : List Setting) → run (ofModule m u) c settings ≡ run (ofModule m u′) c settings
-    one-run c settings = run-alike (ofModule m u) (ofModule m u′)
+    pub one-machine : ofModule m u ≡ ofModule m u′
+    one-machine = machine-alike (ofModule m u) (ofModule m u′)
         (λ s c. fun-ext (λ p. fun-ext (λ i. shown u s c p i ∙ sym (shown u′ s c p i))))
         (λ s c t i. record { register = λ k b. register-alike s c t k b i; memory = λ k. memory-alike s c t k i })
-        c settings
 
   -- ---- the image ----
 
@@ -299,8 +290,12 @@ module _ (m : Module) (good : Good m) (ob : Bool) (n p : ℕ) (small : n ≤ abs
   unfolding netValue
   demand2 = rw (image m good ob (n, p) st end) (expressions m good ob (n, p) st end)
 
+  -- module and netlist are one machine: they read and show the same, from all contents
+  pub same-machine : Ported m → (u : Valuation) → ofModule m u ≡ ofNetlist (netlist (words n p (st .netlist)))
+  same-machine = rw (image m good ob (n, p) st end) (machines m good ob (n, p) st end)
+
   pub demand3 : Demand3 m (netlist (words n p (st .netlist)))
-  demand3 = rw (image m good ob (n, p) st end) (runs m good ob (n, p) st end)
+  demand3 ported u c settings = ap (λ (x : Machine). run x c settings) (same-machine ported u)
 
   -- a resolved bit has its net's value in the settled values, so that does not depend on the values before the first round
   pub resolved : (u : Valuation) (s : Setting) (c : Contents) (q i k : ℕ) → signalBit st q i ≡ some k
@@ -310,7 +305,7 @@ module _ (m : Module) (good : Good m) (ob : Bool) (n p : ℕ) (small : n ≤ abs
 
   -- and the module has one run
   pub determined : (u u′ : Valuation) (c : Contents) (settings : List Setting) → run (ofModule m u) c settings ≡ run (ofModule m u′) c settings
-  determined u u′ c settings = one-run m good ob (n, p) st end u u′ c settings
+  determined u u′ c settings = ap (λ (x : Machine). run x c settings) (one-machine m good ob (n, p) st end u u′)
 
   pub sized : length (words n p (st .netlist)) ≡ 16 + 6 * n + p
   sized = image-length m good ob (n, p) st end

@@ -5,3 +5,4 @@ pub mod Registers
 pub mod Memories
 pub mod Cut
 pub mod Owners
+pub mod Numbers

@@ -14,3 +14,4 @@ pub mod Fitted
 pub mod Unfit
 pub mod Bytes
 pub mod Programs
+pub mod Clear

@@ -7,18 +7,16 @@ use lib.ListN.{length}
 use Rattle.spec_rtl.specs.Rtl.{Module, Valuation}
 use Rattle.spec_tests.specs.Rules.{Fine}
 use Rattle.spec_rules.specs.Image.{decode}
-use Rattle.spec_rules.specs.NetlistImage as image
 use Rattle.spec_rules.specs.NetlistImage.{netlist}
-use Rattle.spec_rules.specs.Step.{Setting, Seen, run, ofModule, ofNetlist, Ported}
-use Rattle.spec_rules.specs.Listing.{together}
+use Rattle.spec_rules.specs.Step.{Setting, Machine, Seen, ofModule, ofNetlist, Ported}
 use Rattle.spec_call.specs.Call as Call
 use Rattle.spec_model.specs.Words.{Netlist}
 use Rattle.spec_netlist.specs.Accept.{accepts}
 use Rattle.spec_netlist.specs.Given.{Same}
-use Rattle.spec_trace.specs.Trace.{zeroed, settingOf, Before, lineDone, traced}
-use Rattle.law_call.specs.Calls.{demand3}
+use Rattle.spec_trace.specs.Trace.{settingOf, Before, lineDone, traced}
+use Rattle.law_call.specs.Calls.{same-machine}
 use Rattle.law_stored.specs.Calls.{left, call-accepted, call-state, call-same}
-use Rattle.law_trace.specs.Runs.{seenText, AllRight}
+use Rattle.law_trace.specs.Runs.{seenText, AllRight, runText}
 use Rattle.law_trace.specs.Printed.{prints-run}
 use Rattle.law_trace.specs.Cut.{cut, cut-accepted, cut-netlist, cut-same}
 use Rattle.law_trace.specs.Signals.{lineSetting, AllRightFor, inputs, outputs, outputText}
@@ -36,16 +34,16 @@ module _ (s : List ℕ) (N P : ℕ) (buffer scratch : List ℕ) (yes : Call.answ
   pub image-accepted : accepts ws ≡ Fine
   image-accepted = cut-accepted (Call.bufferAfter s N P buffer scratch) (call-accepted s N P buffer scratch yes)
 
-  runs-same : Ported (decode s) → (u : Valuation) (ts : List Setting) → run (ofModule (decode s) u) zeroed ts ≡ run (ofNetlist (netlist ws)) zeroed ts
-  runs-same ported u ts =
-      demand3 s N P buffer scratch yes ported u zeroed ts
-      ∙ ap (λ (n : image.Netlist). run (ofNetlist n) zeroed ts) (sym (cut-netlist (Call.bufferAfter s N P buffer scratch) (call-accepted s N P buffer scratch yes)))
+  machine-same : Ported (decode s) → (u : Valuation) → ofModule (decode s) u ≡ ofNetlist (netlist ws)
+  machine-same ported u =
+      same-machine s N P buffer scratch yes ported u
+      ∙ ap ofNetlist (sym (cut-netlist (Call.bufferAfter s N P buffer scratch) (call-accepted s N P buffer scratch yes)))
 
   pub prints-module : Ported (decode s) → (u : Valuation) (ls : List (List ℕ)) → AllRight ws ls → length ls ≤ 4294967295
-      → traced (lineDone ws) 0 Before (ls ++ ([] ∷ [])) ≡ together (map (seenText ws) (run (ofModule (decode s) u) zeroed (map (settingOf ws) ls)))
+      → traced (lineDone ws) 0 Before (ls ++ ([] ∷ [])) ≡ runText (ofModule (decode s) u) (seenText ws) (map (settingOf ws) ls)
   prints-module ported u ls right few =
       prints-run ws image-accepted ls right few
-      ∙ ap (λ (xs : List Seen). together (map (seenText ws) xs)) (sym (runs-same ported u (map (settingOf ws) ls)))
+      ∙ ap (λ (x : Machine). runText x (seenText ws) (map (settingOf ws) ls)) (sym (machine-same ported u))
 
   -- ---- in the module's own terms ----
 
@@ -66,9 +64,9 @@ module _ (s : List ℕ) (N P : ℕ) (buffer scratch : List ℕ) (yes : Call.answ
   all-right (x ∷ ls) h = (wrong-is ws image-accepted m l image-same in-order x ∙ h .0, all-right ls (h .1))
 
   pub prints-signals : Ported m → (u : Valuation) (ls : List (List ℕ)) → AllRightFor m ls → length ls ≤ 4294967295
-      → traced (lineDone ws) 0 Before (ls ++ ([] ∷ [])) ≡ together (map (outputText m) (run (ofModule m u) zeroed (map (lineSetting m) ls)))
+      → traced (lineDone ws) 0 Before (ls ++ ([] ∷ [])) ≡ runText (ofModule m u) (outputText m) (map (lineSetting m) ls)
   prints-signals ported u ls right few =
       let a : seenText ws ≡ outputText m = fun-ext (text-is ws image-accepted m l image-same in-order) in
       let b : settingOf ws ≡ lineSetting m = fun-ext (setting-is ws image-accepted m l image-same in-order) in
-      prints-module ported u ls (all-right ls right) few ∙ ap (λ (f : Seen → List ℕ). together (map f (run (ofModule m u) zeroed (map (settingOf ws) ls)))) a
-      ∙ ap (λ (f : List ℕ → Setting). together (map (outputText m) (run (ofModule m u) zeroed (map f ls)))) b
+      prints-module ported u ls (all-right ls right) few ∙ ap (λ (f : Seen → List ℕ). runText (ofModule m u) f (map (settingOf ws) ls)) a
+      ∙ ap (λ (f : List ℕ → Setting). runText (ofModule m u) (outputText m) (map f ls)) b

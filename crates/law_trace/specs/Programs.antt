@@ -12,13 +12,12 @@ use Rattle.spec_tests.specs.Laws.{or-no, lt-no, ne-no}
 use Rattle.spec_rules.specs.Image.{decode}
 use Rattle.spec_rules.specs.Checks.{refuse, netlistNeed}
 use Rattle.spec_rules.specs.NetlistImage.{netlist}
-use Rattle.spec_rules.specs.Step.{run, ofModule, ofNetlist, Ported}
-use Rattle.spec_rules.specs.Listing.{together}
+use Rattle.spec_rules.specs.Step.{ofModule, ofNetlist, Ported}
 use Rattle.spec_model.specs.Words.{words}
 use Rattle.spec_call.specs.Call as Call
 use Rattle.spec_netlist.specs.Accept.{used, listAt, limit, headerAnswer, bodyAnswer, accepts}
 use Rattle.spec_trace.specs.Opened.{wordsOf, wordCount, otherLimits, opened, unfit}
-use Rattle.spec_trace.specs.Trace.{zeroed, settingOf, wrongLine, Before, lineDone, traced, textFrom, unless, traceText, program}
+use Rattle.spec_trace.specs.Trace.{settingOf, wrongLine, Before, lineDone, traced, textFrom, unless, traceText, program}
 use Rattle.check_image.specs.Accepted.{accepted}
 use Rattle.net_view.specs.View.{Fit}
 use Rattle.law_module.specs.Good.{good}
@@ -28,7 +27,7 @@ use Rattle.law_listed_made.specs.Accepted.{fit}
 use Rattle.law_call.specs.Calls.{is-good, passes, ended, buffer-is}
 use Rattle.law_stored.specs.Bounded.{bounded}
 use Rattle.law_stored.specs.Calls.{left, call-accepted, call-state}
-use Rattle.law_trace.specs.Runs.{seenText, AllRight}
+use Rattle.law_trace.specs.Runs.{seenText, AllRight, runText}
 use Rattle.law_trace.specs.Printed.{prints-run}
 use Rattle.law_trace.specs.Cut.{cut-long, cut-head, cut-count}
 use Rattle.law_trace.specs.Signals.{memoryBits, lineSetting, wrongFor, AllRightFor, outputText}
@@ -90,7 +89,7 @@ module _ (N P most : ℕ) (ws : List ℕ) (t : Taken N P most ws) where
 
   -- the netlist's run
   pub program-prints : (ls : List (List ℕ)) → AllRight ws ls → length ls ≤ 4294967295
-      → traceText N P most (bytesOf ws ++ traceBytes ls) ≡ together (map (seenText ws) (run (ofNetlist (netlist ws)) zeroed (map (settingOf ws) ls)))
+      → traceText N P most (bytesOf ws ++ traceBytes ls) ≡ runText (ofNetlist (netlist ws)) (seenText ws) (map (settingOf ws) ls)
   program-prints ls right few =
       reads-trace (traceBytes ls) ∙ ap (traced (lineDone ws) 0 Before) (lines-back ls (right-letters ls right)) ∙ prints-run ws (t .accepted) ls right few
 
@@ -152,7 +151,7 @@ module _ (s : List ℕ) (N P : ℕ) (buffer scratch : List ℕ) (yes : Call.answ
 
   -- the module's run
   pub program-prints-module : (most : ℕ) → memoryBits m (m .memories) ≤ most → Ported m → (u : Valuation) (ls : List (List ℕ)) → AllRightFor m ls → length ls ≤ 4294967295
-      → traceText N P most (bytesOf image ++ traceBytes ls) ≡ together (map (outputText m) (run (ofModule m u) zeroed (map (lineSetting m) ls)))
+      → traceText N P most (bytesOf image ++ traceBytes ls) ≡ runText (ofModule m u) (outputText m) (map (lineSetting m) ls)
   program-prints-module most h ported u ls right few =
       reads-trace N P most image (taken most (image-fits most h ported)) (traceBytes ls) ∙ ap (traced (lineDone image) 0 Before) (lines-back ls (letters ls right))
       ∙ prints-signals s N P buffer scratch yes ported u ls right few
@@ -161,5 +160,5 @@ module _ (s : List ℕ) (N P : ℕ) (buffer scratch : List ℕ) (yes : Call.answ
 pub prints-lowered : (s buffer scratch : List ℕ) → Call.answer s 1024 2048 buffer scratch ≡ Fine → Ported (decode s) → memoryBits (decode s) (decode s .memories) ≤ 65536
     → (u : Valuation) (ls : List (List ℕ)) → AllRightFor (decode s) ls → length ls ≤ 4294967295
     → program (bytesOf (imageAfter s 1024 2048 buffer scratch) ++ traceBytes ls)
-    ≡ together (map (outputText (decode s)) (run (ofModule (decode s) u) zeroed (map (lineSetting (decode s)) ls)))
+    ≡ runText (ofModule (decode s) u) (outputText (decode s)) (map (lineSetting (decode s)) ls)
 prints-lowered s buffer scratch ok ported few u ls right short = program-prints-module s 1024 2048 buffer scratch ok 65536 few ported u ls right short

@@ -7,6 +7,7 @@ use lib.ListN.{take, set}
 use Rattle.spec_tests.specs.Rules.{Answer, Fine, Refused, _<?_, _≡?_, _≢?_, _or_, _and_, pick, outside, upTo, first, any, only, andThen}
 use Rattle.spec_rules.specs.Image.{absent, controlOf, optional}
 use Rattle.spec_rules.specs.NetlistImage.{nodeWord, portLists, portLength, recordLength, split, recordsOf, memoryPortOf, memoryOf}
+use Rattle.spec_rules.specs.Clashing.{memory}
 use Rattle.spec_netlist.specs.Accept.{wrongHeader, belongs, mostOwner, mostBit, inputCount, wrongOwner, sameNode, wrongBit, wrongInput, wrongNodeWord, portsLength, extent, member, secondData, ownNets, taken, countOf, wrongLevel, notAbove, firstWrong, noNet, noOptional, notOwn, wrongPort, wrongRegister, wrongMemoryPort, wrongMemory, wrongArithmetic, wrongComparison, wrongWord, judged, headerAnswer, lengthAnswer, nodesAnswer, listAnswer, alone, aloneAnswer, wrongCount, countsAnswer, bodyAnswer, accepts}
 
 -- ---- images, as words that the Rust's lowering writes ----
@@ -39,18 +40,6 @@ register =
     4294967295 ∷ 4294967295 ∷ 4294967295 ∷ 7 ∷ 0 ∷ 1 ∷ 4294967295 ∷ 4294967295 ∷ 4294967295 ∷ 8 ∷ 3 ∷ 0 ∷ 4 ∷ 4294967295 ∷ 4294967295 ∷ 8 ∷ 3 ∷ 1 ∷
     5 ∷ 4294967295 ∷ 4294967295 ∷ 0 ∷ 0 ∷ 0 ∷ 0 ∷ 0 ∷ 0 ∷ 0 ∷ 0 ∷ 1 ∷ 0 ∷ 0 ∷ 1 ∷ 1 ∷ 1 ∷ 0 ∷ 2 ∷ 2 ∷ 2 ∷ 3 ∷ 1 ∷ 0 ∷ 0 ∷ 4 ∷ 2 ∷ 0 ∷ 0 ∷ 1 ∷ 0 ∷
     4294967295 ∷ 0 ∷ 0 ∷ 0 ∷ 1 ∷ 0 ∷ 1 ∷ 5 ∷ 3 ∷ 0 ∷ 0 ∷ 1 ∷ 0 ∷ 4294967295 ∷ 0 ∷ 0 ∷ 0 ∷ 0 ∷ 3 ∷ 2 ∷ 6 ∷ 7 ∷ []
-
--- inputs clk, wa, wb, x[2]; a memory of 2 words of 2 bits with two ports, x[0] the address of the first, x[1] of the second; outputs q, p: N = 15, P = 65
-abbrev pub memory : List ℕ
-memory =
-    1 ∷ 15 ∷ 16 ∷ 65 ∷ 106 ∷ 6 ∷ 0 ∷ 1 ∷ 0 ∷ 0 ∷ 0 ∷ 0 ∷ 0 ∷ 0 ∷ 0 ∷ 0 ∷ 0 ∷ 0 ∷ 0 ∷ 4294967295 ∷ 4294967295 ∷ 4294967295 ∷ 0 ∷ 1 ∷ 0 ∷ 4294967295 ∷
-    4294967295 ∷ 4294967295 ∷ 0 ∷ 2 ∷ 0 ∷ 4294967295 ∷ 4294967295 ∷ 4294967295 ∷ 0 ∷ 3 ∷ 0 ∷ 4294967295 ∷ 4294967295 ∷ 4294967295 ∷ 0 ∷ 3 ∷ 1 ∷
-    4294967295 ∷ 4294967295 ∷ 4294967295 ∷ 9 ∷ 0 ∷ 0 ∷ 4294967295 ∷ 4294967295 ∷ 4294967295 ∷ 9 ∷ 0 ∷ 1 ∷ 4294967295 ∷ 4294967295 ∷ 4294967295 ∷ 9 ∷
-    0 ∷ 2 ∷ 4294967295 ∷ 4294967295 ∷ 4294967295 ∷ 9 ∷ 0 ∷ 3 ∷ 4294967295 ∷ 4294967295 ∷ 4294967295 ∷ 5 ∷ 4294967295 ∷ 4294967295 ∷ 3 ∷ 4294967295 ∷
-    4294967295 ∷ 5 ∷ 4294967295 ∷ 4294967295 ∷ 4 ∷ 4294967295 ∷ 4294967295 ∷ 8 ∷ 4 ∷ 0 ∷ 5 ∷ 4294967295 ∷ 4294967295 ∷ 8 ∷ 4 ∷ 1 ∷ 6 ∷ 4294967295 ∷
-    4294967295 ∷ 8 ∷ 5 ∷ 0 ∷ 7 ∷ 4294967295 ∷ 4294967295 ∷ 8 ∷ 5 ∷ 1 ∷ 8 ∷ 4294967295 ∷ 4294967295 ∷ 0 ∷ 0 ∷ 1 ∷ 0 ∷ 0 ∷ 1 ∷ 1 ∷ 1 ∷ 0 ∷ 2 ∷ 1 ∷ 2 ∷
-    0 ∷ 3 ∷ 2 ∷ 3 ∷ 4 ∷ 2 ∷ 0 ∷ 2 ∷ 0 ∷ 1 ∷ 2 ∷ 1 ∷ 2 ∷ 1 ∷ 2 ∷ 3 ∷ 5 ∷ 6 ∷ 3 ∷ 3 ∷ 4 ∷ 4294967295 ∷ 0 ∷ 1 ∷ 0 ∷ 0 ∷ 0 ∷ 1 ∷ 2 ∷ 1 ∷ 2 ∷ 4 ∷ 7 ∷ 8 ∷
-    4 ∷ 9 ∷ 10 ∷ 4294967295 ∷ 0 ∷ 2 ∷ 0 ∷ 0 ∷ 0 ∷ 0 ∷ 4 ∷ 2 ∷ 11 ∷ 12 ∷ 0 ∷ 5 ∷ 2 ∷ 13 ∷ 14 ∷ []
 
 -- inputs a[2], b[2]; outputs lt = a < b unsigned, nlt its inverse: N = 8, P = 26
 abbrev compare : List ℕ

@@ -14,7 +14,7 @@ use Rattle.spec_rules.specs.Image.{wordAt, sizeOf, mostOf, countAt, offs
 use Rattle.spec_rules.specs.Checks.{wrongCount, wrongField, firstField, header, badName, nameTaken, noSignal, noExpr, badBit, badControl, notZero, badOptional, isInput, assigned, targeted, readInto, driven, badSignal, badUnary, badBinary, late, badConcat, badKind, badExpr, badAssign, badValue, badReset, badRegister, badAddress, badPort, badSecond, badMemory, section, records, netlistNeed, signalBits, exprBits, scratchNeed, refuse, checked}
 use Rattle.spec_rules.specs.NetlistImage as N
 use Rattle.spec_rules.specs.NetlistImage.{nodeWord, nodeOf, nodeAt, portLists, portLength, recordLength, split, recordsOf, recordsWith, registerBitOf, memoryPortOf, memoryOf, arithmeticOf, comparisonOf, outPortOf, notOutput, isOutputPort, netlist}
-use Rattle.spec_rules.specs.Step.{Setting, Contents, Machine, Seen, act, onward, run, ofModule, ofNetlist, IsInput, Ported, Demand3}
+use Rattle.spec_rules.specs.Step.{Setting, Contents, Machine, Seen, act, clashing, noEnd, onward, run, ofModule, ofNetlist, IsInput, Ported, Demand3}
 use Rattle.spec_rules.specs.Listing.{text, digits, decimal, line, together, kindWord, bitName, signalName, registerName, memoryName, owned, inputs, netLine, recordLine, listing}
 
 abbrev pub image : List ℕ
@@ -164,7 +164,7 @@ unfolding q r held shown
 start-alike u c s = refl
 
 held-fails : Demand3 q held → ⊥
-unfolding q r held shown empty
+unfolding q r held shown empty noEnd clashing first upTo pick _<?_
 held-fails d = differ (ap (shown 2 1) (d ported (λ p i. false) empty ((λ p i. eqb p 1) ∷ (λ p i. true) ∷ [])))
   where
     clocked : (k : ℕ) (x : R.Register) → getElem? (q .registers) k ≡ some x → IsInput q (x .clock)

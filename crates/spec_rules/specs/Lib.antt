@@ -6,3 +6,4 @@ pub mod Step
 pub mod Promise
 pub mod Listing
 pub mod Examples
+pub mod Clashing

@@ -14,6 +14,7 @@ use Rattle.spec_rtl.specs.Ops.{xorB, ltU, leU, ltS, leS}
 use Rattle.spec_rtl.specs.Table.{entry}
 use Rattle.spec_rtl.specs.Rtl as R
 use Rattle.spec_rtl.specs.Rtl.{Module, Valuation, Driver, FromInput, FromRegister, FromData, FromExpr, Nothing, word, driver, dirOf}
+use Rattle.spec_tests.specs.Rules.{_<?_, first}
 use Rattle.spec_rules.specs.NetlistImage as N
 use Rattle.spec_rules.specs.NetlistImage.{Netlist}
 
@@ -107,7 +108,7 @@ abbrev pub dataNext : (ℕ → ℕ → Bool) → Accesses → Bool → (ℕ → 
 dataNext words x false old = readNext (x .depth) words old (x .first)
 dataNext words x true old = perhaps old (readNext (x .depth) words old) (x .second)
 
--- "If both ports write one word, the second port's stays."
+-- the first port's write, then the second's. In a step with a defined end (below) the other order gives the same: law_demands.Clashes
 abbrev pub wordsNext : (ℕ → ℕ → Bool) → Accesses → ℕ → ℕ → Bool
 wordsNext words x = let w = writeNext (x .depth) words (x .first) in perhaps w (writeNext (x .depth) w) (x .second)
 
@@ -118,6 +119,23 @@ act r c = record {
   dat = λ k second. perhaps (c .dat k second) (λ x. dataNext (c .mem k) x second (c .dat k second)) (r .memory k);
   mem = λ k. perhaps (c .mem k) (wordsNext (c .mem k)) (r .memory k);
 }
+
+-- Q-6: "A step in which both ports write to one address below the depth has no defined end, also if both words are equal."
+abbrev pub writing : Access → Bool
+writing a = a .ticks && a .writes
+
+abbrev pub meets : ℕ → Access → Access → Bool
+meets depth a b = writing a && writing b && eqb (a .writeAt) (b .writeAt) && ltb (b .writeAt) depth
+
+abbrev pub clashes : Accesses → Bool
+clashes x = perhaps false (meets (x .depth) (x .first)) (x .second)
+
+-- "the lowest such memory"; 16, the most memories there are, where there is none
+unfoldable pub clashing : Reads → ℕ
+clashing r = first (λ k. perhaps false clashes (r .memory k)) 16
+
+unfoldable pub noEnd : Reads → Bool
+noEnd r = clashing r <? 16
 
 -- ---- a machine and its run ----
 
@@ -135,10 +153,10 @@ pub record Seen : Type 0 where
 abbrev pub seen : Machine → Setting → Contents → Seen
 seen m s c = record { outputs = m .outputs s c; contents = c }
 
--- "A step sets all inputs anew."
+-- "A step sets all inputs anew." The run ends before the first step that has no defined end.
 abbrev pub onward : Machine → Setting → Contents → List Setting → List Seen
 onward m s c [] = seen m s c ∷ []
-onward m s c (t ∷ ts) = seen m s c ∷ onward m t (act (m .reads s c t) c) ts
+onward m s c (t ∷ ts) = seen m s c ∷ cond (noEnd (m .reads s c t)) [] (onward m t (act (m .reads s c t) c) ts)
 
 -- "The start makes no step and no reset acts there." What is seen after each setting of the list, the first being the start.
 abbrev pub run : Machine → Contents → List Setting → List Seen
@@ -316,7 +334,9 @@ pub record Ported (m : Module) : Type 0 where
   pub seconds : (k : ℕ) (x : R.Memory) (p : R.Port) → getElem? (m .memories) k ≡ some x → x .second ≡ some p → IsInput m (p .clock)
 
 -- "Demand 3 is one claim about the whole list of settings, not one for each step.": from all first contents, over every list of
--- settings, module and netlist show the same after each, whatever the combinational bits are before they are computed
+-- settings, module and netlist show the same after each, whatever the combinational bits are before they are computed. Q-6: "The
+-- equality of module and netlist is claimed up to the first such step, and both meet it in the same step": equal runs have one length,
+-- and a run is shorter than its settings by the first step without a defined end and all that follow
 abbrev pub Demand3 : Module → Netlist → Type 0
 Demand3 m n = Ported m → (u : Valuation) (c : Contents) (settings : List Setting) → run (ofModule m u) c settings ≡ run (ofNetlist n) c settings
 

@@ -1,4 +1,4 @@
--- The trace program by example: a register, a memory with two ports, refusals 11 to 13. The netlists are words that the Rust wrote.
+-- The trace program by example: a register, a memory with two ports, refusals 11 to 14. The netlists are words that the Rust wrote.
 use Prim.Native.Nat.{ℕ, zero, _+_, _-_, _/_, _%_}
 use mathlib.Core.Path.{_≡_, refl}
 use mathlib.Core.List.{List, [], _∷_, _++_}
@@ -7,15 +7,17 @@ use Rattle.spec_tests.specs.Rules.{_<?_, _≡?_, _≢?_, _or_, _and_, pick, out
 use Rattle.spec_rules.specs.Image.{controlOf, optional, registerOf}
 use Rattle.spec_rules.specs.Checks.{refuse}
 use Rattle.spec_rules.specs.NetlistImage.{nodeWord, nodeOf, nodeAt, portLists, portLength, recordLength, split, recordsOf, recordsWith, registerBitOf, memoryPortOf, memoryOf, arithmeticOf, comparisonOf, outPortOf, notOutput, isOutputPort, netlist}
+use Rattle.spec_rules.specs.Clashing.{memory}
+use Rattle.spec_rules.specs.Step.{clashing}
 use Rattle.spec_rules.specs.Listing.{text, digits, decimal, line, together}
 use Rattle.spec_netlist.specs.Accept.{wrongHeader, belongs, mostOwner, mostBit, inputCount, wrongOwner, sameNode, wrongBit, wrongInput, wrongNodeWord, portsLength, extent, member, secondData, ownNets, taken, countOf, wrongLevel, notAbove, firstWrong, noNet, noOptional, notOwn, wrongPort, wrongRegister, wrongMemoryPort, wrongMemory, wrongArithmetic, wrongComparison, wrongWord, judged, headerAnswer, lengthAnswer, nodesAnswer, listAnswer, alone, aloneAnswer, wrongCount, countsAnswer, bodyAnswer, accepts}
-use Rattle.spec_netlist.specs.Examples.{register, memory}
+use Rattle.spec_netlist.specs.Examples.{register}
 use Rattle.spec_trace.specs.Opened.{wordsOf, otherLimits, opened, having, noInput, registerUnfit, secondUnfit, memoryUnfit, bitsOf, unfit, portsWith, netsWith}
-use Rattle.spec_trace.specs.Trace.{settingBy, settingOf, wrongLine, digit, shown, reached, lineDone, before, pieces, said, continued, traced, unless, traceText}
+use Rattle.spec_trace.specs.Trace.{settingBy, settingOf, wrongLine, digit, shown, reached, clashAt, lineDone, before, pieces, said, continued, traced, unless, traceText}
 
 -- all that is computed
 computing : ℕ
-unfolding _<?_ _≡?_ _≢?_ _or_ _and_ pick outside upTo first any each listOf only andThen controlOf optional registerOf refuse nodeWord nodeOf nodeAt portLists portLength recordLength split recordsOf recordsWith registerBitOf memoryPortOf memoryOf arithmeticOf comparisonOf outPortOf notOutput isOutputPort netlist digits decimal line together wrongHeader belongs mostOwner mostBit inputCount wrongOwner sameNode wrongBit wrongInput wrongNodeWord portsLength extent member secondData ownNets taken countOf wrongLevel notAbove firstWrong noNet noOptional notOwn wrongPort wrongRegister wrongMemoryPort wrongMemory wrongArithmetic wrongComparison wrongWord judged headerAnswer lengthAnswer nodesAnswer listAnswer alone aloneAnswer wrongCount countsAnswer bodyAnswer accepts wordsOf otherLimits opened having noInput registerUnfit secondUnfit memoryUnfit bitsOf unfit portsWith netsWith settingBy settingOf wrongLine digit shown reached lineDone before pieces said continued traced unless traceText
+unfolding clashing _<?_ _≡?_ _≢?_ _or_ _and_ pick outside upTo first any each listOf only andThen controlOf optional registerOf refuse nodeWord nodeOf nodeAt portLists portLength recordLength split recordsOf recordsWith registerBitOf memoryPortOf memoryOf arithmeticOf comparisonOf outPortOf notOutput isOutputPort netlist digits decimal line together wrongHeader belongs mostOwner mostBit inputCount wrongOwner sameNode wrongBit wrongInput wrongNodeWord portsLength extent member secondData ownNets taken countOf wrongLevel notAbove firstWrong noNet noOptional notOwn wrongPort wrongRegister wrongMemoryPort wrongMemory wrongArithmetic wrongComparison wrongWord judged headerAnswer lengthAnswer nodesAnswer listAnswer alone aloneAnswer wrongCount countsAnswer bodyAnswer accepts wordsOf otherLimits opened having noInput registerUnfit secondUnfit memoryUnfit bitsOf unfit portsWith netsWith settingBy settingOf wrongLine digit shown reached clashAt lineDone before pieces said continued traced unless traceText
 computing = zero
 
 -- four bytes a word, low first
@@ -87,3 +89,18 @@ memory-run = refl
 both-store : traceText 15 65 4 (bytes memory ++ text "01110\n11110\n00010\n10010\n") ≡ text "0000\n0000\n0000\n1001\n"
 unfolding computing
 both-store = refl
+
+-- 14: both store at 1 in line 3's step; what was printed before stays
+clash : traceText 15 65 4 (bytes memory ++ text "00011\n10011\n01111\n11111\n00011\n") ≡ text "0000\n0000\n0000\nrefused 14 3 0\n"
+unfolding computing
+clash = refl
+
+-- 13's check of the line comes first
+wrong-line-first : traceText 15 65 4 (bytes memory ++ text "00011\n10011\n01111\n1111\n") ≡ text "0000\n0000\n0000\nrefused 13 3 0\n"
+unfolding computing
+wrong-line-first = refl
+
+-- the first line makes no step
+no-step : traceText 15 65 4 (bytes memory ++ text "11111\n01111\n") ≡ text "0000\n0000\n"
+unfolding computing
+no-step = refl

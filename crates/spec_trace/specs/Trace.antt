@@ -7,7 +7,7 @@ use Rattle.spec_rtl.specs.Table.{build}
 use Rattle.spec_tests.specs.Rules.{_<?_, _≡?_, _≢?_, _or_, _and_, pick, Answer, Fine, Refused, andThen}
 use Rattle.spec_rules.specs.Checks.{refuse}
 use Rattle.spec_rules.specs.NetlistImage.{Netlist, netlist}
-use Rattle.spec_rules.specs.Step.{Setting, Contents, act, nodeValue, ofNetlist}
+use Rattle.spec_rules.specs.Step.{Setting, Contents, act, clashing, nodeValue, ofNetlist}
 use Rattle.spec_rules.specs.Listing.{text, decimal, line}
 use Rattle.spec_trace.specs.Opened.{wordsOf, imageOf, traceOf, opened, having, unfit, portsWith, inputNets, outputNets}
 
@@ -53,18 +53,26 @@ unfoldable pub reached : List ℕ → Now → Setting → Contents
 reached ws Before t = zeroed
 reached ws (At s c) t = act (ofNetlist (netlist ws) .reads s c t) c
 
+-- Q-6: the lowest memory with a write clash in the line's step; 16 where there is none
+unfoldable pub clashAt : List ℕ → Now → Setting → ℕ
+clashAt ws Before t = 16
+clashAt ws (At s c) t = clashing (ofNetlist (netlist ws) .reads s c t)
+
 -- what a line comes to: what is printed and what then holds, or a refusal
 pub data After (S : Type 0) : Type 0 where
   Goes : List ℕ → S → After S
   Stops : Answer → After S
 
--- line k: "13, a line of another length or letter, place its number, counted from 0"
+-- line k: "13, a line of another length or letter, place its number, counted from 0"; "14, a write clash, place line and the lowest such
+-- memory, after the line's own check by 13 and before its outputs are printed"
 unfoldable pub lineDone : List ℕ → ℕ → Now → List ℕ → After Now
 lineDone ws k now l =
     let t = settingOf ws l in
     let c = reached ws now t in
     let goes = Goes (shown ws t c) (At t c) in
-    pick (wrongLine ws l) (Stops (Refused 13 k 0)) goes
+    let x = clashAt ws now t in
+    let ends = pick (x <? 16) (Stops (Refused 14 k x)) goes in
+    pick (wrongLine ws l) (Stops (Refused 13 k 0)) ends
 
 -- ---- the lines ----
 

@@ -1,16 +1,18 @@
 -- Where a run stands, and what a line makes of its tables. Assumes nothing.
 use Prim.Native.Nat.{ℕ, _+_, _≤_, _<_}
 use native.Mathlib.Omega.{arith}
-use mathlib.Core.Path.{_≡_, sym, ap, subst, _∙_}
+use mathlib.Core.Path.{_≡_, refl, sym, ap, subst, _∙_}
 use mathlib.Core.List.{List}
 use lib.ListN.{length}
 use Rattle.spec_rules.specs.Step.{Setting, Contents}
-use Rattle.spec_trace.specs.Trace.{settingOf, Now, Before, At, reached}
+use Rattle.spec_trace.specs.Trace.{settingOf, Now, Before, At, reached, clashAt}
 use Rattle.trace_cells.specs.Digits.{Bits}
 use Rattle.trace_pass.specs.Plan.{size, Plan, Loaded, Valued}
 use Rattle.trace_step.specs.Words.{spread, registersDone, memoriesRead, memoriesWritten}
-use Rattle.trace_line.specs.State.{Prepared, Sized, Holds}
-use Rattle.trace_line.specs.Step.{char, Next, next-line, first-line}
+use Rattle.trace_clash.specs.Words.{lowestClash}
+use Rattle.trace_clash.specs.Lowest.{lowest-is}
+use Rattle.trace_line.specs.State.{Prepared, Sized, Holds, fit-of}
+use Rattle.trace_line.specs.Step.{char, Next, inputs-loaded, next-line, first-line}
 
 module _ (ws steps : List ℕ) (count : ℕ) (inputs outputs registers : List ℕ) (nr : ℕ) (memories : List ℕ) (nm k : ℕ) where
   pub record Standing (values memory : List ℕ) : Type 0 where
@@ -23,6 +25,25 @@ module _ (ws steps : List ℕ) (count : ℕ) (inputs outputs registers : List �
     pub says : (p : Prepared ws steps count inputs outputs registers nr memories nm) (n : Now) → Holds ws (p .ok) memories k n values memory
         → Holds ws (p .ok) memories (k + 1) (At (settingOf ws l) (reached ws n (settingOf ws l))) values′ memory′
     pub sized : Sized ws values′ memory′
+
+  -- the clash is the step's, and where there is none the tables are those after the line
+  pub record Taken (l values memory : List ℕ) (clash : ℕ) (values′ memory′ : List ℕ) : Type 0 where
+    pub clashes : (p : Prepared ws steps count inputs outputs registers nr memories nm) (n : Now) → Holds ws (p .ok) memories k n values memory → clash ≡ clashAt ws n (settingOf ws l)
+    pub after : 16 ≤ clash → After l values memory values′ memory′
+
+-- the step's clash, wherever the run stands
+module _ {ws steps : List ℕ} {count : ℕ} {inputs outputs registers : List ℕ} {nr : ℕ} {memories : List ℕ} {nm : ℕ} (p : Prepared ws steps count inputs outputs registers nr memories nm) (l : List ℕ) {values memory : List ℕ} (z : Sized ws values memory) where
+  pub clashes-at : {k : ℕ} → 0 < k → (n : Now) → Holds ws (p .ok) memories k n values memory → {v w : List ℕ} {x : ℕ} → v ≡ values → w ≡ spread char values inputs l → x ≡ lowestClash ws v w memories nm → x ≡ clashAt ws n (settingOf ws l)
+  unfolding clashAt
+  clashes-at b Before h ev ew ex = absurd (let q = h .0 in omega arith)
+  clashes-at b (At s c) h {v} {w} ev ew ex =
+      ex ∙ ap (λ (z : List ℕ). lowestClash ws z w memories nm) ev ∙ lowest-is ws (p .ok) (fit-of p) s (settingOf ws l) c (h .1 .0) (inputs-loaded p l s c values (z .wide) ew) (p .memories-at)
+
+  -- the first line makes no step
+  pub no-clash : (n : Now) → Holds ws (p .ok) memories 0 n values memory → 16 ≡ clashAt ws n (settingOf ws l)
+  unfolding clashAt
+  no-clash Before h = refl
+  no-clash (At s c) h = absurd (let q = h .0 in omega arith)
 
 -- the tables before the plan is run, wherever the run stands
 module _ {ws steps : List ℕ} {count : ℕ} {inputs outputs registers : List ℕ} {nr : ℕ} {memories : List ℕ} {nm : ℕ} (p : Prepared ws steps count inputs outputs registers nr memories nm) {l values memory : List ℕ} (z : Sized ws values memory) where
@@ -59,22 +80,36 @@ module _ {ws steps : List ℕ} {count : ℕ} {inputs outputs registers : List �
     sized = sizes (x .prepared) (x .sized) (begins (x .prepared) {l = l} (x .sized) (x .stands) (subst (λ (i : ℕ). Holds ws (x .prepared .ok) memories i (x .stands) values memory) z (x .holds)) e) (f .1) b;
   }
 
-  module _ (b : 0 < k) {v w₁ w₂ w₃ m : List ℕ} (ev : v ≡ values) (e₁ : w₁ ≡ spread char values inputs l) (e₂ : w₂ ≡ registersDone ws v registers nr w₁) (e₃ : w₃ ≡ memoriesRead ws memory v memories nm w₂)
-      (e₄ : m ≡ memoriesWritten ws v w₃ memories nm memory) where
-    pub advance-ready : Plan ws steps count × ((size ws ≤ length w₃) × Bits w₃)
-    advance-ready = ready (advances (x .prepared) (x .sized) b (x .stands) (x .holds) ev e₁ e₂ e₃ e₄)
+  module _ (b : 0 < k) {v w₁ : List ℕ} (ev : v ≡ values) (e₁ : w₁ ≡ spread char values inputs l) {clash : ℕ} (ec : clash ≡ lowestClash ws v w₁ memories nm) where
+    -- nothing more is done where there is a clash
+    pub clash-taken : clash < 16 → (values′ memory′ : List ℕ) → Taken ws steps count inputs outputs registers nr memories nm k l values memory clash values′ memory′
+    clash-taken h values′ memory′ = record { clashes = λ p n q. clashes-at p l (x .sized) b n q ev e₁ ec; after = λ g. absurd (omega arith) }
 
-    pub advance-after : {values′ : List ℕ} → ((s : Setting) (d : Contents) → Loaded ws s d w₃ → Valued ws s d values′) × Bits values′ → length values′ ≡ length w₃
-        → After ws steps count inputs outputs registers nr memories nm k l values memory values′ m
-    advance-after {values′} f q = record {
-      says = λ p n h. settled p (x .sized) k (advances p (x .sized) b n h ev e₁ e₂ e₃ e₄) (f .0);
-      sized = sizes (x .prepared) (x .sized) (advances (x .prepared) {l = l} (x .sized) b (x .stands) (x .holds) ev e₁ e₂ e₃ e₄) (f .1) q;
-    }
+    module _ {w₂ w₃ m : List ℕ} (e₂ : w₂ ≡ registersDone ws v registers nr w₁) (e₃ : w₃ ≡ memoriesRead ws memory v memories nm w₂) (e₄ : m ≡ memoriesWritten ws v w₃ memories nm memory) where
+      pub advance-ready : Plan ws steps count × ((size ws ≤ length w₃) × Bits w₃)
+      advance-ready = ready (advances (x .prepared) (x .sized) b (x .stands) (x .holds) ev e₁ e₂ e₃ e₄)
+
+      pub advance-taken : {values′ : List ℕ} → ((s : Setting) (d : Contents) → Loaded ws s d w₃ → Valued ws s d values′) × Bits values′ → length values′ ≡ length w₃
+          → Taken ws steps count inputs outputs registers nr memories nm k l values memory clash values′ m
+      advance-taken {values′} f q = record {
+        clashes = λ p n h. clashes-at p l (x .sized) b n h ev e₁ ec;
+        after = λ g. record {
+          says = λ p n h. settled p (x .sized) k (advances p (x .sized) b n h ev e₁ e₂ e₃ e₄) (f .0);
+          sized = sizes (x .prepared) (x .sized) (advances (x .prepared) {l = l} (x .sized) b (x .stands) (x .holds) ev e₁ e₂ e₃ e₄) (f .1) q;
+        };
+      }
 
   pub at-first : k ≡ 0 → Standing ws steps count inputs outputs registers nr memories nm 0 values memory
   at-first z = record { prepared = x .prepared; sized = x .sized; stands = x .stands; holds = subst (λ (i : ℕ). Holds ws (x .prepared .ok) memories i (x .stands) values memory) z (x .holds) }
 
-pub after-first : {ws steps : List ℕ} {count : ℕ} {inputs outputs registers : List ℕ} {nr : ℕ} {memories : List ℕ} {nm k : ℕ} {l values memory values′ memory′ : List ℕ} → k ≡ 0
+after-first : {ws steps : List ℕ} {count : ℕ} {inputs outputs registers : List ℕ} {nr : ℕ} {memories : List ℕ} {nm k : ℕ} {l values memory values′ memory′ : List ℕ} → k ≡ 0
     → After ws steps count inputs outputs registers nr memories nm 0 l values memory values′ memory′ → After ws steps count inputs outputs registers nr memories nm k l values memory values′ memory′
 after-first {ws} {steps} {count} {inputs} {outputs} {registers} {nr} {memories} {nm} {k} {l} {values} {memory} {values′} {memory′} z a =
     subst (λ (i : ℕ). After ws steps count inputs outputs registers nr memories nm i l values memory values′ memory′) (sym z) a
+
+pub taken-first : {ws steps : List ℕ} {count : ℕ} {inputs outputs registers : List ℕ} {nr : ℕ} {memories : List ℕ} {nm k : ℕ} {l values memory values′ memory′ : List ℕ} → Standing ws steps count inputs outputs registers nr memories nm k values memory → k ≡ 0
+    → After ws steps count inputs outputs registers nr memories nm 0 l values memory values′ memory′ → Taken ws steps count inputs outputs registers nr memories nm k l values memory 16 values′ memory′
+taken-first {ws} {memories = memories} {l = l} {values = values} {memory = memory} x z a = record {
+  clashes = λ p n h. no-clash p l (x .sized) n (subst (λ (i : ℕ). Holds ws (p .ok) memories i n values memory) z h);
+  after = λ g. after-first z a;
+}

@@ -1,7 +1,7 @@
 -- A line on the tables of a run: the first one and the others leave them as the step rule does. Assumes nothing.
 use Prim.Native.Nat.{ℕ, _≤_, _<_}
 use native.Mathlib.Omega.{arith}
-use mathlib.Core.Path.{_≡_, refl, sym, ap, _∙_}
+use mathlib.Core.Path.{_≡_, refl, sym, ap, subst, _∙_}
 use mathlib.Core.Bool.{Bool, true, false, cond}
 use mathlib.Core.Logic.{_⊎_, ⊎-elim}
 use mathlib.Core.List.{List}
@@ -9,12 +9,12 @@ use lib.Dec.{ltb}
 use lib.ListN.{length, getD}
 use Rattle.spec_rtl.specs.Word.{bit, bit-lt}
 use Rattle.spec_tests.specs.Rules.{_≡?_, _or_, Fine}
-use Rattle.spec_tests.specs.Laws.{or-no, no-ne, yes-eq}
+use Rattle.spec_tests.specs.Laws.{yes-eq}
 use Rattle.spec_rules.specs.NetlistImage.{nodeWord, netlist}
 use Rattle.spec_rules.specs.Step.{Setting, Contents, act, net, dataWidth, ofNetlist}
 use Rattle.spec_netlist.specs.Accept.{accepts}
 use Rattle.spec_trace.specs.Opened.{inputNets}
-use Rattle.spec_trace.specs.Trace.{settingOf, wrongLine, zeroed, Before, At, reached}
+use Rattle.spec_trace.specs.Trace.{settingOf, zeroed, Before, At, reached}
 use Rattle.law_told.specs.Told.{or-split}
 use Rattle.law_reads.specs.Reads.{nodeOf, isSource}
 use Rattle.trace_cells.specs.Digits.{Bits}
@@ -32,10 +32,6 @@ use Rattle.trace_line.specs.State.{Prepared, Sized, Holds, fit-of, base-
 -- a character as a bit
 abbrev pub char : ℕ → ℕ
 char b = bit (b ≡? 49)
-
-right-length : (ws l : List ℕ) → wrongLine ws l ≡ false → length l ≡ length (inputNets ws)
-unfolding wrongLine
-right-length ws l e = no-ne _ _ (or-no e .0)
 
 module _ (ws : List ℕ) (ok : accepts ws ≡ Fine) (l : List ℕ) (d : Contents) where
   -- the line's characters are the wanted values of the inputs
@@ -72,6 +68,11 @@ module _ {ws steps : List ℕ} {count : ℕ} {inputs outputs registers : List �
     pub stored : Stored ws (p .ok) c memories memory′
     pub room : length memory′ ≡ length memory
 
+  -- the new inputs stand in the table before anything else changes
+  pub inputs-loaded : (s : Setting) (c : Contents) (values : List ℕ) → size ws ≤ length values → {w : List ℕ} → w ≡ spread char values inputs l → Inputs ws (p .ok) s (settingOf ws l) c w
+  inputs-loaded s c values wide e =
+      subst (Inputs ws (p .ok) s (settingOf ws l) c) (sym (e ∙ ap (λ (n : List ℕ). spread char values n l) (p .inputs-are))) (record { at = inputs-move ws (p .ok) l c values wide .1 })
+
   pub next-line : (s : Setting) (c : Contents) (k : ℕ) (values memory : List ℕ) → Sized ws values memory → Holds ws (p .ok) memories k (At s c) values memory
       → {w₁ w₂ w₃ m : List ℕ} → w₁ ≡ spread char values inputs l → w₂ ≡ registersDone ws values registers nr w₁ → w₃ ≡ memoriesRead ws memory values memories nm w₂ → m ≡ memoriesWritten ws values w₃ memories nm memory
       → Next (reached ws (At s c) (settingOf ws l)) values memory w₃ m
@@ -81,7 +82,7 @@ module _ {ws steps : List ℕ} {count : ℕ} {inputs outputs registers : List �
       let x = h .1 .0 in
       let i = inputs-move ws (p .ok) l d values (z .wide) in
       let f : w₁ ≡ spread char values (inputNets ws) l = e₁ ∙ ap (λ (n : List ℕ). spread char values n l) (p .inputs-are) in
-      let y : Inputs ws (p .ok) s (settingOf ws l) c (spread char values (inputNets ws) l) = record { at = i .1 } in
+      let y = inputs-loaded s c values (z .wide) (sym (ap (λ (n : List ℕ). spread char values n l) (p .inputs-are))) in
       let a = loaded-after ws (p .ok) fit-of-p s (settingOf ws l) c x (p .registers-at) (p .memories-at) (spread char values (inputNets ws) l) (i .0) y (z .wide) memory (h .1 .1) in
       let g : w₃ ≡ memoriesRead ws memory values memories nm (registersDone ws values registers nr (spread char values (inputNets ws) l)) = e₃ ∙ ap (memoriesRead ws memory values memories nm) (e₂ ∙ ap (registersDone ws values registers nr) f) in
       let b = stored-after ws (p .ok) fit-of-p s (settingOf ws l) c x (p .memories-at) (memoriesRead ws memory values memories nm (registersDone ws values registers nr (spread char values (inputNets ws) l))) (a .1) memory (h .1 .1) (let q = base-total p in let r = z .room in omega arith) in

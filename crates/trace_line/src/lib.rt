@@ -7,7 +7,7 @@ ghost use Rattle.spec_trace.specs.Trace.{digit};
 ghost use Rattle.listing_text.specs.Text.{Wrote};
 ghost use Rattle.trace_step.specs.Words.{on, spread};
 ghost use Rattle.trace_line.specs.Step.{char};
-ghost use Rattle.trace_line.specs.Standing.{Standing, After};
+ghost use Rattle.trace_line.specs.Standing.{Standing, After, Taken};
 
 // Character i of a line as a bit: 1 for '1'.
 fn char_at(line: &[u8], i: usize) -> u32
@@ -84,7 +84,7 @@ fn begin(
     trace_pass::run(net, steps, count, values);
 }
 
-// Line k, a step.
+// Line k, a step: the lowest memory with a write clash, and then no more is done; 16 where there is none.
 fn advance(
     net: &[u32],
     steps: &[u32],
@@ -100,19 +100,24 @@ fn advance(
     values: &mut [u32],
     old: &mut [u32],
     memory: &mut [u32],
-)
+) -> u32
     requires { ⌜ (Standing (now net) (now steps) count (now inputs) (now outputs) (now registers) nr (now memories) nm k (now values) (now memory)) × (0 < k) × (length (now old) ≡ length (now values)) ⌝ }
-    ensures { λ _. ⌜ After (now (net .entry)) (now (steps .entry)) count (now (inputs .entry)) (now (outputs .entry)) (now (registers .entry)) nr (now (memories .entry)) nm k (now (line .entry)) (now (values .entry)) (now (memory .entry)) (now (values .exit)) (now (memory .exit)) ⌝ }
+    ensures { λ r. ⌜ Taken (now (net .entry)) (now (steps .entry)) count (now (inputs .entry)) (now (outputs .entry)) (now (registers .entry)) nr (now (memories .entry)) nm k (now (line .entry)) (now (values .entry)) (now (memory .entry)) r (now (values .exit)) (now (memory .exit)) ⌝ }
 {
     copy(values, old);
     load_line(inputs, line, values);
+    let clash = trace_clash::lowest_clash(net, memories, nm, old, values);
+    if clash < 16 {
+        return clash;
+    }
     trace_step::load_registers(net, registers, nr, old, values);
     trace_memory::read_memories(net, memories, nm, memory, old, values);
     trace_memory::write_memories(net, memories, nm, memory, old, values);
     trace_pass::run(net, steps, count, values);
+    clash
 }
 
-// Line k.
+// Line k: the lowest memory with a write clash in its step, else 16.
 pub fn take_line(
     net: &[u32],
     steps: &[u32],
@@ -128,9 +133,9 @@ pub fn take_line(
     values: &mut [u32],
     old: &mut [u32],
     memory: &mut [u32],
-)
+) -> u32
     requires { ⌜ (Standing (now net) (now steps) count (now inputs) (now outputs) (now registers) nr (now memories) nm k (now values) (now memory)) × (length (now old) ≡ length (now values)) ⌝ }
-    ensures { λ _. ⌜ After (now (net .entry)) (now (steps .entry)) count (now (inputs .entry)) (now (outputs .entry)) (now (registers .entry)) nr (now (memories .entry)) nm k (now (line .entry)) (now (values .entry)) (now (memory .entry)) (now (values .exit)) (now (memory .exit)) ⌝ }
+    ensures { λ r. ⌜ Taken (now (net .entry)) (now (steps .entry)) count (now (inputs .entry)) (now (outputs .entry)) (now (registers .entry)) nr (now (memories .entry)) nm k (now (line .entry)) (now (values .entry)) (now (memory .entry)) r (now (values .exit)) (now (memory .exit)) ⌝ }
 {
     if k == 0 {
         begin(
@@ -147,7 +152,7 @@ pub fn take_line(
             values,
             memory,
         );
-        return;
+        return 16;
     }
     advance(
         net,
@@ -164,5 +169,5 @@ pub fn take_line(
         values,
         old,
         memory,
-    );
+    )
 }

@@ -14,7 +14,7 @@ use Rattle.spec_tests.specs.Rules.{_<?_, _≡?_, _≢?_, _or_, _and_, pick, onl
 use Rattle.spec_tests.specs.Laws.{or-no, or-yes, no-lt, yes-lt, lt-yes, lt-no}
 use Rattle.spec_rules.specs.Listing.{text}
 use Rattle.spec_trace.specs.Opened.{having, inputNets, outputNets}
-use Rattle.spec_trace.specs.Trace.{settingOf, wrongLine, digit, values, shown, Now, At, reached, said, textFrom}
+use Rattle.spec_trace.specs.Trace.{settingOf, wrongLine, digit, values, shown, Now, At, reached, clashAt, said, textFrom}
 use Rattle.spec_rules.specs.NetlistImage.{netlist}
 use Rattle.spec_rules.specs.Step.{Setting, Contents, net}
 use Rattle.spec_netlist.specs.Accept.{accepts}
@@ -26,8 +26,8 @@ use Rattle.trace_sim.specs.Sources.{on-bit}
 use Rattle.trace_sim.specs.Inputs.{port-net}
 use Rattle.trace_pass.specs.Steps.{size-is}
 use Rattle.trace_line.specs.State.{Prepared, Holds}
-use Rattle.trace_line.specs.Standing.{Standing, After}
-use Rattle.trace_lines.specs.Pieces.{Free, text-goes, text-limit, text-wrong, text-long}
+use Rattle.trace_line.specs.Standing.{Standing, Taken}
+use Rattle.trace_lines.specs.Pieces.{Free, text-goes, text-clash, text-limit, text-wrong, text-long}
 
 -- the first line end of these bytes
 pub record LineEnd (bytes : List ℕ) (r : ℕ) : Type 0 where
@@ -36,14 +36,15 @@ pub record LineEnd (bytes : List ℕ) (r : ℕ) : Type 0 where
   pub ends : r < length bytes → getD bytes r 0 ≡ 10
   pub small : r < length bytes → r + 1 < 18446744073709551616
 
-pub record Refuses (k : ℕ) (out : List ℕ) (at : ℕ) (out′ : List ℕ) (used to : ℕ) (stop : Bool) : Type 0 where
+-- refusal n at line k and place x
+pub record Refuses (n k x : ℕ) (out : List ℕ) (at : ℕ) (out′ : List ℕ) (used to : ℕ) (stop : Bool) : Type 0 where
   pub none : used ≡ 0
   pub last : stop ≡ true
-  pub wrote : Wrote out at (refusalText 13 k 0) out′ to
+  pub wrote : Wrote out at (refusalText n k x) out′ to
 
 pub record Waits (k n inputs : ℕ) (out : List ℕ) (at : ℕ) (out′ : List ℕ) (used to : ℕ) (stop : Bool) : Type 0 where
   pub none : used ≡ 0
-  pub long : inputs < n → Refuses k out at out′ used to stop
+  pub long : inputs < n → Refuses 13 k 0 out at out′ used to stop
   pub short : n ≤ inputs → (stop ≡ false) × ((out′ ≡ out) × (to ≡ at))
 
 -- ---- the text ----
@@ -131,16 +132,27 @@ module _ {bytes : List ℕ} {e : ℕ} (r : LineEnd bytes e) (h : e < length byte
       (λ (a : (length (take e bytes) ≢? length (inputNets ws) or having (λ b. b ≢? 48 and b ≢? 49) (take e bytes)) ≡ true). text-wrong ws k now (take e bytes) (drop (e + 1) bytes ++ more) (free-line bytes e r) a) (or-yes (sym q ∙ t))
       ∙ said-is 13 k 0
 
-  pub goes-text : (ws : List ℕ) (k : ℕ) (now : Now) {b : Bool} → b ≡ (4294967294 <? k or (length (take e bytes) ≢? length (inputNets ws) or having (λ b. b ≢? 48 and b ≢? 49) (take e bytes))) → b ≡ false
-      → textFrom ws k now (bytes ++ more) ≡ shown ws (settingOf ws (take e bytes)) (reached ws now (settingOf ws (take e bytes)))
-      ++ textFrom ws (k + 1) (At (settingOf ws (take e bytes)) (reached ws now (settingOf ws (take e bytes)))) (drop (e + 1) bytes ++ more)
-  unfolding wrongLine
-  goes-text ws k now q t =
-      let a = or-no (sym q ∙ t) in
-      let z = no-lt 4294967294 k (a .0) in
-      let s : suc k ≡ k + 1 = omega arith in
-      ap (textFrom ws k now) whole ∙ text-goes ws k now (take e bytes) (drop (e + 1) bytes ++ more) (free-line bytes e r) (omega arith) (a .1)
-      ∙ ap (λ (n : ℕ). shown ws (settingOf ws (take e bytes)) (reached ws now (settingOf ws (take e bytes))) ++ textFrom ws n (At (settingOf ws (take e bytes)) (reached ws now (settingOf ws (take e bytes)))) (drop (e + 1) bytes ++ more)) s
+  -- a line that is not refused under 13, by the clash of its step
+  module _ (ws : List ℕ) (k : ℕ) (now : Now) {b : Bool} (q : b ≡ (4294967294 <? k or (length (take e bytes) ≢? length (inputNets ws) or having (λ b. b ≢? 48 and b ≢? 49) (take e bytes)))) (t : b ≡ false) {x : ℕ}
+      (ex : x ≡ clashAt ws now (settingOf ws (take e bytes))) where
+    pub goes-text : 16 ≤ x
+        → textFrom ws k now (bytes ++ more) ≡ shown ws (settingOf ws (take e bytes)) (reached ws now (settingOf ws (take e bytes)))
+        ++ textFrom ws (k + 1) (At (settingOf ws (take e bytes)) (reached ws now (settingOf ws (take e bytes)))) (drop (e + 1) bytes ++ more)
+    unfolding wrongLine
+    goes-text g =
+        let a = or-no (sym q ∙ t) in
+        let z = no-lt 4294967294 k (a .0) in
+        let s : suc k ≡ k + 1 = omega arith in
+        ap (textFrom ws k now) whole ∙ text-goes ws k now (take e bytes) (drop (e + 1) bytes ++ more) (free-line bytes e r) (omega arith) (a .1) (lt-no _ 16 (omega arith))
+        ∙ ap (λ (n : ℕ). shown ws (settingOf ws (take e bytes)) (reached ws now (settingOf ws (take e bytes))) ++ textFrom ws n (At (settingOf ws (take e bytes)) (reached ws now (settingOf ws (take e bytes)))) (drop (e + 1) bytes ++ more)) s
+
+    pub clash-text : x < 16 → textFrom ws k now (bytes ++ more) ≡ refusalText 14 k x
+    unfolding wrongLine
+    clash-text g =
+        let a = or-no (sym q ∙ t) in
+        let z = no-lt 4294967294 k (a .0) in
+        ap (textFrom ws k now) whole ∙ text-clash ws k now (take e bytes) (drop (e + 1) bytes ++ more) (free-line bytes e r) (omega arith) (a .1) (lt-yes _ 16 (omega arith))
+        ∙ said-is 14 k _ ∙ ap (refusalText 14 k) (sym ex)
 
 -- ---- what became of them ----
 
@@ -154,10 +166,18 @@ module _ (ws steps : List ℕ) (count : ℕ) (inputs outputs registers : List �
     pub holds : Holds ws (p .ok) memories (k + 1) next values′ memory′
     pub says : (more : List ℕ) → textFrom ws k n (bytes ++ more) ≡ text ++ textFrom ws (k + 1) next (drop used bytes ++ more)
 
+  -- a refusal, and it is the whole text
+  pub record Last (out′ : List ℕ) (to : ℕ) : Type 0 where
+    pub number : ℕ
+    pub place : ℕ
+    pub small : (number < 4294967296) × (place < 4294967296)
+    pub wrote : Wrote out at (refusalText number k place) out′ to
+    pub says : (p : Prepared ws steps count inputs outputs registers nr memories nm) (n : Now) → Holds ws (p .ok) memories k n values memory → (more : List ℕ) → textFrom ws k n (bytes ++ more) ≡ refusalText number k place
+
   pub record Answered (used to : ℕ) (stop : Bool) (out′ values′ memory′ : List ℕ) : Type 0 where
     pub upTo : used ≤ length bytes
     pub place : to ≤ length out′
-    pub stops : stop ≡ true → Wrote out at (refusalText 13 k 0) out′ to × ((n : Now) (more : List ℕ) → textFrom ws k n (bytes ++ more) ≡ refusalText 13 k 0)
+    pub stops : stop ≡ true → Last out′ to
     pub waits : stop ≡ false → used ≡ 0 → ((out′ ≡ out) × (to ≡ at)) × ((Free bytes × (length bytes ≤ length (inputNets ws))) × ((values′ ≡ values) × (memory′ ≡ memory)))
     pub goes : stop ≡ false → 0 < used → (p : Prepared ws steps count inputs outputs registers nr memories nm) (n : Now) → Holds ws (p .ok) memories k n values memory → Gone p n used values′ memory′ out′ to
     pub few : stop ≡ false → 0 < used → k < 4294967295
@@ -167,14 +187,26 @@ its-inputs : {ws steps : List ℕ} {count : ℕ} {inputs outputs registers : Lis
     → Standing ws steps count inputs outputs registers nr memories nm k values memory → length inputs ≡ length (inputNets ws)
 its-inputs x = ap length (x .prepared .inputs-are)
 
+-- the test of a line and its step's clash, of the line as it stands among the bytes
+module _ {ws steps : List ℕ} {count : ℕ} {inputs outputs registers : List ℕ} {nr : ℕ} {memories : List ℕ} {nm k : ℕ} {values memory : List ℕ} (x : Standing ws steps count inputs outputs registers nr memories nm k values memory)
+    (e : ℕ) (bytes : List ℕ) {l : List ℕ} (el : l ≡ take e bytes) where
+  judged : {n : ℕ} → n ≡ length inputs → {b : Bool} → b ≡ (4294967294 <? k or (length l ≢? n or having (λ b. b ≢? 48 and b ≢? 49) l))
+      → b ≡ (4294967294 <? k or (length (take e bytes) ≢? length (inputNets ws) or having (λ b. b ≢? 48 and b ≢? 49) (take e bytes)))
+  judged {n} en q = q ∙ ap (λ (i : List ℕ). 4294967294 <? k or (length i ≢? n or having (λ b. b ≢? 48 and b ≢? 49) i)) el
+      ∙ ap (λ (i : ℕ). 4294967294 <? k or (length (take e bytes) ≢? i or having (λ b. b ≢? 48 and b ≢? 49) (take e bytes))) (en ∙ its-inputs x)
+
+  clash-is : {clash : ℕ} {values′ memory′ : List ℕ} → Taken ws steps count inputs outputs registers nr memories nm k l values memory clash values′ memory′
+      → (p : Prepared ws steps count inputs outputs registers nr memories nm) (now : Now) → Holds ws (p .ok) memories k now values memory → clash ≡ clashAt ws now (settingOf ws (take e bytes))
+  clash-is a p now holds = a .clashes p now holds ∙ ap (λ (z : List ℕ). clashAt ws now (settingOf ws z)) el
+
 module _ {ws steps : List ℕ} {count : ℕ} {inputs outputs registers : List ℕ} {nr : ℕ} {memories : List ℕ} {nm k : ℕ} {bytes out : List ℕ} {at : ℕ} {values memory : List ℕ}
     (x : Standing ws steps count inputs outputs registers nr memories nm k values memory) {e : ℕ} (r : LineEnd bytes e) where
   pub refuses : {n used to : ℕ} {stop : Bool} {l out′ : List ℕ} → n ≡ length inputs → e < length bytes → l ≡ take e bytes → {b : Bool} → b ≡ (4294967294 <? k or (length l ≢? n or having (λ b. b ≢? 48 and b ≢? 49) l)) → b ≡ true
-      → Refuses k out at out′ used to stop → Answered ws steps count inputs outputs registers nr memories nm k bytes out at values memory used to stop out′ values memory
+      → Refuses 13 k 0 out at out′ used to stop → Answered ws steps count inputs outputs registers nr memories nm k bytes out at values memory used to stop out′ values memory
   refuses {n} en h el {b} q t f = record {
     upTo = (let z = f .none in omega arith);
     place = f .wrote .upto;
-    stops = λ y. (f .wrote, λ now more. refused-text r h more ws k now (q ∙ ap (λ (i : List ℕ). 4294967294 <? k or (length i ≢? n or having (λ b. b ≢? 48 and b ≢? 49) i)) el ∙ ap (λ (i : ℕ). 4294967294 <? k or (length (take e bytes) ≢? i or having (λ b. b ≢? 48 and b ≢? 49) (take e bytes))) (en ∙ its-inputs x)) t);
+    stops = λ y. record { number = 13; place = 0; small = (omega arith, omega arith); wrote = f .wrote; says = λ p now holds more. refused-text r h more ws k now (judged x e bytes el en q) t };
     waits = λ y u. untrue (sym y ∙ f .last);
     goes = λ y u. untrue (sym y ∙ f .last);
     few = λ y u. untrue (sym y ∙ f .last);
@@ -189,7 +221,7 @@ module _ {ws steps : List ℕ} {count : ℕ} {inputs outputs registers : List �
         record {
           upTo = (let z = w .none in omega arith);
           place = f .wrote .upto;
-          stops = λ y. (f .wrote, λ now more. text-long ws k now bytes more (free-all r h) (let z = its-inputs x in omega arith) ∙ said-is 13 k 0);
+          stops = λ y. record { number = 13; place = 0; small = (omega arith, omega arith); wrote = f .wrote; says = λ p now holds more. text-long ws k now bytes more (free-all r h) (let z = its-inputs x in omega arith) ∙ said-is 13 k 0 };
           waits = λ y u. untrue (sym y ∙ f .last);
           goes = λ y u. untrue (sym y ∙ f .last);
           few = λ y u. untrue (sym y ∙ f .last);
@@ -208,29 +240,48 @@ module _ {ws steps : List ℕ} {count : ℕ} {inputs outputs registers : List �
         })
   ]
 
-  pub taken : {n used to : ℕ} {stop : Bool} {l out′ values′ memory′ : List ℕ} → n ≡ length inputs → e < length bytes → l ≡ take e bytes → {b : Bool} → b ≡ (4294967294 <? k or (length l ≢? n or having (λ b. b ≢? 48 and b ≢? 49) l)) → b ≡ false
-      → After ws steps count inputs outputs registers nr memories nm k l values memory values′ memory′ → Wrote out at (map (λ n. digit (on values′ n)) outputs ++ (10 ∷ [])) out′ to → used ≡ e + 1 → stop ≡ false
-      → Answered ws steps count inputs outputs registers nr memories nm k bytes out at values memory used to stop out′ values′ memory′
-  taken {n} {used} {to} {stop} {l} {out′} {values′} {memory′} en h el {b} q t a w eu es = record {
-    upTo = omega arith;
-    place = w .upto;
-    stops = λ y. untrue (sym es ∙ y);
-    waits = λ y u. absurd (omega arith);
-    goes = λ y u p now holds. (
-        let g = subst (λ (z : List ℕ). Holds ws (p .ok) memories (k + 1) (At (settingOf ws z) (reached ws now (settingOf ws z))) values′ memory′) el (a .says p now holds) in
-        record {
-          text = shown ws (settingOf ws (take e bytes)) (reached ws now (settingOf ws (take e bytes)));
-          short = shown-length ws (settingOf ws (take e bytes)) (reached ws now (settingOf ws (take e bytes)));
-          wrote = wrote-same (sym (shown-is (p .ok) (g .1 .0) (p .outputs-are))) w;
-          next = At (settingOf ws (take e bytes)) (reached ws now (settingOf ws (take e bytes)));
-          holds = g;
-          says = λ more. goes-text r h more ws k now (q ∙ ap (λ (i : List ℕ). 4294967294 <? k or (length i ≢? n or having (λ b. b ≢? 48 and b ≢? 49) i)) el
-              ∙ ap (λ (i : ℕ). 4294967294 <? k or (length (take e bytes) ≢? i or having (λ b. b ≢? 48 and b ≢? 49) (take e bytes))) (en ∙ its-inputs x)) t
-              ∙ ap (λ (i : ℕ). shown ws (settingOf ws (take e bytes)) (reached ws now (settingOf ws (take e bytes))) ++ textFrom ws (k + 1) (At (settingOf ws (take e bytes)) (reached ws now (settingOf ws (take e bytes)))) (drop i bytes ++ more)) (sym eu);
-        });
-    few = λ y u. (let z = no-lt 4294967294 k (or-no (sym q ∙ t) .0) in omega arith);
-    standing = λ y u. record { prepared = x .prepared; sized = a .sized; stands = At (settingOf ws l) (reached ws (x .stands) (settingOf ws l)); holds = a .says (x .prepared) (x .stands) (x .holds) };
-  }
+  -- a line that is not refused under 13
+  module _ {n : ℕ} {l : List ℕ} (en : n ≡ length inputs) (h : e < length bytes) (el : l ≡ take e bytes) {b : Bool} (q : b ≡ (4294967294 <? k or (length l ≢? n or having (λ b. b ≢? 48 and b ≢? 49) l))) (t : b ≡ false)
+      {clash : ℕ} {values′ memory′ : List ℕ} (a : Taken ws steps count inputs outputs registers nr memories nm k l values memory clash values′ memory′) where
+    pub clashed : clash < 16 → {used to : ℕ} {stop : Bool} {out′ : List ℕ} → Refuses 14 k clash out at out′ used to stop
+        → Answered ws steps count inputs outputs registers nr memories nm k bytes out at values memory used to stop out′ values′ memory′
+    clashed g f = record {
+      upTo = (let z = f .none in omega arith);
+      place = f .wrote .upto;
+      stops = λ y. record {
+        number = 14;
+        place = clash;
+        small = (omega arith, omega arith);
+        wrote = f .wrote;
+        says = λ p now holds more. clash-text r h more ws k now (judged x e bytes el en q) t (clash-is x e bytes el a p now holds) g;
+      };
+      waits = λ y u. untrue (sym y ∙ f .last);
+      goes = λ y u. untrue (sym y ∙ f .last);
+      few = λ y u. untrue (sym y ∙ f .last);
+      standing = λ y u. untrue (sym y ∙ f .last);
+    }
+
+    pub taken : 16 ≤ clash → {used to : ℕ} {stop : Bool} {out′ : List ℕ} → Wrote out at (map (λ n. digit (on values′ n)) outputs ++ (10 ∷ [])) out′ to → used ≡ e + 1 → stop ≡ false
+        → Answered ws steps count inputs outputs registers nr memories nm k bytes out at values memory used to stop out′ values′ memory′
+    taken g {used} {to} {stop} {out′} w eu es = record {
+      upTo = omega arith;
+      place = w .upto;
+      stops = λ y. untrue (sym es ∙ y);
+      waits = λ y u. absurd (omega arith);
+      goes = λ y u p now holds. (
+          let f = subst (λ (z : List ℕ). Holds ws (p .ok) memories (k + 1) (At (settingOf ws z) (reached ws now (settingOf ws z))) values′ memory′) el (a .after g .says p now holds) in
+          record {
+            text = shown ws (settingOf ws (take e bytes)) (reached ws now (settingOf ws (take e bytes)));
+            short = shown-length ws (settingOf ws (take e bytes)) (reached ws now (settingOf ws (take e bytes)));
+            wrote = wrote-same (sym (shown-is (p .ok) (f .1 .0) (p .outputs-are))) w;
+            next = At (settingOf ws (take e bytes)) (reached ws now (settingOf ws (take e bytes)));
+            holds = f;
+            says = λ more. goes-text r h more ws k now (judged x e bytes el en q) t (clash-is x e bytes el a p now holds) g
+                ∙ ap (λ (i : ℕ). shown ws (settingOf ws (take e bytes)) (reached ws now (settingOf ws (take e bytes))) ++ textFrom ws (k + 1) (At (settingOf ws (take e bytes)) (reached ws now (settingOf ws (take e bytes)))) (drop i bytes ++ more)) (sym eu);
+          });
+      few = λ y u. (let z = no-lt 4294967294 k (or-no (sym q ∙ t) .0) in omega arith);
+      standing = λ y u. record { prepared = x .prepared; sized = a .after g .sized; stands = At (settingOf ws l) (reached ws (x .stands) (settingOf ws l)); holds = a .after g .says (x .prepared) (x .stands) (x .holds) };
+    }
 
 -- ---- searches ----
 
@@ -255,7 +306,7 @@ ends-at bytes i p e l = record { upTo = p .0; free = p .1; ends = λ h. e; small
 pub ends-none : (bytes : List ℕ) (i : ℕ) → Passed bytes i → length bytes ≤ i → LineEnd bytes i
 ends-none bytes i p h = record { upTo = p .0; free = p .1; ends = λ l. absurd (omega arith); small = λ l. absurd (omega arith) }
 
-pub waits-long : {k n inputs at used to : ℕ} {out out′ : List ℕ} {stop : Bool} → inputs < n → Refuses k out at out′ used to stop → Waits k n inputs out at out′ used to stop
+pub waits-long : {k n inputs at used to : ℕ} {out out′ : List ℕ} {stop : Bool} → inputs < n → Refuses 13 k 0 out at out′ used to stop → Waits k n inputs out at out′ used to stop
 waits-long h r = record { none = r .none; long = λ l. r; short = λ l. absurd (omega arith) }
 
 pub waits-short : {k n inputs at : ℕ} {out : List ℕ} → n ≤ inputs → Waits k n inputs out at out 0 at false

@@ -9,7 +9,7 @@ use Rattle.spec_tests.specs.Rules.{_<?_, _≡?_, _or_, pick, Refused}
 use Rattle.spec_tests.specs.Laws.{pick-hit, pick-skip, or-hit, eq-yes, eq-no, ne-yes, lt-yes, lt-no}
 use Rattle.law_told.specs.Told.{pick-yes, pick-no}
 use Rattle.spec_trace.specs.Opened.{inputNets}
-use Rattle.spec_trace.specs.Trace.{settingOf, wrongLine, shown, Now, At, reached, Goes, Stops, lineDone, before, pieces, said, continued, traced, textFrom}
+use Rattle.spec_trace.specs.Trace.{settingOf, wrongLine, shown, Now, At, reached, clashAt, After, Goes, Stops, lineDone, before, pieces, said, continued, traced, textFrom}
 
 -- no byte of l ends a line
 abbrev pub Free : List ℕ → Type 0
@@ -54,6 +54,10 @@ unfolding wrongLine
 long-wrong ws l h = sym (or-hit _ (ne-yes _ _ (λ e. absurd (omega arith))))
 
 module _ (ws : List ℕ) (k : ℕ) (now : Now) where
+  -- it is answered
+  abbrev goes : List ℕ → After Now
+  goes l = Goes (shown ws (settingOf ws l) (reached ws now (settingOf ws l))) (At (settingOf ws l) (reached ws now (settingOf ws l)))
+
   -- a line and its end
   two : (l : List ℕ) (ps : List (List ℕ)) → Some ps → traced (lineDone ws) k now (l ∷ ps) ≡ pick (k <? 4294967295) (continued (λ n. traced (lineDone ws) (suc k) n ps) (lineDone ws k now l)) (said (Refused 13 k 0))
   unfolding traced
@@ -63,12 +67,24 @@ module _ (ws : List ℕ) (k : ℕ) (now : Now) where
   ended : (l rest : List ℕ) → Free l → textFrom ws k now (l ++ (10 ∷ rest)) ≡ pick (k <? 4294967295) (continued (λ n. textFrom ws (suc k) n rest) (lineDone ws k now l)) (said (Refused 13 k 0))
   ended l rest f = ap (traced (lineDone ws) k now) (pieces-line l rest f) ∙ two l (pieces rest) (pieces-some rest)
 
-  pub text-goes : (l rest : List ℕ) → Free l → k < 4294967295 → wrongLine ws l ≡ false
+  -- a line that is not refused under 13
+  right : (l : List ℕ) → wrongLine ws l ≡ false → lineDone ws k now l ≡ pick (clashAt ws now (settingOf ws l) <? 16) (Stops (Refused 14 k (clashAt ws now (settingOf ws l)))) (goes l)
+  unfolding lineDone
+  right l w = pick-no (wrongLine ws l) _ _ w
+
+  pub text-goes : (l rest : List ℕ) → Free l → k < 4294967295 → wrongLine ws l ≡ false → (clashAt ws now (settingOf ws l) <? 16) ≡ false
       → textFrom ws k now (l ++ (10 ∷ rest)) ≡ shown ws (settingOf ws l) (reached ws now (settingOf ws l)) ++ textFrom ws (suc k) (At (settingOf ws l) (reached ws now (settingOf ws l))) rest
-  unfolding lineDone continued
-  text-goes l rest f h w =
+  unfolding continued
+  text-goes l rest f h w c =
       ended l rest f ∙ sym (pick-hit _ (lt-yes k 4294967295 h) refl)
-      ∙ ap (continued (λ n. textFrom ws (suc k) n rest)) (pick-no (wrongLine ws l) (Stops (Refused 13 k 0)) (Goes (shown ws (settingOf ws l) (reached ws now (settingOf ws l))) (At (settingOf ws l) (reached ws now (settingOf ws l)))) w)
+      ∙ ap (continued (λ n. textFrom ws (suc k) n rest)) (right l w ∙ pick-no (clashAt ws now (settingOf ws l) <? 16) _ (goes l) c)
+
+  pub text-clash : (l rest : List ℕ) → Free l → k < 4294967295 → wrongLine ws l ≡ false → (clashAt ws now (settingOf ws l) <? 16) ≡ true
+      → textFrom ws k now (l ++ (10 ∷ rest)) ≡ said (Refused 14 k (clashAt ws now (settingOf ws l)))
+  unfolding continued
+  text-clash l rest f h w c =
+      ended l rest f ∙ sym (pick-hit _ (lt-yes k 4294967295 h) refl)
+      ∙ ap (continued (λ n. textFrom ws (suc k) n rest)) (right l w ∙ pick-yes (clashAt ws now (settingOf ws l) <? 16) _ (goes l) c)
 
   pub text-limit : (l rest : List ℕ) → Free l → 4294967295 ≤ k → textFrom ws k now (l ++ (10 ∷ rest)) ≡ said (Refused 13 k 0)
   text-limit l rest f h = ended l rest f ∙ sym (pick-skip _ (lt-no k 4294967295 h) refl)
@@ -82,13 +98,13 @@ module _ (ws : List ℕ) (k : ℕ) (now : Now) where
   unfolding lineDone continued
   text-wrong l rest f w =
       ended l rest f ∙ ap (λ (x : List ℕ). pick (k <? 4294967295) x (said (Refused 13 k 0))) (ap (continued (λ n. textFrom ws (suc k) n rest))
-      (pick-yes (wrongLine ws l) (Stops (Refused 13 k 0)) (Goes (shown ws (settingOf ws l) (reached ws now (settingOf ws l))) (At (settingOf ws l) (reached ws now (settingOf ws l)))) w)) ∙ either (k <? 4294967295) (said (Refused 13 k 0))
+      (pick-yes (wrongLine ws l) (Stops (Refused 13 k 0)) _ w)) ∙ either (k <? 4294967295) (said (Refused 13 k 0))
 
   wrong-two : (l q : List ℕ) (ps : List (List ℕ)) → length (inputNets ws) < length l → traced (lineDone ws) k now (l ∷ q ∷ ps) ≡ said (Refused 13 k 0)
   unfolding traced lineDone continued
   wrong-two l q ps h =
       ap (λ (x : List ℕ). pick (k <? 4294967295) x (said (Refused 13 k 0))) (ap (continued (λ n. traced (lineDone ws) (suc k) n (q ∷ ps)))
-      (pick-yes (wrongLine ws l) (Stops (Refused 13 k 0)) (Goes (shown ws (settingOf ws l) (reached ws now (settingOf ws l))) (At (settingOf ws l) (reached ws now (settingOf ws l)))) (long-wrong ws l h)))
+      (pick-yes (wrongLine ws l) (Stops (Refused 13 k 0)) _ (long-wrong ws l h)))
       ∙ either (k <? 4294967295) (said (Refused 13 k 0))
 
   -- bytes without a line end at the end of the trace

@@ -66,12 +66,12 @@ fn is_refused(k: u32, line: &[u8], inputs: usize) -> bool
     has_wrong_letter(line)
 }
 
-// Refusal 13 at line k.
-fn refuse(out: &mut [u8], at: usize, k: u32) -> Progress
+// Refusal n at line k and place x.
+fn refuse(out: &mut [u8], at: usize, n: u32, k: u32, x: u32) -> Progress
     requires { ⌜ at ≤ length (now out) ⌝ }
-    ensures { λ r. ⌜ Refuses k (now (out .entry)) at (now (out .exit)) (r .used) (r .at) (r .stop) ⌝ }
+    ensures { λ r. ⌜ Refuses n k x (now (out .entry)) at (now (out .exit)) (r .used) (r .at) (r .stop) ⌝ }
 {
-    let to = listing_text::put_refusal(out, at, 13, k, 0);
+    let to = listing_text::put_refusal(out, at, n, k, x);
     Progress {
         used: 0,
         at: to,
@@ -85,7 +85,7 @@ fn wait(bytes: &[u8], inputs: usize, out: &mut [u8], at: usize, k: u32) -> Progr
     ensures { λ r. ⌜ Waits k (length (now (bytes .entry))) inputs (now (out .entry)) at (now (out .exit)) (r .used) (r .at) (r .stop) ⌝ }
 {
     if inputs < bytes.len() {
-        return refuse(out, at, k);
+        return refuse(out, at, 13, k, 0);
     }
     Progress {
         used: 0,
@@ -122,9 +122,9 @@ pub fn next_line(
     }
     let line = image_fields::stretch(bytes, 0, end);
     if is_refused(k, line, inputs.len()) {
-        return refuse(out, at, k);
+        return refuse(out, at, 13, k, 0);
     }
-    trace_line::take_line(
+    let clash = trace_line::take_line(
         net,
         steps,
         count,
@@ -140,6 +140,9 @@ pub fn next_line(
         old,
         memory,
     );
+    if clash < 16 {
+        return refuse(out, at, 14, k, clash);
+    }
     let to = trace_line::print_nets(outputs, values, out, at);
     Progress {
         used: end + 1,

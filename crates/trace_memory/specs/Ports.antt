@@ -14,17 +14,17 @@ use Rattle.spec_tests.specs.Rules.{_≡?_}
 use Rattle.spec_tests.specs.Laws.{eq-yes, eq-no, pick-hit, pick-skip, sum-none, sum-more}
 use Rattle.spec_rules.specs.Image.{optional, controlOf}
 use Rattle.spec_rules.specs.NetlistImage.{portLists, portLength, memoryPortOf}
-use Rattle.spec_rules.specs.Step.{edge, active, enabled, netAccess}
+use Rattle.spec_rules.specs.Step.{Access, edge, active, enabled, netAccess, writing}
 use Rattle.law_told.specs.Told.{untrue}
 use Rattle.law_sorts.specs.Memories.{own-length}
 use Rattle.trace_fit.specs.Fit.{bitsAt}
 use Rattle.trace_step.specs.Words.{on, spread, laid, identity, fetched, portRead, portWritten, secondWords, memoryRead, memoryWritten, baseAt, memoriesRead, memoriesWritten}
 
-not-true : (b : Bool) → not b ≡ true → b ≡ false
+pub not-true : (b : Bool) → not b ≡ true → b ≡ false
 not-true true e = untrue e
 not-true false e = refl
 
-not-false : (b : Bool) → not b ≡ false → b ≡ true
+pub not-false : (b : Bool) → not b ≡ false → b ≡ true
 not-false true e = refl
 not-false false e = untrue (sym e)
 
@@ -88,16 +88,18 @@ module _ (p v w : List ℕ) where
   unfolding memoryPortOf
   read-at-is ea el ex = ex ∙ ap (λ (l : List ℕ). value (map (on v) l)) (el ∙ ap (λ (k : ℕ). take k (drop 4 p)) ea)
 
-  pub read-data-is : {a b : ℕ} → a ≡ getD p 0 0 → b ≡ getD p 1 0 → {l : List ℕ} → l ≡ take b (drop (4 + a) p) → l ≡ memoryPortOf p .readData
-  unfolding memoryPortOf
-  read-data-is {a} {b} ea eb el = el ∙ ap (λ (k : ℕ). take k (drop (4 + a) p)) eb ∙ ap (λ (k : ℕ). take (getD p 1 0) (drop (4 + k) p)) ea
-
+module _ (p v : List ℕ) where
   pub write-at-is : {a b c : ℕ} → a ≡ getD p 0 0 → b ≡ getD p 1 0 → c ≡ getD p 2 0 → {l : List ℕ} → l ≡ take c (drop (4 + a + b) p) → {x : ℕ} → x ≡ value (map (on v) l)
-      → x ≡ netAccess (on v) (on w) (memoryPortOf p) .writeAt
+      → x ≡ value (map (on v) (memoryPortOf p .writeAddress))
   unfolding memoryPortOf
   write-at-is {a} {b} {c} ea eb ec el ex =
       ex ∙ ap (λ (l : List ℕ). value (map (on v) l)) (el ∙ ap (λ (k : ℕ). take k (drop (4 + a + b) p)) ec ∙ ap (λ (k : ℕ). take (getD p 2 0) (drop (4 + a + k) p)) eb
       ∙ ap (λ (k : ℕ). take (getD p 2 0) (drop (4 + k + getD p 1 0) p)) ea)
+
+module _ (p : List ℕ) where
+  pub read-data-is : {a b : ℕ} → a ≡ getD p 0 0 → b ≡ getD p 1 0 → {l : List ℕ} → l ≡ take b (drop (4 + a) p) → l ≡ memoryPortOf p .readData
+  unfolding memoryPortOf
+  read-data-is {a} {b} ea eb el = el ∙ ap (λ (k : ℕ). take k (drop (4 + a) p)) eb ∙ ap (λ (k : ℕ). take (getD p 1 0) (drop (4 + k) p)) ea
 
   pub write-data-is : {a b c d : ℕ} → a ≡ getD p 0 0 → b ≡ getD p 1 0 → c ≡ getD p 2 0 → d ≡ getD p 3 0 → {l : List ℕ} → l ≡ take d (drop (4 + a + b + c) p) → l ≡ memoryPortOf p .writeData
   unfolding memoryPortOf
@@ -143,34 +145,35 @@ module _ (depth width : ℕ) (mem : List ℕ) (base : ℕ) (p v w : List ℕ) {t
 
 -- ---- writing ----
 
-module _ (depth width base : ℕ) (p v w mem : List ℕ) {t : Bool} (et : t ≡ netAccess (on v) (on w) (memoryPortOf p) .ticks) where
-  abbrev y : ℕ
-  y = netAccess (on v) (on w) (memoryPortOf p) .writeAt
+module _ (p v w : List ℕ) {t : Bool} (et : t ≡ netAccess (on v) (on w) (memoryPortOf p) .ticks) where
+  pub not-writing : not t ≡ true → false ≡ writing (netAccess (on v) (on w) (memoryPortOf p))
+  not-writing e = sym (ap (λ (b : Bool). b && netAccess (on v) (on w) (memoryPortOf p) .writes) (sym et ∙ not-true t e))
+
+  pub is-writing : not t ≡ false → {r : Bool} → r ≡ netAccess (on v) (on w) (memoryPortOf p) .writes → r ≡ writing (netAccess (on v) (on w) (memoryPortOf p))
+  is-writing e er = er ∙ sym (ap (λ (b : Bool). b && netAccess (on v) (on w) (memoryPortOf p) .writes) (sym et ∙ not-false t e))
+
+module _ (depth width base : ℕ) (p v w mem : List ℕ) {t : Bool} (et : t ≡ writing (netAccess (on v) (on w) (memoryPortOf p))) where
+  abbrev y : Access
+  y = netAccess (on v) (on w) (memoryPortOf p)
 
   abbrev stored : List ℕ
-  stored = laid mem (base + y * width) (map (λ n. bit (on v n)) (memoryPortOf p .writeData))
+  stored = laid mem (base + y .writeAt * width) (map (λ n. bit (on v n)) (memoryPortOf p .writeData))
 
-  pub write-still : not t ≡ true → mem ≡ portWritten depth width base p v w mem
+  so : (b : Bool) → t ≡ b → portWritten depth width base p v w mem ≡ cond (b && ltb (y .writeAt) depth) stored mem
   unfolding portWritten
-  write-still e = sym (ap (λ (b : Bool). cond (b && netAccess (on v) (on w) (memoryPortOf p) .writes && ltb y depth) stored mem) (sym et ∙ not-true t e))
+  so b e = ap (λ (b : Bool). cond b stored mem) (ap (λ (b : Bool). b && ltb (y .writeAt) depth) (sym et ∙ e))
 
-  module _ (yes : not t ≡ false) {r : Bool} (er : r ≡ netAccess (on v) (on w) (memoryPortOf p) .writes) where
-    two : (b : Bool) → r ≡ b → portWritten depth width base p v w mem ≡ cond (b && ltb y depth) stored mem
-    unfolding portWritten
-    two b e =
-        ap (λ (b : Bool). cond (b && netAccess (on v) (on w) (memoryPortOf p) .writes && ltb y depth) stored mem) (sym et ∙ not-false t yes) ∙ ap (λ (b : Bool). cond (b && ltb y depth) stored mem) (sym er ∙ e)
+  pub write-shut : not t ≡ true → mem ≡ portWritten depth width base p v w mem
+  write-shut e = sym (so false (not-true t e))
 
-    pub write-shut : not r ≡ true → mem ≡ portWritten depth width base p v w mem
-    write-shut e = sym (two false (not-true r e))
+  module _ (allowed : not t ≡ false) {a : ℕ} (ea : a ≡ value (map (on v) (memoryPortOf p .writeAddress))) where
+    pub write-past : depth ≤ a → mem ≡ portWritten depth width base p v w mem
+    write-past h = sym (so true (not-false t allowed) ∙ ap (λ (b : Bool). cond b stored mem) (le-ltb (y .writeAt) depth (omega arith)))
 
-    module _ (allowed : not r ≡ false) {a : ℕ} (ea : a ≡ y) where
-      pub write-past : depth ≤ a → mem ≡ portWritten depth width base p v w mem
-      write-past h = sym (two true (not-false r allowed) ∙ ap (λ (b : Bool). cond b stored mem) (le-ltb y depth (omega arith)))
-
-      pub write-word : a < depth → {ns : List ℕ} → ns ≡ memoryPortOf p .writeData → {m′ : List ℕ} → m′ ≡ laid mem (base + a * width) (map (λ n. bit (on v n)) ns) → m′ ≡ portWritten depth width base p v w mem
-      write-word h {ns} en e =
-          e ∙ ap (λ (k : ℕ). laid mem (base + k * width) (map (λ n. bit (on v n)) ns)) ea ∙ ap (λ (l : List ℕ). laid mem (base + y * width) (map (λ n. bit (on v n)) l)) en
-          ∙ sym (two true (not-false r allowed) ∙ ap (λ (b : Bool). cond b stored mem) (lt-ltb y depth (omega arith)))
+    pub write-word : a < depth → {ns : List ℕ} → ns ≡ memoryPortOf p .writeData → {m′ : List ℕ} → m′ ≡ laid mem (base + a * width) (map (λ n. bit (on v n)) ns) → m′ ≡ portWritten depth width base p v w mem
+    write-word h {ns} en e =
+        e ∙ ap (λ (k : ℕ). laid mem (base + k * width) (map (λ n. bit (on v n)) ns)) ea ∙ ap (λ (l : List ℕ). laid mem (base + y .writeAt * width) (map (λ n. bit (on v n)) l)) en
+        ∙ sym (so true (not-false t allowed) ∙ ap (λ (b : Bool). cond b stored mem) (lt-ltb (y .writeAt) depth (omega arith)))
 
 -- ---- a record ----
 

@@ -3,8 +3,10 @@
 ghost use mathlib.Core.Path.{_≡_};
 ghost use mathlib.Core.List.{map};
 ghost use Prim.Native.Nat.{_+_, _*_, _≤_, _<_};
-ghost use lib.ListN.{length};
+ghost use lib.ListN.{length, getD};
 ghost use Rattle.spec_rtl.specs.Word.{bit, value};
+ghost use Rattle.spec_rules.specs.NetlistImage.{memoryPortOf};
+ghost use Rattle.spec_rules.specs.Step.{netAccess, writing};
 ghost use Rattle.trace_step.specs.Words.{on, spread, identity, laid, portRead, portWritten, memoryRead, memoryWritten, memoriesRead, memoriesWritten};
 ghost use Rattle.trace_memory.specs.Ports.{PortFits, MemoryFits, MemoriesFit};
 
@@ -84,7 +86,39 @@ fn read_port(
     );
 }
 
-// It writes.
+// It writes in this step.
+pub fn is_writing(p: &[u32], old: &[u32], new: &[u32]) -> bool
+    ensures { λ r. ⌜ r ≡ writing (netAccess (on (now (old .entry))) (on (now (new .entry))) (memoryPortOf (now (p .entry)))) ⌝ }
+{
+    let e = net_words::port_length(p) - 6;
+    if !trace_step::ticks(
+        old,
+        new,
+        net_words::word_at(p, e + 4),
+        net_words::word_at(p, e + 5),
+    ) {
+        return false;
+    }
+    trace_step::is_active(
+        old,
+        net_words::word_at(p, e + 2),
+        net_words::word_at(p, e + 3),
+    )
+}
+
+// The address that it writes to.
+pub fn write_address(p: &[u32], old: &[u32]) -> u64
+    requires { ⌜ getD (now p) 2 0 ≤ 32 ⌝ }
+    ensures { λ r. ⌜ (r ≡ value (map (on (now (old .entry))) (memoryPortOf (now (p .entry)) .writeAddress))) × (r < 4294967296) ⌝ }
+{
+    let n = 4 + net_words::word_at(p, 0) as usize + net_words::word_at(p, 1) as usize;
+    number(
+        net_words::stretch(p, n, net_words::word_at(p, 2) as usize),
+        old,
+    )
+}
+
+// What it writes is stored.
 fn write_port(
     p: &[u32],
     depth: u32,
@@ -97,28 +131,15 @@ fn write_port(
     requires { ⌜ (PortFits (now p) depth width base) × (65536 ≤ length (now memory)) ⌝ }
     ensures { λ _. ⌜ now (memory .exit) ≡ portWritten depth width base (now (p .entry)) (now (old .entry)) (now (new .entry)) (now (memory .entry)) ⌝ }
 {
-    let e = net_words::port_length(p) - 6;
-    if !trace_step::ticks(
-        old,
-        new,
-        net_words::word_at(p, e + 4),
-        net_words::word_at(p, e + 5),
-    ) {
+    if !is_writing(p, old, new) {
         return;
     }
-    if !trace_step::is_active(
-        old,
-        net_words::word_at(p, e + 2),
-        net_words::word_at(p, e + 3),
-    ) {
+    let a = write_address(p, old);
+    if depth as u64 <= a {
         return;
     }
     let n = 4 + net_words::word_at(p, 0) as usize + net_words::word_at(p, 1) as usize;
     let w = net_words::word_at(p, 2) as usize;
-    let a = number(net_words::stretch(p, n, w), old);
-    if depth as u64 <= a {
-        return;
-    }
     let data = net_words::stretch(p, n + w, net_words::word_at(p, 3) as usize);
     lay_bits(data, old, memory, base + a as usize * width);
 }

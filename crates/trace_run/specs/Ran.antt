@@ -33,8 +33,8 @@ wrote-room {o} {t} {o′} {at} w h =
     let m = length-take at o in
     w .text ∙ take-all (length o) (take at o ++ t) (omega arith)
 
-pub refusal-few : (n k : ℕ) → n < 4294967296 → k < 4294967296 → length (refusalText n k 0) ≤ 41
-refusal-few n k l h = let e = ap length (refusal n k 0 [] []) in let s = refusal-short n k 0 [] [] l h (omega arith) in omega arith
+pub refusal-few : (n k x : ℕ) → n < 4294967296 → k < 4294967296 → x < 4294967296 → length (refusalText n k x) ≤ 41
+refusal-few n k x l h g = let e = ap length (refusal n k x [] []) in let s = refusal-short n k x [] [] l h g in omega arith
 
 module _ (ws steps : List ℕ) (count : ℕ) (inputs outputs registers : List ℕ) (nr : ℕ) (memories : List ℕ) (nm k : ℕ) (bytes values memory : List ℕ) where
   -- from where the run stands on: the text of the lines taken, and where it then stands; where it stops, that is all
@@ -76,7 +76,9 @@ module _ {ws steps : List ℕ} {count : ℕ} {inputs outputs registers : List �
           let t = r .says p n h in
           record {
             next = n;
-            stops = λ f more. t .goes refl more ∙ ap (λ (l : List ℕ). take at out ++ textFrom ws k₁ (t .next) l) (sym (behind more)) ∙ ap (λ (l : List ℕ). take at out ++ l) (a .stops e .1 (t .next) more) ∙ sym (wrote-room (a .stops e .0) (let f = refusal-few 13 k₁ (omega arith) small in omega arith));
+            stops = λ f more. t .goes refl more ∙ ap (λ (l : List ℕ). take at out ++ textFrom ws k₁ (t .next) l) (sym (behind more))
+                ∙ ap (λ (l : List ℕ). take at out ++ l) (a .stops e .says p (t .next) (t .holds refl) more)
+                ∙ sym (wrote-room (a .stops e .wrote) (let q = a .stops e .small in let f = refusal-few (a .stops e .number) k₁ (a .stops e .place) (q .0) small (q .1) in omega arith));
             goes = λ f. untrue (sym f);
             holds = λ f. untrue (sym f);
           });

@@ -119,19 +119,19 @@ pub record Fit (ws : List ℕ) (ok : accepts ws ≡ Fine) : Type 0 where
   pub registers : (m : ℕ) (l : m < length (recordsWith 1 ws)) → registerUnfit ws (register-at ws ok m l .it .r) ≡ false
   pub memories : (m : ℕ) (l : m < length (recordsWith 2 ws)) → memoryUnfit ws (memoryOf (memory-at ws ok m l .it .r)) ≡ false
 
-first-clock : (ws r : List ℕ) → memoryUnfit ws (memoryOf r) ≡ false → nodeWord ws (memoryPortOf (drop 6 r) .clock) 0 ≡ 0
+pub first-clock : (ws r : List ℕ) → memoryUnfit ws (memoryOf r) ≡ false → nodeWord ws (memoryPortOf (drop 6 r) .clock) 0 ≡ 0
 unfolding memoryUnfit memoryOf noInput
 first-clock ws r e = no-ne _ _ (or-no e .0)
 
-second-clock : (ws r : List ℕ) → memoryUnfit ws (memoryOf r) ≡ false → getD r 5 0 ≡ 2 → nodeWord ws (memoryPortOf (secondWords r) .clock) 0 ≡ 0
+pub second-clock : (ws r : List ℕ) → memoryUnfit ws (memoryOf r) ≡ false → getD r 5 0 ≡ 2 → nodeWord ws (memoryPortOf (secondWords r) .clock) 0 ≡ 0
 unfolding memoryUnfit memoryOf noInput secondUnfit
 second-clock ws r e two = no-ne _ _ (ap (secondUnfit ws) (sym (pick-yes (getD r 5 0 ≡? 2) (some (memoryPortOf (secondWords r))) none (eq-yes _ _ two))) ∙ or-no e .1)
 
-second-some : (r : List ℕ) → getD r 5 0 ≡ 2 → memoryOf r .second ≡ some (memoryPortOf (secondWords r))
+pub second-some : (r : List ℕ) → getD r 5 0 ≡ 2 → memoryOf r .second ≡ some (memoryPortOf (secondWords r))
 unfolding memoryOf
 second-some r e = pick-yes (getD r 5 0 ≡? 2) _ _ (eq-yes _ _ e)
 
-second-none : (r : List ℕ) → (getD r 5 0 ≡ 2 → ⊥) → memoryOf r .second ≡ none
+pub second-none : (r : List ℕ) → (getD r 5 0 ≡ 2 → ⊥) → memoryOf r .second ≡ none
 unfolding memoryOf
 second-none r e = pick-no (getD r 5 0 ≡? 2) _ _ (eq-no _ _ e)
 

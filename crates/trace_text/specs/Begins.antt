@@ -46,7 +46,7 @@ begins-wrote {spare} {t} {o} {o′} {r} w h = record {
 -- ---- a refusal ----
 
 pub begins-refusal : {spare : ℕ} {o o′ : List ℕ} {r : ℕ} (n k : ℕ) → 41 ≤ spare → n < 4294967296 → k < 4294967296 → Wrote o 0 (refusalText n k 0) o′ r → Begins spare (said (Refused n k 0)) o′ r
-begins-refusal n k s h l w = begins-same (said-is n k 0) (begins-wrote w (let f = refusal-few n k h l in omega arith))
+begins-refusal n k s h l w = begins-same (said-is n k 0) (begins-wrote w (let f = refusal-few n k 0 h l (omega arith) in omega arith))
 
 -- ---- the lines ----
 
@@ -56,7 +56,7 @@ end-few left k h = go (left ≡? 0)
   where
     go : (b : Bool) → length (pick b [] (said (Refused 13 k 0))) ≤ 41
     go true = omega arith
-    go false = let e = ap length (said-is 13 k 0) in let f = refusal-few 13 k (omega arith) h in omega arith
+    go false = let e = ap length (said-is 13 k 0) in let f = refusal-few 13 k 0 (omega arith) h (omega arith) in omega arith
 
 pub zero-at : {v : List ℕ} (n : ℕ) → v ≡ replicate n 0 → (j : ℕ) → getD v j 0 ≡ 0
 zero-at n e j = ap (λ (l : List ℕ). getD l j 0) e ∙ zeros n j

@@ -1,8 +1,9 @@
-//! Runs of netlists over traces (request Q-4): inputs of the trace program that are
+//! Runs of netlists over traces (requests ): inputs of the trace program that are
 //! lowered, made by hand or damaged, and what it prints, held against the oracle's
 //! trace program.
 
 pub mod cases;
+pub mod clashes;
 pub mod heavy;
 pub mod limits;
 pub mod lines;

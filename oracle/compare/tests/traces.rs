@@ -4,7 +4,8 @@
 
 use compare::netlists;
 use compare::plan::Plan;
-use compare::traces::cases::{by_hand, lowered, trace};
+use compare::traces::cases::right;
+use compare::traces::clashes;
 use compare::traces::limits::{at_the_limits, bytes};
 use compare::traces::run::{run, Tracer};
 use compare::traces::selftest::self_test;
@@ -21,7 +22,7 @@ fn both_programs_agree_and_every_outcome_is_met() {
     driver::with_big_stack(|| {
         let tally = run(&Variant(None), &PLAN).unwrap_or_else(|failure| panic!("{failure}"));
         println!("{tally}");
-        for outcome in ["run to the end", "refused 11", "refused 12", "refused 13"] {
+        for outcome in ["run to the end", "refused 11", "refused 12", "refused 13", "refused 14"] {
             assert!(tally.outcomes[outcome] > PLAN.count / 20, "{outcome}: {tally}");
         }
         assert!(tally.moving > tally.lines / 3, "{tally}");
@@ -86,13 +87,15 @@ fn output_line(netlist: &Netlist, seen: &Observation) -> String {
 
 #[test]
 fn the_netlist_simulator_shows_the_same_outputs() {
-    let mut compared = 0;
+    let (mut compared, mut refused) = (0, 0);
     driver::with_big_stack(|| {
-        for number in 0..600 {
+        for number in 0..800 {
             let random = &mut Random::of_case(3, number);
-            let draft = if number % 3 == 0 { lowered(random) } else { by_hand(random) };
-            let words = draft.words();
-            let lines = trace(random, &words);
+            let (words, lines) = match number % 4 {
+                0 => right(random, true),
+                3 => clashes::right(random),
+                _ => right(random, false),
+            };
             let text = driver::trace(&bytes(&words, &lines.concat()));
             let netlist = Netlist::decode(&words).unwrap();
             let sim = NetlistSim::new(&words);
@@ -100,12 +103,18 @@ fn the_netlist_simulator_shows_the_same_outputs() {
             if text.starts_with(b"refused") {
                 continue;
             }
-            compared += seen.len();
-            let expected: String = seen.iter().map(|seen| output_line(&netlist, seen)).collect();
+            let printed = seen.observations.len();
+            compared += printed;
+            let mut expected: String = seen.observations.iter().map(|seen| output_line(&netlist, seen)).collect();
+            if let Some(memory) = seen.clash {
+                refused += 1;
+                expected += &format!("refused 14 {printed} {memory}\n");
+            }
             assert_eq!(String::from_utf8(text).unwrap(), expected, "case {number}");
         }
     });
-    assert!(compared > 10_000, "{compared}");
+    println!("{compared} lines, {refused} write clashes");
+    assert!(compared > 10_000 && refused > 100, "{compared} {refused}");
 }
 
 /// What each input at a limit ends with: its last line.
@@ -121,11 +130,11 @@ fn the_inputs_are_at_the_limits() {
         .collect();
     let expected: Vec<(&str, String)> = LIMITS.iter().map(|&(name, place)| (name, place.to_string())).collect();
     assert_eq!(refused, expected);
-    assert_eq!(at_the_limits().len(), 103);
+    assert_eq!(at_the_limits().len(), 137);
 }
 
 /// Those that are refused; all others run to the end.
-const LIMITS: [(&str, &str); 75] = [
+const LIMITS: [(&str, &str); 96] = [
     ("no bytes", "11 0 0"),
     ("a cut word", "11 0 0"),
     ("a word", "11 1 0"),
@@ -201,6 +210,27 @@ const LIMITS: [(&str, &str); 75] = [
     ("no inputs, a letter", "13 1 0"),
     ("no inputs, a letter without byte 10", "13 2 0"),
     ("no outputs, too short", "13 1 0"),
+    ("a clash", "14 1 5"),
+    ("a clash of equal words", "14 1 5"),
+    ("a clash, the enables off after it", "14 1 5"),
+    ("a clash, the addresses apart after it", "14 1 5"),
+    ("a clash with enables that are low", "14 2 0"),
+    ("a clash at the last word", "14 1 15"),
+    ("a clash of addresses of 1 and 32 bits", "14 1 15"),
+    ("a clash on two clocks", "14 4 5"),
+    ("a clash on a rising and a falling clock", "14 4 5"),
+    ("a clash on a falling clock", "14 2 5"),
+    ("a clash in three memories, the lowest last", "14 1 2"),
+    ("a clash in three memories, the lowest between", "14 1 0"),
+    ("a clash in the higher memory", "14 1 7"),
+    ("a clash in the lower memory, whose record is last", "14 1 2"),
+    ("a clash after the first line alone", "14 2 5"),
+    ("a wrong end of a line with a clash", "13 1 0"),
+    ("a wrong letter in a line with a clash", "13 1 0"),
+    ("a line with a clash, too long", "13 1 0"),
+    ("a line with a clash, too short", "13 1 0"),
+    ("a clash before a wrong line", "14 1 5"),
+    ("a clash before an open line", "14 1 5"),
 ];
 
 fn file(folder: &str, name: &str) -> Vec<u8> {
@@ -212,7 +242,9 @@ fn file(folder: &str, name: &str) -> Vec<u8> {
 fn the_stored_runs_hold_the_oracles_texts() {
     let inputs = read(&file("trace_runs", "stdin")).unwrap();
     assert!(inputs.len() > 300, "{}", inputs.len());
-    assert!(stdout(&inputs) == file("trace_runs", "stdout"), "other texts than stored");
+    let texts = file("trace_runs", "stdout");
+    assert!(stdout(&inputs) == texts, "other texts than stored");
+    assert!(String::from_utf8_lossy(&texts).contains("\nrefused 14 "), "no write clash");
 }
 
 #[test]

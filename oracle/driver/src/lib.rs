@@ -34,7 +34,7 @@ pub use listing::{Check, LISTING_LIMITS, listing};
 pub use module_sim::ModuleSim;
 pub use netlist_sim::NetlistSim;
 pub use prepared::{Lowered, Prepared};
-pub use simulation::{Contents, NoRun, Observation, Setting, random_word};
+pub use simulation::{Contents, NoRun, Observation, Run, Seen, Setting, random_word};
 pub use trace::{TraceProgram, trace};
 pub use trace_sim::TraceSim;
 pub use validated::Rebuilt;

@@ -50,6 +50,27 @@ pub struct Observation {
     pub contents: Contents,
 }
 
+/// What can be seen of a run.
+#[derive(Clone, Debug, Eq, PartialEq)]
+pub struct Seen {
+    /// After each setting, up to the first step that has no defined end.
+    pub observations: Vec<Observation>,
+    /// Where there is such a step, the lowest memory of which both ports write to one
+    /// word.
+    pub clash: Option<u32>,
+}
+
+/// A run, with all settings that it was given.
+#[derive(Clone, Debug, Eq, PartialEq)]
+pub struct Run {
+    /// The contents that it starts from.
+    pub first: Contents,
+    /// The start, and a step each.
+    pub settings: Vec<Setting>,
+    /// Up to its end.
+    pub seen: Seen,
+}
+
 /// Why a run has no result.
 #[derive(Clone, Debug, Eq, PartialEq)]
 pub enum NoRun {

@@ -1,5 +1,6 @@
-//! The trace program (request Q-4): a netlist image and a trace come in as bytes, the
-//! output bits after each line go out. The request's sentences stand in quotes.
+//! The trace program (requests Q-4 and Q-6): a netlist image and a trace come in as
+//! bytes, the output bits after each line go out. The requests' sentences stand in
+//! quotes.
 
 use image::netlist::{HEADER_WORDS, Netlist, Node};
 use reference::{FINE, netlist_answer};
@@ -176,13 +177,16 @@ impl Lines {
     }
 
     /// "A character 0 or 1 for each input bit, ports in image order, bit 0 first."
-    /// "After each line it prints the output bits in the same manner."
+    /// "After each line it prints the output bits in the same manner." "14, a write
+    /// clash, place line and the lowest such memory, after the line's own check by 13
+    /// and before its outputs are printed." (Q-6)
     fn run_line(&mut self, text: &mut Vec<u8>) -> Result<(), [u32; 3]> {
         let is_bit = |letter: &u8| matches!(letter, b'0' | b'1');
         if self.line.len() != self.sim.input_bits() || !self.line.iter().all(is_bit) {
             return self.wrong();
         }
-        self.sim.set(self.line.iter().map(|&letter| letter == b'1'));
+        let setting = self.line.iter().map(|&letter| letter == b'1');
+        self.sim.set(setting).map_err(|memory| [14, self.number, memory])?;
         text.extend(self.sim.outputs().map(|bit| if bit { b'1' } else { b'0' }));
         text.push(b'\n');
         self.line.clear();

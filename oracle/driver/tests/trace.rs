@@ -1,5 +1,6 @@
 //! The trace program on cases worked out by hand: the step rule line by line, words
-//! beyond 64 bits, the order of ports, what is refused and in which order.
+//! beyond 64 bits, the order of ports, what is refused and in which order. Write
+//! clashes stand in clashes.rs.
 
 use driver::{TraceProgram, trace};
 use image::ABSENT;
@@ -81,12 +82,12 @@ fn memory_run(settings: &str) -> String {
 }
 
 #[test]
-fn memories_read_the_old_word_and_the_second_port_stays() {
+fn memories_read_the_old_word() {
     // Port one writes 1 to word 2: read data are the old word; then the new one.
     assert_eq!(memory_run("0011100 1011100 0010000 1010000"), "00 00 00 11");
-    // Both write word 1, port two a 0; then port one alone writes.
-    assert_eq!(memory_run("0101101 1101101 0101100 1101100 0100000 1100000"), "00 00 00 00 00 11");
-    assert_eq!(memory_run("0100111 1100111 0100000 1100000"), "00 00 00 11");
+    // Port two writes 1 to word 1, then port one a 0.
+    assert_eq!(memory_run("0100011 1100011 0100000 1100000"), "00 00 00 11");
+    assert_eq!(memory_run("0100011 1100011 0100100 1100100 0100000 1100000"), "00 00 00 11 11 00");
 }
 
 #[test]

@@ -4,23 +4,17 @@
 //! One step: the asynchronous resets let go (no block acts on that), then all
 //! clocks and resets take their new values at once while inputs and contents
 //! are those before the step, then all inputs change. The start sets inputs and
-//! contents and makes no step.
+//! contents and makes no step. After the second move each side tells a write clash; a
+//! run that ends with one ends there.
 //!
 //! [`Style::Step`]: crate::Style::Step
 
 use std::fmt::Write;
 
-use driver::{Contents, Observation, Setting};
+use driver::{Contents, Observation, Run};
 use image::Image;
 
 use crate::verilog::{Event, EventPort, Verilog, digits, literal, range};
-
-/// A run and what can be seen after each of its settings.
-pub struct Run {
-    pub first: Contents,
-    pub settings: Vec<Setting>,
-    pub observations: Vec<Observation>,
-}
 
 /// The bench, the files it reads, and the lines it must print.
 pub struct Bench {
@@ -69,9 +63,7 @@ impl Writer<'_> {
             self.instance("netlist", 1),
             self.show_task(),
             self.start(),
-            (1..self.run.settings.len())
-                .map(|number| self.step(number))
-                .collect(),
+            self.steps(),
         ];
         format!("module bench;\n{}  end\nendmodule\n", body.concat())
     }
@@ -197,13 +189,22 @@ impl Writer<'_> {
         text
     }
 
-    fn step(&self, number: usize) -> String {
+    /// All steps that are seen, and the edges of the one that ends the run.
+    fn steps(&self) -> String {
+        let seen = &self.run.seen;
+        let steps = 1..seen.observations.len();
+        let step = |number: usize| format!("{}{}    #1 show;\n", self.edges(number), self.set_inputs(number));
+        let end = seen.clash.map(|_| self.edges(seen.observations.len()));
+        steps.map(step).chain(end).collect()
+    }
+
+    fn edges(&self, number: usize) -> String {
         let released = self.set_events(number - 1, false);
         let acting = self.set_events(number, true);
-        format!(
-            "{released}    #1;\n{acting}    #1;\n{}    #1 show;\n",
-            self.set_inputs(number)
-        )
+        let sides = || self.sides.iter().zip(INSTANCES);
+        let cleared: String = sides().map(|(verilog, instance)| verilog.clear_watches(instance)).collect();
+        let told: String = sides().zip(SIDES).map(|((verilog, instance), name)| tell_clash(verilog, instance, name)).collect();
+        format!("{released}{cleared}    #1;\n{acting}    #1;\n{told}")
     }
 
     fn set_inputs(&self, number: usize) -> String {
@@ -228,19 +229,31 @@ impl Writer<'_> {
     }
 }
 
+/// Prints the lowest memory with a clash.
+fn tell_clash(verilog: &Verilog, instance: &str, name: &str) -> String {
+    let watches = verilog.watches.iter().enumerate();
+    let told = watches.filter_map(|(number, watch)| {
+        let clash = &watch.as_ref()?.clash;
+        Some(format!("    if ({instance}.{clash}) $display(\"{name} clash {number}\");\n"))
+    });
+    told.collect::<Vec<String>>().join("    else\n")
+}
+
 /// The lines that the bench must print.
 fn expected(run: &Run) -> String {
     let mut text = String::new();
-    for (number, seen) in run.observations.iter().enumerate() {
+    let observations = &run.seen.observations;
+    for (number, seen) in observations.iter().enumerate() {
         let before = number
             .checked_sub(1)
-            .map(|before| &run.observations[before].contents);
+            .map(|before| &observations[before].contents);
         for side in SIDES {
             text += &expected_values(side, seen);
             text += &expected_words(side, &seen.contents, before);
         }
     }
-    text
+    let clash = run.seen.clash.iter();
+    text + &clash.flat_map(|memory| SIDES.map(|side| format!("{side} clash {memory}\n"))).collect::<String>()
 }
 
 fn expected_values(side: &str, seen: &Observation) -> String {

@@ -1,8 +1,8 @@
-//! The always blocks of registers and memories. Every assignment in them is
+//! The always blocks of registers and memories. Every assignment to contents is
 //! nonblocking, so all of them read the contents before the edge.
 
 use crate::names::Names;
-use crate::verilog::range;
+use crate::verilog::{EventPort, range};
 
 /// A clock and its edge.
 pub struct Clock {
@@ -52,6 +52,39 @@ pub struct Memory {
     pub width: u32,
     pub depth: u32,
     pub ports: Vec<Port>,
+    pub watch: Option<Watch>,
+}
+
+/// Names of what tells a write clash.
+#[derive(Clone)]
+pub struct Watch {
+    /// A variable with a bit for each port that has stored a word since it was 0.
+    pub stored: String,
+    /// Variables with the addresses of these words.
+    places: [String; 2],
+    /// A wire: both ports have, and to one address.
+    pub clash: String,
+}
+
+impl Watch {
+    /// Where a bench sets the variable to 0 before each step, and there are two ports.
+    pub fn new(event_port: &EventPort, ports: usize, names: &mut Names) -> Option<Watch> {
+        (event_port.name.is_some() && ports == 2).then(|| Watch {
+            stored: names.plain("stored"),
+            places: ["stored_at_a", "stored_at_b"].map(|name| names.plain(name)),
+            clash: names.plain("clash"),
+        })
+    }
+
+    fn declarations(&self) -> String {
+        let Watch { stored, places: [a, b], clash } = self;
+        format!("  reg [1:0] {stored};\n  reg [31:0] {a}, {b};\n  wire {clash} = {stored} == 2'b11 && {a} == {b};\n")
+    }
+
+    /// Notes that a port stores a word.
+    fn note(&self, port: usize, address: &str) -> String {
+        format!(" {}[{port}] = 1; {} = {address};", self.stored, self.places[port])
+    }
 }
 
 /// A port of a memory; addresses are identifiers of vectors.
@@ -92,37 +125,18 @@ fn guarded(enable: Option<&Level>, statement: &str) -> String {
     }
 }
 
-pub fn memory(memory: &Memory, names: &mut Names) -> String {
+/// Where both ports store to one word at once, Verilog does not say which of them stays.
+pub fn memory(memory: &Memory) -> String {
     let Memory {
         name, width, depth, ..
     } = memory;
     let mut text = format!("  reg {}{name} [0:{}];\n", range(*width), depth - 1);
-    match &memory.ports[..] {
-        [first, second] if first.clock.wire != second.clock.wire => {
-            text += &always(&first.clock, &port_actions(memory, first));
-            text += &late_port(memory, second, names);
-        }
-        [first, second] if first.clock.falling == second.clock.falling => {
-            let both = port_actions(memory, first) + &port_actions(memory, second);
-            text += &always(&first.clock, &both);
-        }
-        ports => {
-            for port in ports {
-                text += &always(&port.clock, &port_actions(memory, port));
-            }
-        }
+    text += &memory.watch.as_ref().map(Watch::declarations).unwrap_or_default();
+    for (number, port) in memory.ports.iter().enumerate() {
+        let actions = read_action(memory, port) + &write_action(memory, number, port);
+        text += &format!("  always @({}) begin\n{actions}  end\n", port.clock.edge());
     }
     text
-}
-
-fn always(clock: &Clock, body: &str) -> String {
-    format!("  always @({}) begin\n{body}  end\n", clock.edge())
-}
-
-fn port_actions(memory: &Memory, port: &Port) -> String {
-    let (name, data, address) = (&memory.name, &port.write_data, &port.write_address);
-    read_action(memory, port)
-        + &write_action(memory, port, &format!("{name}[{address}] <= {data};"))
 }
 
 fn read_action(memory: &Memory, port: &Port) -> String {
@@ -139,25 +153,14 @@ fn read_action(memory: &Memory, port: &Port) -> String {
     format!("    {}\n", guarded(port.read_enable.as_ref(), &read))
 }
 
-fn write_action(memory: &Memory, port: &Port, store: &str) -> String {
+fn write_action(memory: &Memory, number: usize, port: &Port) -> String {
     let (enable, address) = (port.write_enable.active(), &port.write_address);
+    let note = memory.watch.as_ref().map(|watch| watch.note(number, address));
     format!(
-        "    if ({enable} && {address} < 32'd{}) {store}\n",
-        memory.depth
-    )
-}
-
-/// A second port with a clock of its own: it stores one round of nonblocking
-/// assignments later, so its word stays where both clocks make their edge.
-fn late_port(memory: &Memory, port: &Port, names: &mut Names) -> String {
-    let [late, address, data] = ["late", "late_address", "late_data"].map(|name| names.plain(name));
-    let (to, from) = (&port.write_address, &port.write_data);
-    let keep = format!("begin {address} <= {to}; {data} <= {from}; {late} <= ~{late}; end");
-    let actions = read_action(memory, port) + &write_action(memory, port, &keep);
-    format!(
-        "  reg {late} = 0;\n  reg [31:0] {address};\n  reg {}{data};\n{}  always @({late}) {}[{address}] <= {data};\n",
-        range(memory.width),
-        always(&port.clock, &actions),
-        memory.name
+        "    if ({enable} && {address} < 32'd{}) begin {}[{address}] <= {};{} end\n",
+        memory.depth,
+        memory.name,
+        port.write_data,
+        note.unwrap_or_default()
     )
 }

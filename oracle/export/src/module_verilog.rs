@@ -6,7 +6,7 @@ use std::collections::{BTreeMap, BTreeSet};
 
 use image::{ABSENT, Image, MEMORY_FIELDS, constant_words, kind, memory_field};
 
-use crate::clocked;
+use crate::clocked::{self, Watch};
 use crate::names::Names;
 use crate::needed::{needed_assignments, ports};
 use crate::verilog::{Event, EventPort, Style, Verilog, literal, module_head, range, select};
@@ -65,16 +65,16 @@ impl<'a> Writer<'a> {
             text += &self.register(register);
         }
         let mut memories = Vec::new();
-        for memory in &self.image.memories {
-            let name = self.names.escaped(&name(self.image, memory));
-            text += &self.memory(memory, &name);
-            memories.push(name);
+        for record in &self.image.memories {
+            let memory = self.memory(record);
+            text += &clocked::memory(&memory);
+            memories.push(memory);
         }
         text += "endmodule\n";
         Ok(self.finished(text, memories))
     }
 
-    fn finished(self, text: String, memories: Vec<String>) -> Verilog {
+    fn finished(self, text: String, memories: Vec<clocked::Memory>) -> Verilog {
         let signal = |number: u32| self.signals[number as usize].clone();
         let read_data = |memory| ports(memory).map(|port| signal(port[1])).collect();
         let numbers = (0..).zip(&self.image.signals);
@@ -84,7 +84,8 @@ impl<'a> Writer<'a> {
             ports: ports_of.map(|(number, _)| number).collect(),
             registers: self.image.registers.iter().map(|r| signal(r[2])).collect(),
             read_data: self.image.memories.iter().map(read_data).collect(),
-            memories,
+            watches: memories.iter().map(|memory| memory.watch.clone()).collect(),
+            memories: memories.into_iter().map(|memory| memory.name).collect(),
             event_port: self.event_port,
         }
     }
@@ -234,14 +235,14 @@ impl<'a> Writer<'a> {
         self.event_port.bit(event, &self.signals[signal as usize])
     }
 
-    fn memory(&mut self, record: &[u32; MEMORY_FIELDS], name: &str) -> String {
-        let memory = clocked::Memory {
-            name: name.to_string(),
+    fn memory(&mut self, record: &[u32; MEMORY_FIELDS]) -> clocked::Memory {
+        clocked::Memory {
+            name: self.names.escaped(&name(self.image, record)),
             width: record[memory_field::WORD_WIDTH],
             depth: record[memory_field::DEPTH],
             ports: ports(record).map(|port| self.memory_port(port)).collect(),
-        };
-        clocked::memory(&memory, &mut self.names)
+            watch: Watch::new(&self.event_port, ports(record).count(), &mut self.names),
+        }
     }
 
     fn memory_port(&self, port: &[u32]) -> clocked::Port {

@@ -8,7 +8,7 @@ use image::netlist::{
 };
 use image::Image;
 
-use crate::clocked;
+use crate::clocked::{self, Watch};
 use crate::fit::check_fit;
 use crate::module_verilog::{name, signal_names};
 use crate::names::Names;
@@ -84,8 +84,11 @@ impl<'a> Writer<'a> {
         for record in &self.netlist.registers {
             text += &self.register(record);
         }
+        let mut watches = Vec::new();
         for number in 0..self.netlist.memories.len() {
-            text += &self.memory(number);
+            let memory = self.memory(number, &mut text);
+            text += &clocked::memory(&memory);
+            watches.push(memory.watch);
         }
         text += "endmodule\n";
         Ok(Verilog {
@@ -95,6 +98,7 @@ impl<'a> Writer<'a> {
             registers: self.registers,
             read_data: self.read_data,
             memories: self.memories,
+            watches,
         })
     }
 
@@ -290,9 +294,9 @@ impl<'a> Writer<'a> {
         self.event_port.bit(event, self.net(net))
     }
 
-    fn memory(&mut self, number: usize) -> String {
+    /// A memory; the wires of its addresses are declared.
+    fn memory(&mut self, number: usize, text: &mut String) -> clocked::Memory {
         let record: &Memory = &self.netlist.memories[number];
-        let mut text = String::new();
         let mut ports = Vec::new();
         for (place, port) in record.ports.iter().enumerate() {
             let [read, write] = ["read", "write"].map(|sort| {
@@ -301,7 +305,7 @@ impl<'a> Writer<'a> {
                     .plain(&format!("m{number}_{sort}_address_{letter}"))
             });
             for (name, nets) in [(&read, &port.read_address), (&write, &port.write_address)] {
-                text += &format!(
+                *text += &format!(
                     "  wire {}{name} = {};\n",
                     range(nets.len() as u32),
                     self.joined(nets)
@@ -309,13 +313,13 @@ impl<'a> Writer<'a> {
             }
             ports.push(self.memory_port(port, read, write, self.read_data[number][place].clone()));
         }
-        let memory = clocked::Memory {
+        clocked::Memory {
             name: self.memories[number].clone(),
             width: record.ports[0].read_data.len() as u32,
             depth: record.depth,
+            watch: Watch::new(&self.event_port, ports.len(), &mut self.names),
             ports,
-        };
-        text + &clocked::memory(&memory, &mut self.names)
+        }
     }
 
     fn memory_port(

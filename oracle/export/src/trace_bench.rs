@@ -1,6 +1,7 @@
 //! A Verilog bench that runs netlists over traces by the step rule, all of them in
-//! one simulation, and prints the output bits after each line. The netlists are
-//! written with [`Style::Step`]; how a step is made stands in [`crate::bench`].
+//! one simulation, and prints the output bits after each line. A run ends where its
+//! netlist tells a write clash. The netlists are written with [`Style::Step`]; how a
+//! step is made stands in [`crate::bench`].
 
 use std::fmt::Write;
 
@@ -70,7 +71,7 @@ impl Bench<'_> {
         }
         text += &self.instance();
         if !self.run.lines.is_empty() {
-            let _ = writeln!(text, "  initial begin\n    $readmemb(\"trace{number}.txt\", trace);\n{}  end", self.settings());
+            let _ = writeln!(text, "  initial begin : run\n    $readmemb(\"trace{number}.txt\", trace);\n{}  end", self.settings());
         }
         text + "endmodule\n"
     }
@@ -84,13 +85,27 @@ impl Bench<'_> {
         };
         format!(
             "    next = trace[0];\n{}    in = next;\n    #1;\n{}    #1 {show}\n    \
-             for (line = 1; line < {lines}; line = line + 1) begin\n      next = trace[line];\n{}      #1;\n{}      #1;\n      \
+             for (line = 1; line < {lines}; line = line + 1) begin\n      next = trace[line];\n{}{}      #1;\n{}      #1;\n{}      \
              in = next;\n      #1 {show}\n    end\n",
             self.set_events("next", false),
             self.clear_contents(),
             self.set_events("in", false),
+            self.verilog.clear_watches("dut"),
             self.set_events("next", true),
+            self.refuse_clashes(),
         )
+    }
+
+    /// The lowest memory with a clash ends the run.
+    fn refuse_clashes(&self) -> String {
+        let memories = self.run.netlist.memories.iter().map(|memory| memory.number);
+        let mut clashes: Vec<(u32, &str)> =
+            memories.zip(&self.verilog.watches).filter_map(|(number, watch)| Some((number, watch.as_ref()?.clash.as_str()))).collect();
+        clashes.sort_unstable();
+        let refuse = |(number, clash): (u32, &str)| {
+            format!("    if (dut.{clash}) begin $display(\"{} refused 14 %0d {number}\", line); disable run; end\n", self.number)
+        };
+        clashes.into_iter().map(refuse).collect()
     }
 
     /// Ports by place, with bit 0 as the first of the trace's characters.

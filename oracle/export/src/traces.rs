@@ -1,7 +1,9 @@
 //! Holds the oracle's trace program to Icarus Verilog: netlists lowered and made by
-//! hand are written as Verilog and run over traces; the lines must be the oracle's.
+//! hand are written as Verilog and run over traces; the lines must be the oracle's, and
+//! so must be line and memory of a write clash.
 
-use compare::traces::cases::{by_hand, lowered, trace};
+use compare::traces::cases::right;
+use compare::traces::clashes;
 use compare::traces::limits::bytes;
 use image::Random;
 use image::netlist::Netlist;
@@ -20,21 +22,32 @@ pub struct Traced {
     pub text: String,
 }
 
-/// The next so many that the trace program runs to the end, from this number on.
+impl Traced {
+    /// Whether both ports of a memory write to one word.
+    pub fn is_clash(&self) -> bool {
+        self.text.contains("refused 14 ")
+    }
+}
+
+/// The next so many that the trace program runs to the end or to a write clash, from
+/// this number on.
 pub fn traced(seed: u64, first: u64, count: usize) -> Vec<Traced> {
     (first..).filter_map(|number| one(seed, number)).take(count).collect()
 }
 
 fn one(seed: u64, number: u64) -> Option<Traced> {
     let random = &mut Random::of_case(seed, number);
-    let draft = if number.is_multiple_of(2) { lowered(random) } else { by_hand(random) };
-    let words = draft.words();
-    let lines = trace(random, &words);
+    let (words, lines) = match number % 5 {
+        0 => clashes::right(random),
+        1 | 2 => right(random, true),
+        _ => right(random, false),
+    };
     let input = bytes(&words, &lines.concat());
     let text = String::from_utf8(driver::trace(&input)).expect("a text");
     let lines = lines.iter().map(|line| String::from_utf8_lossy(line).trim_end().to_string()).collect();
     let netlist = Netlist::decode(&words).expect("a right netlist");
-    (!text.contains("refused")).then_some(Traced { number, netlist, lines, input, text })
+    let traced = Traced { number, netlist, lines, input, text };
+    (!traced.text.contains("refused") || traced.is_clash()).then_some(traced)
 }
 
 /// What Icarus prints for each of them, run together.

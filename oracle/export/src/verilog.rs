@@ -1,6 +1,7 @@
 //! What both Verilog writers share: how clocks reach a module, the identifiers
 //! a bench needs, and small pieces of text.
 
+use crate::clocked::Watch;
 use crate::names::Names;
 
 /// How clocks and asynchronous resets reach the always blocks.
@@ -76,6 +77,16 @@ pub struct Verilog {
     pub read_data: Vec<Vec<String>>,
     /// The memories.
     pub memories: Vec<String>,
+    /// What tells write clashes, by memory.
+    pub watches: Vec<Option<Watch>>,
+}
+
+impl Verilog {
+    /// Lets an instance forget which words were stored.
+    pub fn clear_watches(&self, instance: &str) -> String {
+        let watches = self.watches.iter().flatten();
+        watches.map(|watch| format!("    {instance}.{} = 0;\n", watch.stored)).collect()
+    }
 }
 
 /// The range in a declaration; nothing for one bit.

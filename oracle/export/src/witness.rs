@@ -2,11 +2,11 @@
 //! what our simulators show; Yosys proves both equal for all settings.
 
 use image::netlist::Netlist;
-use driver::{Answer, ModuleSim, NetlistSim, NoRun, Observation, lower, words};
+use driver::{Answer, ModuleSim, NetlistSim, NoRun, Observation, Run, lower, words};
 use image::memory_field::{DEPTH, WORD_WIDTH};
 use image::{Image, MEMORY_FIELDS, MOST_LIMIT, Random, disassemble, kind};
 
-use crate::bench::{Run, bench};
+use crate::bench::bench;
 use crate::opened::opened;
 use crate::tools::{Proof, Workplace, prove_equal, simulate};
 use crate::verilog::{Style, Verilog};
@@ -30,6 +30,8 @@ pub struct Counts {
     /// Of those, the ones whose contents changed in the run.
     pub changing: usize,
     pub settings: usize,
+    /// Steps without a defined end; the next setting starts a run anew.
+    pub clashes: usize,
     pub proved: usize,
     pub proved_opened: usize,
     pub proof_left_out: usize,
@@ -89,7 +91,7 @@ fn witness_run(
         counts.memory_too_large += 1;
         return Ok(());
     }
-    let Some(run) = our_run(image, words, random, settings)? else {
+    let Some(runs) = our_runs(image, words, random, settings)? else {
         counts.controls_not_inputs += 1;
         return Ok(());
     };
@@ -100,15 +102,18 @@ fn witness_run(
             "the module has events {in_module:?}, the netlist {in_netlist:?}"
         ));
     }
-    let bench = bench(image, [&rtl, &netlist], &run);
-    let mut place = Workplace::new()?;
-    let printed = simulate(&place, &rtl.text, &netlist.text, &bench);
-    let agreed = printed.and_then(|printed| compare(&printed, &bench.expected));
-    agreed.map_err(|difference| kept(&mut place, &difference))?;
+    for run in &runs {
+        let bench = bench(image, [&rtl, &netlist], run);
+        let mut place = Workplace::new()?;
+        let printed = simulate(&place, &rtl.text, &netlist.text, &bench);
+        let agreed = printed.and_then(|printed| compare(&printed, &bench.expected));
+        agreed.map_err(|difference| kept(&mut place, &difference))?;
+    }
     counts.simulated += 1;
-    counts.settings += run.settings.len();
-    let changes = |seen: &Observation| seen.contents != run.first;
-    counts.changing += usize::from(run.observations.iter().any(changes));
+    counts.settings += settings;
+    counts.clashes += runs.len() - 1;
+    let changes = |seen: &Observation| seen.contents != runs[0].first;
+    counts.changing += usize::from(runs.iter().flat_map(|run| &run.seen.observations).any(changes));
     Ok(())
 }
 
@@ -135,29 +140,27 @@ fn kept(place: &mut Workplace, difference: &str) -> String {
     format!("{difference}\nfiles: {}", place.path().display())
 }
 
-/// A random run by both our simulators; nothing where a clock is no input.
-fn our_run(
+/// Runs over random settings by both our simulators, up to a write clash and on behind
+/// it; nothing where a clock is no input.
+fn our_runs(
     image: &Image,
     words: &[u32],
     random: &mut Random,
     count: usize,
-) -> Result<Option<Run>, String> {
+) -> Result<Option<Vec<Run>>, String> {
     let module = ModuleSim::new(&image.encode())?;
     let mut first = module.zero_contents();
     first.randomise(random);
     let settings = module.random_settings(count, random);
-    let observations = match module.run(&first, &settings) {
+    let runs = match module.runs(&first, &settings) {
         Err(NoRun::ControlNotInput) => return Ok(None),
-        run => run.map_err(|problem| format!("no run of the module: {problem:?}"))?,
+        runs => runs.map_err(|problem| format!("no run of the module: {problem:?}"))?,
     };
-    if NetlistSim::new(words).run(&first, &settings).as_ref() != Ok(&observations) {
+    let netlist = NetlistSim::new(words);
+    if runs.iter().any(|run| netlist.run(&run.first, &run.settings).as_ref() != Ok(&run.seen)) {
         return Err("our two simulators differ".to_string());
     }
-    Ok(Some(Run {
-        first,
-        settings,
-        observations,
-    }))
+    Ok(Some(runs))
 }
 
 /// The first line in which they differ, if there is one.

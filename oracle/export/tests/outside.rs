@@ -1,11 +1,12 @@
 //! Small images through Icarus and Yosys, and the witness's own alarms. Each
 //! test says so and passes where the tools are not installed.
 
-use export::bench::{Run, bench};
+use driver::{Run, Setting};
+use export::bench::{Bench, bench};
 use export::tools::{Proof, Workplace, is_installed, prove_equal, simulate};
 use export::traces::{first_difference, icarus, traced};
 use export::witness::{Counts, Effort, witness};
-use export::{Netlist, Style, module_verilog, netlist_verilog};
+use export::{Netlist, Style, Verilog, module_verilog, netlist_verilog};
 use image::{BINARY_OPS, Builder, Image, Random, UNARY_OPS, assemble};
 
 const EFFORT: Effort = Effort {
@@ -27,7 +28,7 @@ fn image(text: &str) -> Image {
 }
 
 /// Runs and proves one image; it must not be left out of either.
-fn hold(image: &Image) {
+fn hold(image: &Image) -> Counts {
     let mut counts = Counts::default();
     let result = witness(image, &mut Random::new(7), EFFORT, &mut counts);
     result.unwrap_or_else(|difference| panic!("{difference}"));
@@ -36,6 +37,7 @@ fn hold(image: &Image) {
         (1, 1),
         "{counts:?}"
     );
+    counts
 }
 
 /// One output for each width of a binary operator.
@@ -134,54 +136,61 @@ fn collision(first: &str, second: &str) -> Image {
 }
 
 #[test]
-fn the_second_port_s_word_stays() {
+fn icarus_tells_write_clashes() {
     if !installed(&["iverilog", "vvp", "yosys"]) {
         return;
     }
-    for [first, second] in [
-        ["c", "c"],
-        ["c", "d"],
-        ["d", "c"],
-        ["c falling", "d"],
-        ["c", "c falling"],
+    for ([first, second], clashes) in [
+        (["c", "c"], true),
+        (["c", "d"], true),
+        (["d", "c"], true),
+        (["c falling", "d"], true),
+        (["c", "c falling"], false),
     ] {
-        hold(&collision(first, second));
+        let counts = hold(&collision(first, second));
+        assert_eq!(counts.clashes > 0, clashes, "{first}, {second}: {counts:?}");
     }
+}
+
+/// The Verilog of module and netlist, and the bench of a run from contents that are 0.
+fn benched(image: &Image, settings: Vec<Setting>) -> (Run, [Verilog; 2], Bench) {
+    let words = driver::words(&driver::lower(&image.encode(), false), 100, 200);
+    let sim = driver::ModuleSim::new(&image.encode()).expect("a module");
+    let first = sim.zero_contents();
+    let seen = sim.run(&first, &settings).expect("a run");
+    let run = Run {
+        first,
+        settings,
+        seen,
+    };
+    let rtl = module_verilog(image, "rtl", Style::Step).expect("a module");
+    let netlist = Netlist::decode(&words).expect("a netlist");
+    let netlist =
+        netlist_verilog(&netlist, Some(image), "netlist", Style::Step).expect("a netlist");
+    let bench = bench(image, [&rtl, &netlist], &run);
+    (run, [rtl, netlist], bench)
+}
+
+/// What Icarus prints.
+fn printed(rtl: &str, netlist: &str, bench: &Bench) -> String {
+    let place = Workplace::new().expect("a directory");
+    simulate(&place, rtl, netlist, bench).unwrap_or_else(|problem| panic!("{problem}"))
 }
 
 /// A register beside the settings it sees and what it must hold after each.
 fn run_register(text: &str, settings: &[&[(u32, bool)]], held: &[bool]) {
-    let image = image(text);
-    let words = driver::words(&driver::lower(&image.encode(), false), 100, 200);
-    let sim = driver::ModuleSim::new(&image.encode()).expect("a module");
     let settings = settings
         .iter()
         .map(|setting| setting.iter().map(|&(s, value)| (s, vec![value])).collect());
-    let settings: Vec<driver::Setting> = settings.collect();
-    let first = sim.zero_contents();
-    let observations = sim.run(&first, &settings).expect("a run");
-    let seen: Vec<bool> = observations
+    let (run, [rtl, netlist], bench) = benched(&image(text), settings.collect());
+    let contents: Vec<bool> = run
+        .seen
+        .observations
         .iter()
         .map(|seen| seen.contents.registers[0][0])
         .collect();
-    assert_eq!(seen, held);
-    let rtl = module_verilog(&image, "rtl", Style::Step).expect("a module");
-    let netlist = Netlist::decode(&words).expect("a netlist");
-    let netlist =
-        netlist_verilog(&netlist, Some(&image), "netlist", Style::Step).expect("a netlist");
-    let bench = bench(
-        &image,
-        [&rtl, &netlist],
-        &Run {
-            first,
-            settings,
-            observations,
-        },
-    );
-    let place = Workplace::new().expect("a directory");
-    let printed = simulate(&place, &rtl.text, &netlist.text, &bench)
-        .unwrap_or_else(|problem| panic!("{problem}"));
-    assert_eq!(printed, bench.expected);
+    assert_eq!(contents, held);
+    assert_eq!(printed(&rtl.text, &netlist.text, &bench), bench.expected);
 }
 
 #[test]
@@ -215,29 +224,36 @@ fn icarus_shows_a_wrong_netlist() {
     if !installed(&["iverilog", "vvp"]) {
         return;
     }
-    let image = image("input a 2\noutput y 2\nassign y = not a\n");
-    let sim = driver::ModuleSim::new(&image.encode()).expect("a module");
-    let first = sim.zero_contents();
-    let settings: Vec<driver::Setting> = vec![[(0, vec![true, false])].into_iter().collect()];
-    let observations = sim.run(&first, &settings).expect("a run");
-    let rtl = module_verilog(&image, "rtl", Style::Step).expect("a module");
-    let bench = bench(
-        &image,
-        [&rtl, &rtl],
-        &Run {
-            first,
-            settings,
-            observations,
-        },
+    let settings = vec![Setting::from([(0, vec![true, false])])];
+    let (_, [rtl, netlist], bench) = benched(
+        &image("input a 2\noutput y 2\nassign y = not a\n"),
+        settings,
     );
-    let place = Workplace::new().expect("a directory");
-    let wrong = rtl
-        .text
-        .replace("module rtl", "module netlist")
-        .replace('~', "");
-    let printed = simulate(&place, &rtl.text, &wrong, &bench).expect("a run");
     assert_eq!(bench.expected, "module output 1 10\nnetlist output 1 10\n");
-    assert_eq!(printed, "module output 1 10\nnetlist output 1 01\n");
+    assert_eq!(printed(&rtl.text, &netlist.text, &bench), bench.expected);
+    let wrong = netlist.text.replace('~', "");
+    assert_eq!(
+        printed(&rtl.text, &wrong, &bench),
+        "module output 1 10\nnetlist output 1 01\n"
+    );
+}
+
+#[test]
+fn icarus_shows_a_netlist_that_clashes_otherwise() {
+    if !installed(&["iverilog", "vvp"]) {
+        return;
+    }
+    let bits = |clock: bool| {
+        let one = |signal: u32, bit: bool| (signal, vec![bit; if (2..4).contains(&signal) { 3 } else { 1 }]);
+        Setting::from([one(0, clock), one(1, clock), one(2, true), one(3, true), one(6, true)])
+    };
+    let (run, [rtl, netlist], bench) = benched(&collision("c", "d"), vec![bits(false), bits(true), bits(false)]);
+    assert_eq!((run.seen.observations.len(), run.seen.clash), (1, Some(0)));
+    assert!(bench.expected.ends_with("module clash 0\nnetlist clash 0\n"));
+    assert_eq!(printed(&rtl.text, &netlist.text, &bench), bench.expected);
+    let silent = netlist.text.replace("2'b11", "2'b10");
+    let missing = bench.expected.replace("netlist clash 0\n", "");
+    assert_eq!(printed(&rtl.text, &silent, &bench), missing);
 }
 
 /// Netlists made by hand among them: register bits with gaps, memories in any order,

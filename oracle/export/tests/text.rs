@@ -2,7 +2,7 @@
 
 use export::trace_bench::{Run, trace_bench};
 use export::{Netlist, Style, dot::dot, module_verilog, netlist_verilog};
-use image::netlist_parts::{exact, input, output, register, register_output};
+use image::netlist_parts::{exact, input, memory_output, output, register, register_output};
 use image::{Image, assemble};
 
 const LIMIT: u32 = 1_024;
@@ -89,6 +89,53 @@ fn a_register_with_all_controls() {
     let block = "  always @(negedge events[0] or posedge events[1])\n    if (events[1]) \\r [0] <= 1'b1;\n    \
                  else if (!n1) \\r [0] <= n3;\n";
     assert!(text.contains(block), "{text}");
+}
+
+/// Each port is a block of its own; with events the ports note what they store.
+#[test]
+fn a_memory_with_two_ports() {
+    let source = "input clk 1\ninput en 1\ninput a 2\noutput p 1\noutput q 1\n\
+        memory m depth 3 port raddr a rdata p waddr a wdata en wenable en clock clk \
+        port raddr en rdata q waddr en wdata clk wenable en low clock clk falling\n";
+    let blocks = |clock: &str, notes: [&str; 2]| {
+        let [first, last] = notes;
+        format!(
+            "  always @(posedge {clock}) begin\n    m0_read_a <= m0_read_address_a < 32'd3 ? \\m [m0_read_address_a] : 1'd0;\n    \
+             if (n1 && m0_write_address_a < 32'd3) begin \\m [m0_write_address_a] <= {{n1}};{first} end\n  end\n  \
+             always @(negedge {clock}) begin\n    m0_read_b <= m0_read_address_b < 32'd3 ? \\m [m0_read_address_b] : 1'd0;\n    \
+             if (!n1 && m0_write_address_b < 32'd3) begin \\m [m0_write_address_b] <= {{n0}};{last} end\n  end\n"
+        )
+    };
+    let text = netlist_text(source, Style::Plain);
+    let expected = format!("  reg \\m  [0:2];\n{}endmodule", blocks("n0", ["", ""]));
+    assert!(text.contains(&expected), "{text}");
+    let notes = [" stored[0] = 1; stored_at_a = m0_write_address_a;", " stored[1] = 1; stored_at_b = m0_write_address_b;"];
+    let watch = "  reg [1:0] stored;\n  reg [31:0] stored_at_a, stored_at_b;\n  wire clash = stored == 2'b11 && stored_at_a == stored_at_b;\n";
+    let text = netlist_text(source, Style::Step);
+    let expected = format!("  reg \\m  [0:2];\n{watch}{}endmodule", blocks("events[0]", notes));
+    assert!(text.contains(&expected), "{text}");
+}
+
+/// The lowest number is asked first, whatever the order of the records.
+#[test]
+fn the_bench_of_a_trace_ends_with_a_clash() {
+    let mut nodes = vec![input(0, 0)];
+    let mut records = vec![vec![0, 0, 1, 0]];
+    for number in [7, 2] {
+        let port = |read: u32| [1, 1, 1, 1, 0, read, 0, 0, u32::MAX, 0, 0, 1, 0, 0];
+        let read = nodes.len() as u32;
+        nodes.extend([memory_output(number, 0), memory_output(number, 1)]);
+        records.push([&[2, number, 3, 0, 1, 2][..], &port(read), &port(read + 1)].concat());
+    }
+    let records: Vec<&[u32]> = records.iter().map(Vec::as_slice).collect();
+    let netlist = Netlist::decode(&exact(&nodes, &records)).expect("a netlist");
+    let lines = ["0".to_string(), "1".to_string()];
+    let bench = trace_bench(&[Run { netlist: &netlist, lines: &lines }]).expect("a bench");
+    let part = "      #1;\n    if (dut.clash_) begin $display(\"0 refused 14 %0d 2\", line); disable run; end\n    \
+                if (dut.clash) begin $display(\"0 refused 14 %0d 7\", line); disable run; end\n      in = next;\n";
+    let text = &bench.files[0].1;
+    assert!(text.contains(part), "{part} is not in\n{text}");
+    assert!(text.contains("    dut.stored = 0;\n    dut.stored_ = 0;\n      #1;\n"), "{text}");
 }
 
 #[test]

@@ -46,6 +46,12 @@ pub mod memory_field {
 pub mod port_field {
     pub const READ_DATA: usize = 1;
     pub const READ_ENABLE: usize = 2;
+    pub const WRITE_ADDRESS: usize = 4;
+    /// A signal and its level.
+    pub const WRITE_ENABLE: usize = 6;
+    /// A signal and its edge.
+    pub const CLOCK: usize = 8;
+    pub const END: usize = 10;
 }
 
 /// Expression kinds, field 0 of an expression.

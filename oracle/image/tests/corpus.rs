@@ -191,7 +191,7 @@ fn values(
     };
     assert_eq!(runs, others, "module and netlist differ");
     let image = Image::decode(bytes).expect("an image");
-    let outputs = runs[0].outputs.iter();
+    let outputs = runs.observations[0].outputs.iter();
     outputs
         .map(|(signal, bits)| {
             let name = image.name_of(&image.signals[*signal as usize]).expect("a name");

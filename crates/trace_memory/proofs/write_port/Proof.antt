@@ -3,38 +3,28 @@ use Rattle.trace_memory.proofs.write_port.Statement.{statement}
 use Rattle.trace_memory.proofs.write_port.Tie as tie
 use Prim.Native.Nat.{_+_}
 use native.Mathlib.Omega.{arith}
-use Rattle.law_sorts.specs.Memories.{own-length}
-use Rattle.trace_memory.specs.Ports.{row-in, stretch-few, stretch-most, tick-is, writes-is, write-at-is, write-data-is, write-still, write-shut, write-past, write-word}
+use Rattle.trace_memory.specs.Ports.{row-in, stretch-most, write-data-is, write-shut, write-past, write-word}
 use borrow.Author.Needs.{needs}
 
-sub-e : tie.Need-sub-e
-sub-e c = omega (arith, own-length (c .before .before .before .before .before .args .p .now), c .port-length .ensures .0)
-
 returns : tie.Need-returns
-returns c = write-still _ _ _ (c .before .before .before .before .before .before .before .before .before .args .p .now) (c .before .before .before .before .before .before .before .before .before .args .old .now) (c .before .before .before .before .before .before .before .before .before .args .new .now) (c .before .before .before .before .before .before .before .before .before .args .memory .now) (tick-is (c .before .before .before .before .before .before .before .before .before .args .p .now) (c .before .before .before .before .port-length .ensures .0) (c .before .before .before .before .before .before .before .before .before .args .old .now) (c .before .before .before .before .before .before .before .before .before .args .new .now) (c .before .before .before .word-at .ensures) (c .before .before .word-at2 .ensures) (c .before .ticks .ensures)) (c .if1 .taken)
+returns c = write-shut _ _ _ (c .before .before .before .before .before .before .args .p .now) (c .before .before .before .before .before .before .args .old .now) (c .before .before .before .before .before .before .args .new .now) (c .before .before .before .before .before .before .args .memory .now) (c .before .is-writing .ensures) (c .if1 .taken)
 
 returns-2 : tie.Need-returns-2
-returns-2 c = write-shut _ _ _ (c .before .before .before .before .before .before .before .before .before .before .before .before .before .args .p .now) (c .before .before .before .before .before .before .before .before .before .before .before .before .before .args .old .now) (c .before .before .before .before .before .before .before .before .before .before .before .before .before .args .new .now) (c .before .before .before .before .before .before .before .before .before .before .before .before .before .args .memory .now) (tick-is (c .before .before .before .before .before .before .before .before .before .before .before .before .before .args .p .now) (c .before .before .before .before .before .before .before .before .port-length .ensures .0) (c .before .before .before .before .before .before .before .before .before .before .before .before .before .args .old .now) (c .before .before .before .before .before .before .before .before .before .before .before .before .before .args .new .now) (c .before .before .before .before .before .before .before .word-at .ensures) (c .before .before .before .before .before .before .word-at2 .ensures) (c .before .before .before .before .before .ticks .ensures)) (c .before .before .before .before .if1 .left) (writes-is (c .before .before .before .before .before .before .before .before .before .before .before .before .before .args .p .now) (c .before .before .before .before .before .before .before .before .port-length .ensures .0) (c .before .before .before .before .before .before .before .before .before .before .before .before .before .args .old .now) (c .before .before .before .before .before .before .before .before .before .before .before .before .before .args .new .now) (c .before .before .before .word-at3 .ensures) (c .before .before .word-at4 .ensures) (c .before .is-active .ensures)) (c .if2 .taken)
-
-number-requires : tie.Need-number-requires
-number-requires c κs = stretch-few (c .before .before .before .before .before .before .before .before .before .before .before .before .before .before .before .before .before .args .p .now) (4 + c .before .before .before .word-at5 .result + c .before .before .word-at6 .result) (c .stretch .ensures) (c .before .word-at7 .ensures) (c .before .before .before .before .before .before .before .before .before .before .before .before .before .before .before .before .before .pre .0 .writeAddress)
-
-returns-3 : tie.Need-returns-3
-returns-3 c = write-past _ _ _ (c .before .before .before .before .before .before .before .before .before .before .before .before .before .before .before .before .before .before .before .args .p .now) (c .before .before .before .before .before .before .before .before .before .before .before .before .before .before .before .before .before .before .before .args .old .now) (c .before .before .before .before .before .before .before .before .before .before .before .before .before .before .before .before .before .before .before .args .new .now) (c .before .before .before .before .before .before .before .before .before .before .before .before .before .before .before .before .before .before .before .args .memory .now) (tick-is (c .before .before .before .before .before .before .before .before .before .before .before .before .before .before .before .before .before .before .before .args .p .now) (c .before .before .before .before .before .before .before .before .before .before .before .before .before .before .port-length .ensures .0) (c .before .before .before .before .before .before .before .before .before .before .before .before .before .before .before .before .before .before .before .args .old .now) (c .before .before .before .before .before .before .before .before .before .before .before .before .before .before .before .before .before .before .before .args .new .now) (c .before .before .before .before .before .before .before .before .before .before .before .before .before .word-at .ensures) (c .before .before .before .before .before .before .before .before .before .before .before .before .word-at2 .ensures) (c .before .before .before .before .before .before .before .before .before .before .before .ticks .ensures)) (c .before .before .before .before .before .before .before .before .before .before .if1 .left) (writes-is (c .before .before .before .before .before .before .before .before .before .before .before .before .before .before .before .before .before .before .before .args .p .now) (c .before .before .before .before .before .before .before .before .before .before .before .before .before .before .port-length .ensures .0) (c .before .before .before .before .before .before .before .before .before .before .before .before .before .before .before .before .before .before .before .args .old .now) (c .before .before .before .before .before .before .before .before .before .before .before .before .before .before .before .before .before .before .before .args .new .now) (c .before .before .before .before .before .before .before .before .before .word-at3 .ensures) (c .before .before .before .before .before .before .before .before .word-at4 .ensures) (c .before .before .before .before .before .before .before .is-active .ensures)) (c .before .before .before .before .before .before .if2 .left) (write-at-is (c .before .before .before .before .before .before .before .before .before .before .before .before .before .before .before .before .before .before .before .args .p .now) (c .before .before .before .before .before .before .before .before .before .before .before .before .before .before .before .before .before .before .before .args .old .now) (c .before .before .before .before .before .before .before .before .before .before .before .before .before .before .before .before .before .before .before .args .new .now) (c .before .before .before .before .before .word-at5 .ensures) (c .before .before .before .before .word-at6 .ensures) (c .before .before .before .word-at7 .ensures) (c .before .before .stretch .ensures) (c .before .number .ensures .0)) (c .if3 .taken)
+returns-2 c = write-past _ _ _ (c .before .before .before .before .before .before .before .before .args .p .now) (c .before .before .before .before .before .before .before .before .args .old .now) (c .before .before .before .before .before .before .before .before .args .new .now) (c .before .before .before .before .before .before .before .before .args .memory .now) (c .before .before .before .is-writing .ensures) (c .before .before .if1 .left) (c .before .write-address .ensures .0) (c .if2 .taken)
 
 mul-lay-bits : tie.Need-mul-lay-bits
-mul-lay-bits c = omega (arith, row-in _ _ (c .before .before .before .before .before .before .before .before .before .before .before .before .before .before .before .before .before .before .before .before .before .before .args .width) (c .before .before .before .if3 .left), c .before .before .before .before .before .before .before .before .before .before .before .before .before .before .before .before .before .before .before .before .before .before .pre .0 .room)
+mul-lay-bits c = omega (arith, row-in _ _ (c .before .before .before .before .before .before .before .before .before .before .before .before .before .before .args .width) (c .before .before .before .before .before .before .if2 .left), c .before .before .before .before .before .before .before .before .before .before .before .before .before .before .pre .0 .room)
 
 add-lay-bits : tie.Need-add-lay-bits
-add-lay-bits c = omega (arith, row-in _ _ (c .before .before .before .before .before .before .before .before .before .before .before .before .before .before .before .before .before .before .before .before .before .before .args .width) (c .before .before .before .if3 .left), c .before .before .before .before .before .before .before .before .before .before .before .before .before .before .before .before .before .before .before .before .before .before .pre .0 .room)
+add-lay-bits c = omega (arith, row-in _ _ (c .before .before .before .before .before .before .before .before .before .before .before .before .before .before .args .width) (c .before .before .before .before .before .before .if2 .left), c .before .before .before .before .before .before .before .before .before .before .before .before .before .before .pre .0 .room)
 
 lay-bits-requires : tie.Need-lay-bits-requires
-lay-bits-requires c κs = omega (arith, row-in _ _ (c .before .before .before .before .before .before .before .before .before .before .before .before .before .before .before .before .before .before .before .before .before .before .args .width) (c .before .before .before .if3 .left), c .before .before .before .before .before .before .before .before .before .before .before .before .before .before .before .before .before .before .before .before .before .before .pre .0 .room, c .before .before .before .before .before .before .before .before .before .before .before .before .before .before .before .before .before .before .before .before .before .before .pre .1, stretch-most (c .before .before .before .before .before .before .before .before .before .before .before .before .before .before .before .before .before .before .before .before .before .before .args .p .now) (4 + c .before .before .before .before .before .before .before .before .word-at5 .result + c .before .before .before .before .before .before .before .word-at6 .result + c .before .before .before .before .before .before .word-at7 .result) (c .before .stretch2 .ensures) (c .before .before .word-at8 .ensures), c .before .before .before .before .before .before .before .before .before .before .before .before .before .before .before .before .before .before .before .before .before .before .pre .0 .written)
+lay-bits-requires c κs = omega (arith, row-in _ _ (c .before .before .before .before .before .before .before .before .before .before .before .before .before .before .args .width) (c .before .before .before .before .before .before .if2 .left), c .before .before .before .before .before .before .before .before .before .before .before .before .before .before .pre .0 .room, c .before .before .before .before .before .before .before .before .before .before .before .before .before .before .pre .1, stretch-most (c .before .before .before .before .before .before .before .before .before .before .before .before .before .before .args .p .now) (4 + c .before .before .before .before .before .word-at .result + c .before .before .before .before .word-at2 .result + c .before .before .before .word-at3 .result) (c .before .stretch .ensures) (c .before .before .word-at4 .ensures), c .before .before .before .before .before .before .before .before .before .before .before .before .before .before .pre .0 .written)
 
-returns-4 : tie.Need-returns-4
-returns-4 c = write-word _ _ _ (c .before .before .before .before .before .before .before .before .before .before .before .before .before .before .before .before .before .before .before .before .before .before .before .before .before .args .p .now) (c .before .before .before .before .before .before .before .before .before .before .before .before .before .before .before .before .before .before .before .before .before .before .before .before .before .args .old .now) (c .before .before .before .before .before .before .before .before .before .before .before .before .before .before .before .before .before .before .before .before .before .before .before .before .before .args .new .now) (c .before .before .before .before .before .before .before .before .before .before .before .before .before .before .before .before .before .before .before .before .before .before .before .before .before .args .memory .now) (tick-is (c .before .before .before .before .before .before .before .before .before .before .before .before .before .before .before .before .before .before .before .before .before .before .before .before .before .args .p .now) (c .before .before .before .before .before .before .before .before .before .before .before .before .before .before .before .before .before .before .before .before .port-length .ensures .0) (c .before .before .before .before .before .before .before .before .before .before .before .before .before .before .before .before .before .before .before .before .before .before .before .before .before .args .old .now) (c .before .before .before .before .before .before .before .before .before .before .before .before .before .before .before .before .before .before .before .before .before .before .before .before .before .args .new .now) (c .before .before .before .before .before .before .before .before .before .before .before .before .before .before .before .before .before .before .before .word-at .ensures) (c .before .before .before .before .before .before .before .before .before .before .before .before .before .before .before .before .before .before .word-at2 .ensures) (c .before .before .before .before .before .before .before .before .before .before .before .before .before .before .before .before .before .ticks .ensures)) (c .before .before .before .before .before .before .before .before .before .before .before .before .before .before .before .before .if1 .left) (writes-is (c .before .before .before .before .before .before .before .before .before .before .before .before .before .before .before .before .before .before .before .before .before .before .before .before .before .args .p .now) (c .before .before .before .before .before .before .before .before .before .before .before .before .before .before .before .before .before .before .before .before .port-length .ensures .0) (c .before .before .before .before .before .before .before .before .before .before .before .before .before .before .before .before .before .before .before .before .before .before .before .before .before .args .old .now) (c .before .before .before .before .before .before .before .before .before .before .before .before .before .before .before .before .before .before .before .before .before .before .before .before .before .args .new .now) (c .before .before .before .before .before .before .before .before .before .before .before .before .before .before .before .word-at3 .ensures) (c .before .before .before .before .before .before .before .before .before .before .before .before .before .before .word-at4 .ensures) (c .before .before .before .before .before .before .before .before .before .before .before .before .before .is-active .ensures)) (c .before .before .before .before .before .before .before .before .before .before .before .before .if2 .left) (write-at-is (c .before .before .before .before .before .before .before .before .before .before .before .before .before .before .before .before .before .before .before .before .before .before .before .before .before .args .p .now) (c .before .before .before .before .before .before .before .before .before .before .before .before .before .before .before .before .before .before .before .before .before .before .before .before .before .args .old .now) (c .before .before .before .before .before .before .before .before .before .before .before .before .before .before .before .before .before .before .before .before .before .before .before .before .before .args .new .now) (c .before .before .before .before .before .before .before .before .before .before .before .word-at5 .ensures) (c .before .before .before .before .before .before .before .before .before .before .word-at6 .ensures) (c .before .before .before .before .before .before .before .before .before .word-at7 .ensures) (c .before .before .before .before .before .before .before .before .stretch .ensures) (c .before .before .before .before .before .before .before .number .ensures .0)) (c .before .before .before .before .before .before .if3 .left) (write-data-is (c .before .before .before .before .before .before .before .before .before .before .before .before .before .before .before .before .before .before .before .before .before .before .before .before .before .args .p .now) (c .before .before .before .before .before .before .before .before .before .before .before .before .before .before .before .before .before .before .before .before .before .before .before .before .before .args .old .now) (c .before .before .before .before .before .before .before .before .before .before .before .before .before .before .before .before .before .before .before .before .before .before .before .before .before .args .new .now) (c .before .before .before .before .before .before .before .before .before .before .before .word-at5 .ensures) (c .before .before .before .before .before .before .before .before .before .before .word-at6 .ensures) (c .before .before .before .before .before .before .before .before .before .word-at7 .ensures) (c .before .before .before .before .before .word-at8 .ensures) (c .before .before .before .before .stretch2 .ensures)) (c .before .before .lay-bits .ensures)
+returns-3 : tie.Need-returns-3
+returns-3 c = write-word _ _ _ (c .before .before .before .before .before .before .before .before .before .before .before .before .before .before .before .before .before .args .p .now) (c .before .before .before .before .before .before .before .before .before .before .before .before .before .before .before .before .before .args .old .now) (c .before .before .before .before .before .before .before .before .before .before .before .before .before .before .before .before .before .args .new .now) (c .before .before .before .before .before .before .before .before .before .before .before .before .before .before .before .before .before .args .memory .now) (c .before .before .before .before .before .before .before .before .before .before .before .before .is-writing .ensures) (c .before .before .before .before .before .before .before .before .before .before .before .if1 .left) (c .before .before .before .before .before .before .before .before .before .before .write-address .ensures .0) (c .before .before .before .before .before .before .before .before .before .if2 .left) (write-data-is (c .before .before .before .before .before .before .before .before .before .before .before .before .before .before .before .before .before .args .p .now) (c .before .before .before .before .before .before .before .before .word-at .ensures) (c .before .before .before .before .before .before .before .word-at2 .ensures) (c .before .before .before .before .before .before .word-at3 .ensures) (c .before .before .before .before .before .word-at4 .ensures) (c .before .before .before .before .stretch .ensures)) (c .before .before .lay-bits .ensures)
 
 pub write-port-spec : {M : Type 1} → statement M
 write-port-spec =
     tie.close
-    (tie.spec (λ c κs. search needs) sub-e (λ c. search needs) (λ c κs. search needs) (λ c. search needs) (λ c κs. search needs) (λ c κs. search needs) returns (λ c. search needs) (λ c κs. search needs) (λ c. search needs) (λ c κs. search needs) (λ c κs. search needs) returns-2 (λ c κs. search needs) (λ c. search needs) (λ c. search needs) (λ c κs. search needs) (λ c. search needs) (λ c. search needs) (λ c κs. search needs) (λ c. search needs) (λ c κs. search needs) number-requires returns-3 (λ c. search needs) (λ c κs. search needs) (λ c. search needs) (λ c κs. search needs) mul-lay-bits add-lay-bits lay-bits-requires (λ c. search needs) returns-4)
+    (tie.spec (λ c κs. search needs) returns (λ c κs. search needs) returns-2 (λ c κs. search needs) (λ c. search needs) (λ c. search needs) (λ c κs. search needs) (λ c. search needs) (λ c. search needs) (λ c κs. search needs) (λ c. search needs) (λ c. search needs) (λ c κs. search needs) (λ c. search needs) (λ c κs. search needs) mul-lay-bits add-lay-bits lay-bits-requires (λ c. search needs) returns-3)

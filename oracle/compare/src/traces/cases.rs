@@ -1,7 +1,8 @@
 //! The inputs that are compared: at the limits, lowered netlists and netlists made by
 //! hand with traces, both with a damaged netlist or a damaged trace, netlists that 12
-//! refuses or just lets pass.
+//! refuses or just lets pass, write clashes.
 
+use super::clashes::near_clash;
 use super::heavy::HEAVY;
 use super::limits::{at_the_limits, bytes};
 use super::lines::Inputs;
@@ -11,7 +12,7 @@ use crate::netlists::damage::damaged;
 use crate::netlists::draft::Draft;
 use crate::netlists::free::{free, Size as FreeSize};
 use image::netlist::Netlist;
-use image::{generate, memory_field, Random, Size as ImageSize, ABSENT};
+use image::{bring_near_clash, generate, lower_depths, Random, Size as ImageSize, ABSENT};
 use std::fmt;
 use std::sync::OnceLock;
 
@@ -25,6 +26,8 @@ pub enum Origin {
     DamagedTrace,
     /// Near what 12 refuses.
     Taken,
+    /// Near what 14 refuses.
+    Clash,
     /// As free as refusal 11 is.
     Free,
 }
@@ -38,6 +41,7 @@ impl fmt::Display for Origin {
             Origin::DamagedNetlist => "netlist damaged",
             Origin::DamagedTrace => "trace damaged",
             Origin::Taken => "near refusal 12",
+            Origin::Clash => "near refusal 14",
             Origin::Free => "any netlist",
         })
     }
@@ -61,25 +65,26 @@ pub fn case(random: &mut Random, number: u64) -> Case {
 fn mixed_case(random: &mut Random) -> Case {
     let made = |origin: Origin, input: Vec<u8>| Case { origin, input };
     match random.below(100) {
-        0..30 => {
+        0..27 => {
             let (words, lines) = right(random, true);
             made(Origin::Lowered, bytes(&words, &lines.concat()))
         }
-        30..65 => {
+        27..58 => {
             let (words, lines) = right(random, false);
             made(Origin::ByHand, bytes(&words, &lines.concat()))
         }
-        65..80 => {
+        58..70 => {
             let is_lowered = random.flag();
             let (words, lines) = right(random, is_lowered);
             made(Origin::DamagedTrace, damaged_trace(random, &words, lines))
         }
-        80..90 => {
+        70..80 => {
             let draft = if random.flag() { lowered(random) } else { by_hand(random) };
             let trace = trace(random, &draft.words()).concat();
             made(Origin::DamagedNetlist, bytes(&damaged(random, &draft), &trace))
         }
-        90..97 => made(Origin::Taken, near_12(random)),
+        80..87 => made(Origin::Taken, near_12(random)),
+        87..97 => made(Origin::Clash, near_clash(random)),
         _ => {
             let size = random.pick(&[FreeSize::Small, FreeSize::Middle]);
             let words = Draft { n: N, ..free(random, size) }.words();
@@ -91,7 +96,8 @@ fn mixed_case(random: &mut Random) -> Case {
 
 // ---- right inputs ----
 
-fn right(random: &mut Random, is_lowered: bool) -> (Vec<u32>, Vec<Vec<u8>>) {
+/// A netlist that 11 lets pass, and a right trace.
+pub fn right(random: &mut Random, is_lowered: bool) -> (Vec<u32>, Vec<Vec<u8>>) {
     let draft = if is_lowered { lowered(random) } else { by_hand(random) };
     let words = draft.words();
     let lines = trace(random, &words);
@@ -117,7 +123,10 @@ pub fn lowered(random: &mut Random) -> Draft {
         };
         let mut image = generate(random.next(), size);
         if random.chance(80) {
-            image.memories.iter_mut().for_each(|memory| memory[memory_field::DEPTH] = 1 + memory[memory_field::DEPTH] % 6);
+            lower_depths(&mut image);
+        }
+        if random.chance(60) {
+            bring_near_clash(&mut image, random);
         }
         let draft = draft_of(&image.encode(), 0, random.flag());
         let fits = |draft: &Draft| draft.nodes.len() <= N && draft.records.iter().map(Vec::len).sum::<usize>() <= P;

@@ -1,7 +1,8 @@
 //! Inputs of the trace program at each of its limits and just beyond, by name: what
 //! 12 refuses and what it just lets pass, the order of 11 and 12, where the netlist
-//! ends, and ends of traces.
+//! ends, ends of traces, write clashes and what is just none.
 
+use super::clashes;
 use super::machine::{N, P};
 use crate::netlists::draft::Draft;
 use image::netlist_parts::{
@@ -9,11 +10,11 @@ use image::netlist_parts::{
 };
 use image::ABSENT;
 
-type Named = (&'static str, Vec<u8>);
+pub type Named = (&'static str, Vec<u8>);
 
 /// All of them.
 pub fn at_the_limits() -> Vec<Named> {
-    [headers(), sizes(), clocks(), resets(), memories(), borders_of_the_netlist(), traces()].concat()
+    [headers(), sizes(), clocks(), resets(), memories(), borders_of_the_netlist(), traces(), clashes::named()].concat()
 }
 
 /// Words as bytes, low first, and what follows.
@@ -184,7 +185,8 @@ fn resets() -> Vec<Named> {
 
 // ---- memories ----
 
-/// Memories of these depths and widths, the first with so many ports, on one clock.
+/// Memories of these depths and widths, the first with so many ports, on one clock; the
+/// ports do not write at once.
 fn of_memories(ports: u32, sizes: &[(u32, u32)]) -> Vec<u8> {
     let mut nodes = vec![input(0, 0)];
     let mut records: Vec<Vec<u32>> = vec![vec![0, 0, 1, 0]];
@@ -196,7 +198,7 @@ fn of_memories(ports: u32, sizes: &[(u32, u32)]) -> Vec<u8> {
             record.extend((0..width).map(|bit| nodes.len() as u32 + bit));
             nodes.extend((0..width).map(|bit| memory_output(number, port * width + bit)));
             record.extend(vec![0; 1 + width as usize]);
-            record.extend([ABSENT, 0, 0, 0, 0, 1]);
+            record.extend([ABSENT, 0, 0, port, 0, 1]);
         }
         records.push(record);
     }

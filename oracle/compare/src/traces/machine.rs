@@ -366,7 +366,8 @@ impl Records<'_> {
         (0..width).map(|_| self.any()).collect()
     }
 
-    /// A second port often has the first one's write address and clock.
+    /// A second port often has the first one's write address, sometimes with a bit
+    /// more, and its clock.
     fn push_memory(&mut self, memory: &Memory) {
         let &Memory { number, ports, width, depth } = memory;
         let mut record = vec![2, number, depth, self.random.range(0, 2), 1, ports];
@@ -374,8 +375,10 @@ impl Records<'_> {
         let mut written = Vec::new();
         for port in 0..ports {
             let read = self.address();
-            if port == 0 || self.random.chance(60) {
-                written = self.address();
+            match self.random.below(10) {
+                5..9 if port == 1 => {}
+                9 if port == 1 && written.len() < 32 => written.push(self.any()),
+                _ => written = self.address(),
             }
             record.extend([read.len() as u32, width, written.len() as u32, width]);
             record.extend(read);

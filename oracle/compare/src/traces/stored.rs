@@ -16,11 +16,13 @@ use std::collections::BTreeMap;
 const RUNS: usize = 24;
 const OF_EACH_REFUSAL: usize = 6;
 const HEADERS: usize = 200;
+/// Inputs of as many bytes or more are not stored.
+const MOST_BYTES: usize = 100_000;
 
 /// The inputs that a seed gives.
 pub fn make(seed: u64) -> Vec<Vec<u8>> {
     let random = &mut Random::new(seed);
-    let limits = at_the_limits().into_iter().filter(|(name, input)| is_stored(name) && input.len() < 100_000);
+    let limits = at_the_limits().into_iter().filter(|(name, input)| is_stored(name) && input.len() < MOST_BYTES);
     let mut inputs: Vec<Vec<u8>> = limits.map(|(_, input)| input).collect();
     inputs.extend((0..RUNS).map(|number| whole_run(random, number)));
     inputs.extend(refused(seed));
@@ -63,7 +65,7 @@ fn refused(seed: u64) -> Vec<Vec<u8>> {
     for case in cases.take(3_000).filter(|case| !matches!(case.origin, Origin::Lowered | Origin::ByHand | Origin::Free)) {
         let outcome = outcome(&driver::trace(&case.input));
         let count = taken.entry(outcome.clone()).or_default();
-        if outcome.starts_with("refused") && *count < OF_EACH_REFUSAL {
+        if outcome.starts_with("refused") && *count < OF_EACH_REFUSAL && case.input.len() < MOST_BYTES {
             *count += 1;
             inputs.push(case.input);
         }

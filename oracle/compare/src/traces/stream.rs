@@ -1,7 +1,9 @@
 //! Whether a trace program answers each line before the next one is there: a line is
-//! written, its answer is waited for, then comes the next.
+//! written, its answer is waited for, then comes the next. A write clash is refused
+//! while the trace is open.
 
-use super::cases::{by_hand, lowered, trace};
+use super::cases::right;
+use super::clashes;
 use super::limits::bytes;
 use super::run::Program;
 use image::Random;
@@ -19,9 +21,11 @@ pub fn stream(program: &Program, seed: u64, netlists: u64) -> Result<u64, String
     let mut answered = 0;
     for number in 0..netlists {
         let random = &mut Random::of_case(seed, number);
-        let draft = if number % 2 == 0 { lowered(random) } else { by_hand(random) };
-        let words = draft.words();
-        let lines = trace(random, &words);
+        let (words, lines) = match number % 4 {
+            0 | 2 => right(random, true),
+            1 => right(random, false),
+            _ => clashes::right(random),
+        };
         let netlist = bytes(&words, b"");
         let expected = driver::trace(&[&netlist[..], &lines.concat()].concat());
         if !expected.starts_with(b"refused") {

@@ -18,14 +18,15 @@ const HELP: &str = "usage: trace-icarus --seed S --count TRACES [--first I]
 Writes netlists (lowered, and made by hand) as Verilog, has Icarus Verilog run
 them over traces, many in one simulation, and compares the output bits after each
 line with the oracle's trace program, and with the program that the variable
-TRACE_PROGRAM names, if it does. With --self-test, rules of the step and of
-values read wrongly on purpose must each differ from Icarus. Exits with 1 at the
-first difference, with 2 where a tool is missing.";
+TRACE_PROGRAM names, if it does. Where both ports of a memory write to one word, the
+Verilog tells line and memory, which must be the programs'. With --self-test, rules
+of the step and of values read wrongly on purpose must each differ from Icarus. Exits
+with 1 at the first difference, with 2 where a tool is missing.";
 
 /// Traces in one simulation.
 const TOGETHER: usize = 40;
 /// Traces that the self-test looks at.
-const SELF_TEST: usize = 400;
+const SELF_TEST: usize = 800;
 
 fn main() -> ExitCode {
     let words: Vec<String> = std::env::args().skip(1).collect();
@@ -72,14 +73,15 @@ fn run(plan: &Plan) -> Result<String, String> {
     let start = Instant::now();
     let program = std::env::var_os("TRACE_PROGRAM").map(|path| Program(path.into()));
     let (mut next, mut left) = (plan.first, plan.count as usize);
-    let (mut lines, mut nets, mut stored) = (0, 0, 0);
+    let (mut lines, mut nets, mut stored, mut clashes) = (0, 0, 0, 0);
     while left > 0 {
         let batch = traced(plan.seed, next, left.min(TOGETHER));
         for (traced, theirs) in batch.iter().zip(icarus(&batch)?) {
             if let Some(difference) = differs(traced, &theirs, program.as_ref())? {
                 return Err(format!("seed {}, trace {}: {difference}", plan.seed, traced.number));
             }
-            lines += traced.lines.len();
+            lines += traced.text.lines().count();
+            clashes += usize::from(traced.is_clash());
             nets += traced.netlist.nodes.len();
             stored += usize::from(!traced.netlist.registers.is_empty() || !traced.netlist.memories.is_empty());
         }
@@ -89,8 +91,8 @@ fn run(plan: &Plan) -> Result<String, String> {
     let (count, seconds) = (plan.count, start.elapsed().as_secs_f64());
     let port = if program.is_some() { ", the trace program" } else { "" };
     Ok(format!(
-        "equal: Icarus{port}, and the oracle's trace program: {count} traces, {stored} of them with registers or memories, {lines} lines, {nets} nets; \
-         seed {}; {seconds:.1} s",
+        "equal: Icarus{port}, and the oracle's trace program: {count} traces, {stored} of them with registers or memories, \
+         {clashes} of them up to a write clash, {lines} lines, {nets} nets; seed {}; {seconds:.1} s",
         plan.seed
     ))
 }

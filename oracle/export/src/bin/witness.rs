@@ -5,7 +5,7 @@ use std::process::ExitCode;
 
 use export::tools::is_installed;
 use export::witness::{Counts, Effort, witness};
-use image::{Image, Random, Size, corpus, deepest, generate};
+use image::{Image, Random, Size, bring_near_clash, corpus, deepest, generate, lower_depths};
 
 const HELP: &str = "usage: witness [--images N] [--seed S] [--corpus] [--settings K] [--seconds T]
 
@@ -13,7 +13,8 @@ Holds module and netlist of random images (N, default 40, from seed S on,
 default 1), and of the corpus, to tools that are not ours:
 - Icarus Verilog runs both over K settings (default 16) from random contents;
   outputs, registers, read data and memory words must be those of our
-  simulators after each setting.
+  simulators after each setting. Where both ports of a memory write to one word,
+  all must tell so; the next setting then starts a run from the contents before.
 - Yosys proves both equal for all settings, with T seconds for each image
   (default 10). Registers and memories are opened for this: contents become
   inputs, what registers and memories take becomes outputs.
@@ -98,7 +99,7 @@ fn plan(words: &[String]) -> Result<Plan, String> {
 
 fn run(plan: &Plan, counts: &mut Counts) -> Result<(), String> {
     for seed in plan.seed..plan.seed + plan.images {
-        let image = generate(seed, size(seed));
+        let image = random_image(seed);
         let result = witness(&image, &mut Random::new(seed), plan.effort, counts);
         result.map_err(|difference| format!("seed {seed}: {difference}"))?;
     }
@@ -109,6 +110,16 @@ fn run(plan: &Plan, counts: &mut Counts) -> Result<(), String> {
         }
     }
     Ok(())
+}
+
+/// Every second one has small memories, whose ports often write to one word.
+fn random_image(seed: u64) -> Image {
+    let mut image = generate(seed, size(seed));
+    if seed.is_multiple_of(2) {
+        lower_depths(&mut image);
+        bring_near_clash(&mut image, &mut Random::new(seed));
+    }
+    image
 }
 
 /// Mostly small images.
@@ -143,8 +154,8 @@ fn print_counts(counts: &Counts) {
         counts.memory_too_large
     );
     println!(
-        "Icarus: {} images ({} of them with changing contents), {} settings",
-        counts.simulated, counts.changing, counts.settings
+        "Icarus: {} images ({} of them with changing contents), {} settings, {} write clashes",
+        counts.simulated, counts.changing, counts.settings, counts.clashes
     );
     println!(
         "Yosys: {} equivalences, {} more with contents opened; {} too large or without outputs, {} out of time",

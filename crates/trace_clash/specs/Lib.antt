@@ -1,0 +1,3 @@
+-- Both ports of a memory writing one word in a step.
+pub mod Words
+pub mod Lowest
