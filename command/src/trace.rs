@@ -5,7 +5,9 @@
 
 pub mod arguments;
 pub mod given;
+pub mod history;
 pub mod lines;
+pub mod named;
 pub mod ports;
 pub mod records;
 pub mod refusal;

@@ -1,38 +1,16 @@
 //! VCDs of the command trace: what is written, what is read, and that what is
-//! written is read as the same lines.
+//! written is read as the same lines. tests/trace_endings.rs has those of traces
+//! with keeps and backs.
 
-use command::trace::arguments::FromVcd;
+mod trace_parts;
+
 use command::trace::ports::{Port, Ports, bits};
-use command::trace::records::Record;
-use command::trace::vcd::reading::VcdTrace;
-use command::trace::vcd::writing::VcdWriter;
 use image::Random;
-use std::io::{BufReader, Read};
-
-fn port(name: &str, width: usize) -> Port {
-    Port { signal: 0, name: name.to_string(), width }
-}
+use trace_parts::{port, read_in, vcd_of};
 
 /// The VCD of some lines.
 fn written(ports: &Ports, lines: &[(&str, &str)]) -> String {
-    let mut bytes = Vec::new();
-    let mut writer = VcdWriter::new(&mut bytes, "part", ports);
-    for (inputs, outputs) in lines {
-        writer.line(inputs.as_bytes(), outputs.as_bytes()).expect("a line");
-    }
-    writer.end().expect("an end");
-    drop(writer);
-    String::from_utf8(bytes).expect("text")
-}
-
-/// The trace that a VCD is read as, or what is wrong with it.
-fn read_in(vcd: &str, inputs: &[Port], scope: Option<&str>, unknown_is_0: bool) -> Result<String, String> {
-    let wish = FromVcd { file: "v.vcd".to_string(), scope: scope.map(str::to_string), unknown_is_0 };
-    // A short buffer, so that words lie across its border.
-    let mut trace = VcdTrace::new(BufReader::with_capacity(7, vcd.as_bytes()), &wish, inputs)?;
-    let mut text = String::new();
-    trace.read_to_string(&mut text).map_err(|error| error.to_string())?;
-    Ok(text)
+    vcd_of(ports, |writer| lines.iter().for_each(|(inputs, outputs)| writer.line(inputs.as_bytes(), outputs.as_bytes()).expect("a line")))
 }
 
 fn read(vcd: &str, inputs: &[Port]) -> Result<String, String> {

@@ -4,6 +4,7 @@
 use command::trace::arguments::{FromVcd, Request, Source, Wish, request};
 use command::trace::given::{Given, Refused, of_module};
 use command::trace::lines::{Sent, Stopped};
+use command::trace::named::Named;
 use command::trace::ports::{Port, Ports, hexadecimal};
 use command::trace::records::Record;
 use command::trace::refusal::in_words;
@@ -87,9 +88,9 @@ fn modules_that_are_refused() {
     assert_eq!(words, "refused 9 0 0: more than 1024 nets (the most in a trace) would be made; 1200 are needed\n");
 }
 
-/// What is said of a refusal by the program.
+/// What is said of a refusal by the program, where no name is held.
 fn said(answer: [u32; 3], given: &Given, line: &str, is_ended: bool) -> String {
-    in_words(answer, given, &Stopped { line: line.as_bytes().to_vec(), is_ended })
+    in_words(answer, given, &Stopped { line: line.as_bytes().to_vec(), is_ended, held: Vec::new() })
 }
 
 #[test]
@@ -146,6 +147,14 @@ fn refusal_13() {
     refused("01000\t", true, "has byte 9 for bit 1 of goal, which is neither 0 nor 1");
     refused("010000\r", true, "ends with bytes 13 and 10, and lines end with byte 10 alone");
     refused("010000", false, "is the last one and does not end with byte 10");
+    // What is meant as a keep or back.
+    let form = "takes one blank and one name of 1 to 8 letters a to z";
+    refused("keep", true, &format!("is \"keep\": keep {form}"));
+    refused("back Late", true, &format!("is \"back Late\": back {form}"));
+    refused("KEEP to", false, &format!("is \"KEEP to\": keep {form}"));
+    refused(&format!("keep {}", "a".repeat(90)), true, &format!("is \"keep {}\": keep {form}", "a".repeat(35)));
+    refused("keep late\r", true, "ends with bytes 13 and 10, and lines end with byte 10 alone");
+    refused("back late", false, "is the last one and does not end with byte 10");
 }
 
 #[test]
@@ -163,13 +172,29 @@ fn refusal_14() {
 }
 
 #[test]
+fn refusal_15() {
+    let given = given(CONTROLLER);
+    let refused = |number: u32, line: &str, held: &[&str], told: &str| {
+        let held = held.iter().map(|name| name.to_string()).collect();
+        let said = in_words([15, number, 0], &given, &Stopped { line: line.as_bytes().to_vec(), is_ended: true, held });
+        assert_eq!(said, format!("refused 15 {number} 0: {told}\n"));
+    };
+    refused(0, "keep late", &[], "line 0, counted from 0, keeps late before the first settings line: there is nothing to keep yet");
+    refused(0, "back late", &[], "line 0, counted from 0, goes back to late, and no name is kept before it");
+    refused(7, "back late", &["early", "mid"], "line 7, counted from 0, goes back to late, which is not kept: the names held are early, mid");
+    refused(9, "keep e", &["a", "b", "c", "d"], "line 9, counted from 0, keeps e, and at most 4 names are held: a, b, c, d");
+    refused(9, "back e", &["a", "b", "c", "d"], "line 9, counted from 0, goes back to e, which is not kept: the names held are a, b, c, d");
+    refused(9, "keep e", &["a"], "an answer that docs/RULES.md does not know");
+}
+
+#[test]
 fn other_refusals() {
     let given = given(CONTROLLER);
     let most = "refused 13 4294967295 0: a trace has at most 4294967295 lines\n";
     assert_eq!(said([13, u32::MAX, 0], &given, "010000", true), most);
     let unknown = |answer: [u32; 3]| format!("refused {} {} {}: an answer that docs/RULES.md does not know\n", answer[0], answer[1], answer[2]);
-    // A right line, and a number that there is not.
-    for answer in [[13, 7, 0], [15, 1, 0]] {
+    // A right line, a line without a name, and a number that there is not.
+    for answer in [[13, 7, 0], [15, 1, 0], [16, 1, 0]] {
         assert_eq!(said(answer, &given, "010000", true), unknown(answer));
     }
 }
@@ -188,7 +213,17 @@ fn lines_that_were_sent() {
     assert_eq!(sent.line(), Some(&b""[..]));
     assert_eq!(sent.line(), None);
     sender.send(b"1".to_vec()).expect("a receiver");
-    assert_eq!(sent.stopped(), Stopped { line: b"001".to_vec(), is_ended: false });
+    assert_eq!(sent.named(u32::MAX), None);
+    sender.send(b"1\nkeep a\nback a\n0110\nkeep b\nkeep".to_vec()).expect("a receiver");
+    assert_eq!((sent.named(u32::MAX), sent.line()), (None, Some(&b"0011"[..])));
+    // Four lines are taken: a limit of 5 leaves the second of these.
+    let name = |line: Option<Named>| line.map(|line| line.to_string());
+    assert_eq!([name(sent.named(5)), name(sent.named(5)), name(sent.named(6))], [Some("keep a".to_string()), None, Some("back a".to_string())]);
+    assert_eq!((sent.named(u32::MAX), sent.line()), (None, Some(&b"0110"[..])));
+    assert_eq!(name(sent.named(u32::MAX)), Some("keep b".to_string()));
+    assert!(sent.named(u32::MAX).is_none() && !sent.is_all_taken());
+    let held = vec!["b".to_string()];
+    assert_eq!(sent.stopped(held.clone()), Stopped { line: b"keep".to_vec(), is_ended: false, held });
 }
 
 #[test]

@@ -1,6 +1,7 @@
 //! The lines that were sent to the program, as they are asked for again when it
 //! has answered them.
 
+use super::named::Named;
 use std::sync::mpsc::Receiver;
 
 /// The trace's bytes that were sent and not yet answered. They come in before
@@ -10,6 +11,8 @@ pub struct Sent {
     bytes: Vec<u8>,
     /// Where the lines that were taken end.
     taken: usize,
+    /// How many these are.
+    lines: u64,
 }
 
 /// The line that a program stopped at, as far as it was sent.
@@ -18,11 +21,13 @@ pub struct Stopped {
     pub line: Vec<u8>,
     /// Byte 10 stood behind it.
     pub is_ended: bool,
+    /// The names that are held before it.
+    pub held: Vec<String>,
 }
 
 impl Sent {
     pub fn new(from: Receiver<Vec<u8>>) -> Sent {
-        Sent { from, bytes: Vec::new(), taken: 0 }
+        Sent { from, bytes: Vec::new(), taken: 0, lines: 0 }
     }
 
     /// The next whole line, without its byte 10.
@@ -30,14 +35,27 @@ impl Sent {
         let length = self.length()?;
         let from = self.taken;
         self.taken = from + length + 1;
+        self.lines += 1;
         Some(&self.bytes[from..from + length])
     }
 
-    /// What was sent of the next line.
-    pub fn stopped(mut self) -> Stopped {
+    /// The next whole line, if it is a `keep` or `back` and fewer lines than the
+    /// limit are taken.
+    pub fn named(&mut self, limit: u32) -> Option<Named> {
+        if self.lines >= u64::from(limit) {
+            return None;
+        }
+        let length = self.length()?;
+        let named = Named::read(&self.bytes[self.taken..][..length])?;
+        self.line();
+        Some(named)
+    }
+
+    /// What was sent of the next line; these names are held.
+    pub fn stopped(mut self, held: Vec<String>) -> Stopped {
         match self.length() {
-            Some(length) => Stopped { line: self.bytes[self.taken..][..length].to_vec(), is_ended: true },
-            None => Stopped { line: self.bytes[self.taken..].to_vec(), is_ended: false },
+            Some(length) => Stopped { line: self.bytes[self.taken..][..length].to_vec(), is_ended: true, held },
+            None => Stopped { line: self.bytes[self.taken..].to_vec(), is_ended: false, held },
         }
     }
 

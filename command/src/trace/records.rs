@@ -2,6 +2,8 @@
 //! table, a VCD and a drawing where they are asked for.
 
 use super::arguments::Wish;
+use super::history::Moment;
+use super::named::Named;
 use super::ports::Ports;
 use super::svg::Svg;
 use super::table::Table;
@@ -10,12 +12,20 @@ use std::fs::File;
 use std::io::{BufWriter, Error, ErrorKind, Result as Io, Write, stdout};
 use std::path::Path;
 
-/// What is made of each line's input and output bits.
+/// What is made of each settings line's input and output bits, and of the lines
+/// between them.
 pub trait Record {
     /// # Errors
     ///
     /// Writing failed.
     fn line(&mut self, inputs: &[u8], outputs: &[u8]) -> Io<()>;
+
+    /// A line `keep` or `back`, and the moment that is kept or gone back to.
+    ///
+    /// # Errors
+    ///
+    /// Writing failed.
+    fn named(&mut self, line: &Named, moment: &Moment) -> Io<()>;
 
     /// Shows what was written so far.
     ///
@@ -78,6 +88,11 @@ impl<W: Write> Record for Bits<W> {
         self.to.write_all(b"\n")
     }
 
+    /// It has no outputs.
+    fn named(&mut self, line: &Named, _: &Moment) -> Io<()> {
+        if self.are_inputs { writeln!(self.to, "{line}") } else { Ok(()) }
+    }
+
     fn flush(&mut self) -> Io<()> {
         self.to.flush()
     }
@@ -105,7 +120,8 @@ pub fn wished(wish: &Wish, ports: &Ports) -> Result<Vec<Written>, String> {
         add(file, Box::new(Bits { to: made(file)?, are_inputs: true }));
     }
     if let Some(file) = &wish.vcd {
-        add(file, Box::new(VcdWriter::new(made(file)?, &scope_of(&wish.file), ports)));
+        let vcd = VcdWriter::new(file, &scope_of(&wish.file), ports).map_err(|error| problem(file, &error))?;
+        add(file, Box::new(vcd));
     }
     if let Some(file) = &wish.svg {
         add(file, Box::new(Svg::new(made(file)?, ports)));

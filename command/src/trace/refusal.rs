@@ -1,8 +1,11 @@
 //! The program's refusals in words: which word of the netlist, which clock,
-//! reset or memory, which character of which line, which memory's ports.
+//! reset or memory, which character of which line, which memory's ports, which
+//! name.
 
 use super::given::Given;
+use super::history::MOST_NAMES;
 use super::lines::Stopped;
+use super::named::{Named, Verb};
 use super::ports::{Port, bits, kind_of, records, words_of};
 use super::{LIST_WORDS, MEMORY_BITS, NETS};
 use crate::refusal::{line, unknown};
@@ -15,6 +18,8 @@ const INPUT_NODE: u32 = 0;
 
 /// Ports that are named where a line is of another length.
 const NAMED: usize = 16;
+/// Characters that are shown of a line that is no `keep` and no `back`.
+const SHOWN: usize = 40;
 
 /// `refused`, the three numbers, and what they mean.
 pub fn in_words(answer: Answer, given: &Given, stopped: &Stopped) -> String {
@@ -24,6 +29,7 @@ pub fn in_words(answer: Answer, given: &Given, stopped: &Stopped) -> String {
         12 => not_taken(given),
         13 => wrong_line(place, given.ports.as_ref().map_or(&[], |ports| &ports.inputs), stopped),
         14 => write_clash(place, memory, given),
+        15 => wrong_name(place, stopped),
         _ => unknown(),
     };
     line(answer, &words)
@@ -94,16 +100,20 @@ fn memory_bits(given: &Given) -> String {
 // The trace.
 
 fn wrong_line(number: u32, inputs: &[Port], stopped: &Stopped) -> String {
-    let Stopped { line, is_ended } = stopped;
-    let (asked, at) = (bits(inputs), format!("line {number}, counted from 0,"));
+    let Stopped { line, is_ended, .. } = stopped;
+    let (asked, at) = (bits(inputs), numbered(number));
     if number == u32::MAX {
         return format!("a trace has at most {number} lines");
     }
-    if !is_ended && line.len() <= asked {
+    if !is_ended && (line.len() <= asked || Named::read(line).is_some()) {
         return format!("{at} is the last one and does not end with byte 10");
     }
-    if line.len() == asked + 1 && line.ends_with(b"\r") {
+    let before_13 = line.strip_suffix(b"\r");
+    if before_13.is_some_and(|line| line.len() == asked || Named::read(line).is_some()) {
         return format!("{at} ends with bytes 13 and 10, and lines end with byte 10 alone");
+    }
+    if let Some(verb) = Verb::meant(line) {
+        return format!("{at} is {}: {}", shown(line), verb.form());
     }
     if line.len() != asked {
         let more = if *is_ended { "" } else { "more than " };
@@ -113,9 +123,32 @@ fn wrong_line(number: u32, inputs: &[Port], stopped: &Stopped) -> String {
     wrong_letter(inputs, line).map_or(unknown(), |wrong| format!("{at} has {wrong}"))
 }
 
+fn numbered(line: u32) -> String {
+    format!("line {line}, counted from 0,")
+}
+
+/// A line in quotes, or its beginning.
+fn shown(line: &[u8]) -> String {
+    format!("{:?}", String::from_utf8_lossy(&line[..line.len().min(SHOWN)]))
+}
+
 fn write_clash(number: u32, memory: u32, given: &Given) -> String {
-    let name = given.name_of("memory", 5, memory);
-    format!("both ports of {name} write to one word in the step to line {number}, counted from 0, so this step has no defined end")
+    let (name, at) = (given.name_of("memory", 5, memory), numbered(number));
+    format!("both ports of {name} write to one word in the step to {at} so this step has no defined end")
+}
+
+fn wrong_name(number: u32, stopped: &Stopped) -> String {
+    let (at, held) = (numbered(number), stopped.held.join(", "));
+    let Some(Named { verb, name }) = Named::read(&stopped.line) else {
+        return unknown();
+    };
+    match (verb, stopped.held.len()) {
+        (Verb::Back, 0) => format!("{at} goes back to {name}, and no name is kept before it"),
+        (Verb::Back, _) => format!("{at} goes back to {name}, which is not kept: the names held are {held}"),
+        (Verb::Keep, MOST_NAMES) => format!("{at} keeps {name}, and at most {MOST_NAMES} names are held: {held}"),
+        (Verb::Keep, _) if number == 0 => format!("{at} keeps {name} before the first settings line: there is nothing to keep yet"),
+        (Verb::Keep, _) => unknown(),
+    }
 }
 
 /// The ports in the order of a line, where they are not too many.

@@ -2,6 +2,7 @@
 //! its lines are taken as they come.
 
 use super::given::Given;
+use super::history::History;
 use super::lines::{Sent, Stopped};
 use super::ports::{Ports, bits};
 use super::records::{NotWritten, Record, Written};
@@ -52,7 +53,7 @@ pub fn run(program: &str, given: &Given, trace: Trace, mut written: Vec<Written>
     let (sender, receiver) = channel();
     let netlist = bytes_of(&given.words);
     let feeder = spawn(move || feed(to, &netlist, trace, &sender));
-    let mut answers = Answers { program, from: BufReader::new(from), sent: Sent::new(receiver) };
+    let mut answers = Answers { program, from: BufReader::new(from), sent: Sent::new(receiver), history: History::default() };
     let taken = answers.take(&given.ports.clone().unwrap_or_default(), &mut written);
     if let Err(not_written) = taken {
         let _ = child.kill();
@@ -62,7 +63,7 @@ pub fn run(program: &str, given: &Given, trace: Trace, mut written: Vec<Written>
     all(&mut written, |record| record.end()).or_else(quietly)?;
     match taken {
         // The program has ended by itself, and the trace may go on: nobody waits for the feeder.
-        Ok(Some(answer)) => child.wait().map(|_| End::Refused(answer, answers.sent.stopped())).map_err(|error| format!("{program}: {error}")),
+        Ok(Some(answer)) => child.wait().map(|_| End::Refused(answer, answers.stopped())).map_err(|error| format!("{program}: {error}")),
         _ => ended_well(program, &mut child, feeder).and_then(|()| answers.all_answered()).map(|()| End::Answered),
     }
 }
@@ -96,6 +97,7 @@ struct Answers<'a> {
     program: &'a str,
     from: BufReader<ChildStdout>,
     sent: Sent,
+    history: History,
 }
 
 impl Answers<'_> {
@@ -104,17 +106,32 @@ impl Answers<'_> {
         let mut line = Vec::new();
         while self.next_line(&mut line)? {
             if let Some(answer) = refusal(&line) {
+                self.take_named(answer[1], written)?;
                 return Ok(Some(answer));
             }
             self.check(&line, bits(&ports.outputs))?;
+            self.take_named(u32::MAX, written)?;
             let inputs = self.sent.line().filter(|inputs| inputs.len() == bits(&ports.inputs));
             let inputs = inputs.ok_or_else(|| NotWritten::Problem(format!("{}: it answers a line that it was not sent", self.program)))?;
+            self.history.line(inputs, &line);
             all(written, |record| record.line(inputs, &line))?;
             if self.from.buffer().is_empty() {
                 all(written, |record| record.flush())?;
             }
         }
+        self.take_named(u32::MAX, written)?;
         Ok(None)
+    }
+
+    /// Takes the lines `keep` and `back` that come next, up to a line's number: the
+    /// program prints nothing for them.
+    fn take_named(&mut self, limit: u32, written: &mut [Written]) -> Result<(), NotWritten> {
+        while let Some(line) = self.sent.named(limit) {
+            let moment = self.history.named(&line);
+            let moment = moment.ok_or_else(|| NotWritten::Problem(format!("{}: it does not refuse {line}", self.program)))?;
+            all(written, |record| record.named(&line, moment))?;
+        }
+        Ok(())
     }
 
     /// The next line, without its byte 10.
@@ -138,6 +155,10 @@ impl Answers<'_> {
     fn strange(&self, line: &[u8]) -> NotWritten {
         let line = String::from_utf8_lossy(&line[..line.len().min(80)]).into_owned();
         NotWritten::Problem(format!("{}: it prints {line:?}, which is no line of the program trace", self.program))
+    }
+
+    fn stopped(self) -> Stopped {
+        self.sent.stopped(self.history.names())
     }
 
     fn all_answered(&mut self) -> Result<(), String> {

@@ -1,12 +1,18 @@
 //! A drawing of the lines as waves: bits as lines, vectors as boxes with their
 //! value in hexadecimal, names at the left. Readable on light and dark ground.
+//! Runs after a `back` stand below, each from the column of its moment.
 
+use super::history::Moment;
+use super::named::{Named, Verb};
 use super::ports::{Port, Ports, hexadecimal, words_of};
 use super::records::Record;
 use std::io::{Result as Io, Write};
+use std::ops::Range;
 
-/// The most lines that are drawn: the first ones.
+/// The most lines of a run that are drawn: the first ones.
 const MOST_LINES: usize = 400;
+/// The most runs after a `back` that are drawn.
+const MOST_ENDINGS: usize = 16;
 
 const TOP: usize = 30;
 const ROW: usize = 28;
@@ -29,20 +35,43 @@ const STYLE: &str = "\
 pub struct Svg<W> {
     to: W,
     ports: Ports,
+    runs: Vec<Run>,
+    backs: usize,
+}
+
+/// What is drawn of a run.
+#[derive(Default)]
+struct Run {
+    title: String,
+    /// The time of its first line.
+    time: u64,
     /// The inputs and outputs of each line.
     lines: Vec<[Vec<u8>; 2]>,
 }
 
 impl<W: Write> Svg<W> {
     pub fn new(to: W, ports: &Ports) -> Svg<W> {
-        Svg { to, ports: ports.clone(), lines: Vec::new() }
+        Svg { to, ports: ports.clone(), runs: vec![Run::default()], backs: 0 }
     }
 }
 
 impl<W: Write> Record for Svg<W> {
     fn line(&mut self, inputs: &[u8], outputs: &[u8]) -> Io<()> {
-        if self.lines.len() < MOST_LINES {
-            self.lines.push([inputs.to_vec(), outputs.to_vec()]);
+        let run = self.runs.get_mut(self.backs).filter(|run| run.lines.len() < MOST_LINES);
+        if let Some(run) = run {
+            run.lines.push([inputs.to_vec(), outputs.to_vec()]);
+        }
+        Ok(())
+    }
+
+    /// A run after a `back` begins with its moment.
+    fn named(&mut self, line: &Named, moment: &Moment) -> Io<()> {
+        if line.verb == Verb::Back {
+            self.backs += 1;
+            if self.backs <= MOST_ENDINGS {
+                self.runs.push(Run { title: line.ending(self.backs), time: moment.time, lines: Vec::new() });
+            }
+            self.line(&moment.inputs, &moment.outputs)?;
         }
         Ok(())
     }
@@ -53,7 +82,7 @@ impl<W: Write> Record for Svg<W> {
     }
 
     fn end(&mut self) -> Io<()> {
-        self.to.write_all(drawing(&self.ports, &self.lines).as_bytes())?;
+        self.to.write_all(drawing(&self.ports, &self.runs).as_bytes())?;
         self.to.flush()
     }
 }
@@ -66,32 +95,77 @@ struct Row<'a> {
     words: Vec<&'a [u8]>,
 }
 
-fn drawing(ports: &Ports, lines: &[[Vec<u8>; 2]]) -> String {
-    let rows = rows(ports, lines);
-    let letters = rows.iter().map(|row| row.port.name.len()).max().unwrap_or(0);
+fn drawing(ports: &Ports, runs: &[Run]) -> String {
+    let names = ports.inputs.iter().chain(&ports.outputs).map(|port| &port.name);
+    let letters = names.chain(runs.iter().map(|run| &run.title)).map(String::len).max().unwrap_or(0);
     let left = 16 + LETTER * letters;
-    let width = left + COLUMN * lines.len() + 16;
-    let height = rows.last().map_or(TOP, |row| row.top) + ROW;
-    let mut svg = format!("<svg xmlns=\"http://www.w3.org/2000/svg\" width=\"{width}\" height=\"{height}\" viewBox=\"0 0 {width} {height}\">\n");
-    svg += &format!("<style>\n{STYLE}\n</style>\n<rect class=\"ground\" width=\"{width}\" height=\"{height}\"/>\n");
-    for number in 0..lines.len() {
-        let x = left + COLUMN * number;
-        svg += &format!("<path class=\"grid\" d=\"M{x} {}V{}\"/>\n", TOP - 6, height - 8);
-        svg += &format!("<text class=\"number\" x=\"{}\" y=\"16\" text-anchor=\"middle\">{number}</text>\n", x + COLUMN / 2);
+    let width = left + COLUMN * runs.iter().map(Run::columns).max().unwrap_or(0) + 16;
+    let (mut height, mut waves) = (0, String::new());
+    for run in runs {
+        let rows = rows(ports, &run.lines, height);
+        let bottom = rows.last().map_or(height + TOP, |row| row.top) + ROW;
+        waves += &run.drawn(&rows, left, height..bottom);
+        height = bottom;
     }
-    for row in &rows {
-        svg += &format!("<text x=\"{}\" y=\"{}\" text-anchor=\"end\">{}</text>\n", left - 8, row.top + 13, escaped(&row.port.name));
-        svg += &if row.port.width == 1 { row.bit(left) } else { row.vector(left) };
-    }
-    svg + "</svg>\n"
+    let head = format!("<svg xmlns=\"http://www.w3.org/2000/svg\" width=\"{width}\" height=\"{height}\" viewBox=\"0 0 {width} {height}\">\n");
+    let ground = format!("<style>\n{STYLE}\n</style>\n<rect class=\"ground\" width=\"{width}\" height=\"{height}\"/>\n");
+    head + &ground + &waves + "</svg>\n"
 }
 
-fn rows<'a>(ports: &'a Ports, lines: &'a [[Vec<u8>; 2]]) -> Vec<Row<'a>> {
+impl Run {
+    /// The column of its first line: its time, or the first where this is not drawn
+    /// of the first run.
+    fn column(&self) -> usize {
+        usize::try_from(self.time).ok().filter(|time| *time < MOST_LINES).unwrap_or(0)
+    }
+
+    /// The columns up to its last line.
+    fn columns(&self) -> usize {
+        self.column() + self.lines.len()
+    }
+
+    /// Its rows at a height, with a grid and the times of its lines.
+    fn drawn(&self, rows: &[Row], names: usize, height: Range<usize>) -> String {
+        let left = names + COLUMN * self.column();
+        let mut svg = String::new();
+        for (number, time) in (0..self.lines.len()).zip(self.time..) {
+            let x = left + COLUMN * number;
+            svg += &format!("<path class=\"grid\" d=\"M{x} {}V{}\"/>\n", height.start + TOP - 6, height.end - 8);
+            // A long number has the room of several columns.
+            if number % time.to_string().len().div_ceil(4) == 0 {
+                let y = height.start + 16;
+                svg += &format!("<text class=\"number\" x=\"{}\" y=\"{y}\" text-anchor=\"middle\">{time}</text>\n", x + COLUMN / 2);
+            }
+        }
+        if !self.title.is_empty() {
+            svg += &self.seam(names, left + COLUMN, height);
+        }
+        for row in rows {
+            svg += &named(&row.port.name, names, row.top + 13);
+            svg += &if row.port.width == 1 { row.bit(left) } else { row.vector(left) };
+        }
+        svg
+    }
+
+    /// The title, a line above it, and one behind the moment gone back to.
+    fn seam(&self, names: usize, behind: usize, Range { start, end }: Range<usize>) -> String {
+        let width = names + COLUMN * self.columns();
+        let path = format!("<path class=\"grid\" stroke-width=\"3\" d=\"M0 {start}H{width}M{behind} {start}V{}\"/>\n", end - 8);
+        path + &named(&self.title, names, start + 16)
+    }
+}
+
+/// A name at the left.
+fn named(name: &str, names: usize, y: usize) -> String {
+    format!("<text x=\"{}\" y=\"{y}\" text-anchor=\"end\">{}</text>\n", names - 8, escaped(name))
+}
+
+fn rows<'a>(ports: &'a Ports, lines: &'a [[Vec<u8>; 2]], above: usize) -> Vec<Row<'a>> {
     let mut rows = Vec::new();
     for (side, (ports, class)) in [(&ports.inputs, "input"), (&ports.outputs, "output")].into_iter().enumerate() {
         let first = rows.len();
         for (number, port) in ports.iter().enumerate() {
-            rows.push(Row { port, class, top: TOP + ROW * (first + number) + GAP * side, words: Vec::new() });
+            rows.push(Row { port, class, top: above + TOP + ROW * (first + number) + GAP * side, words: Vec::new() });
         }
         for line in lines {
             words_of(ports, &line[side]).zip(&mut rows[first..]).for_each(|((_, word), row)| row.words.push(word));

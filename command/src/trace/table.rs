@@ -1,5 +1,8 @@
-//! A table of the lines: a column for each port, vectors in hexadecimal.
+//! A table of the lines: a column for each port, vectors in hexadecimal. A line
+//! `keep` or `back` stands there as it is.
 
+use super::history::Moment;
+use super::named::Named;
 use super::ports::{Port, Ports, hexadecimal, words_of};
 use super::records::Record;
 use std::io::{Result as Io, Write};
@@ -46,6 +49,12 @@ impl<W: Write> Record for Table<W> {
         }
         let (inputs, outputs) = (cells(&self.ports.inputs, inputs), cells(&self.ports.outputs, outputs));
         self.row(&self.lines.to_string(), &inputs, &outputs)?;
+        self.lines += 1;
+        Ok(())
+    }
+
+    fn named(&mut self, line: &Named, _: &Moment) -> Io<()> {
+        writeln!(self.to, "{:>NUMBER$}  {line}", self.lines)?;
         self.lines += 1;
         Ok(())
     }

@@ -39,7 +39,7 @@ pub fn bad_name(image: &[u8], k: u32, r: u32) -> bool
 }
 
 // Two texts are equal.
-fn same_text(a: &[u8], b: &[u8]) -> bool
+pub fn same_text(a: &[u8], b: &[u8]) -> bool
     ensures { λ r. ⌜ r ≡ sameText (now (a .entry)) (now (b .entry)) ⌝ }
 {
     if a.len() != b.len() {

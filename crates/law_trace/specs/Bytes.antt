@@ -2,15 +2,16 @@
 use Prim.Native.Nat.{ℕ, _+_, _*_, _/_, _%_}
 use native.Mathlib.Omega.{arith}
 use mathlib.Core.Path.{_≡_, refl, sym, ap, _∙_}
-use mathlib.Core.Bool.{Bool, true, false}
+use mathlib.Core.Bool.{false}
 use mathlib.Core.List.{List, [], _∷_, _++_}
 use lib.ListN.{length, take, drop}
 use lib.Seq.{take-append-seam, drop-append-seam}
-use Rattle.spec_tests.specs.Rules.{_<?_, _≡?_, _≢?_, _and_, pick, only}
-use Rattle.spec_tests.specs.Laws.{no-lt, no-ne, ne-yes, eq-yes, eq-no}
+use Rattle.spec_tests.specs.Rules.{_≡?_, _≢?_, _and_}
+use Rattle.spec_tests.specs.Laws.{eq-yes, eq-no}
 use Rattle.spec_trace.specs.Opened.{wordsOf, wordCount, imageOf, traceOf, having}
 use Rattle.spec_trace.specs.Trace.{before, pieces}
-use Rattle.law_told.specs.Told.{and-second, pick-yes, pick-no}
+use Rattle.law_told.specs.Told.{pick-yes, pick-no}
+use Rattle.law_histories.specs.Plain.{other, having-no, not-letter}
 
 -- ---- words ----
 
@@ -39,27 +40,12 @@ unfoldable pub traceBytes : List (List ℕ) → List ℕ
 traceBytes [] = []
 traceBytes (l ∷ ls) = l ++ (10 ∷ traceBytes ls)
 
--- a byte that is neither "0" nor "1"
-abbrev other : ℕ → Bool
-other b = b ≢? 48 and b ≢? 49
-
-having-no : (b : ℕ) (l : List ℕ) → having other (b ∷ l) ≡ false → (other b ≡ false) × (having other l ≡ false)
-unfolding having only pick
-having-no b l e = at (other b) refl e
-  where
-    at : (t : Bool) → other b ≡ t → (0 <? length (pick t (b ∷ only other l) (only other l))) ≡ false → (other b ≡ false) × ((0 <? length (only other l)) ≡ false)
-    at true z h = let n = no-lt 0 (length (b ∷ only other l)) h in absurd (omega arith)
-    at false z h = (z, h)
-
-not-ten : (b : ℕ) → other b ≡ false → b ≡ 10 → ⊥
-not-ten b e z = let n = no-ne b 49 (and-second (b ≢? 48) (b ≢? 49) e (ne-yes b 48 (λ y. absurd (omega arith)))) in omega arith
-
 line-piece : (l rest : List ℕ) → having other l ≡ false → pieces (l ++ (10 ∷ rest)) ≡ l ∷ pieces rest
 unfolding pieces before
 line-piece [] rest h = pick-yes (10 ≡? 10) _ _ (eq-yes 10 10 refl)
 line-piece (b ∷ l) rest h =
     let n = having-no b l h in
-    pick-no (b ≡? 10) _ _ (eq-no b 10 (not-ten b (n .0))) ∙ ap (before b) (line-piece l rest (n .1))
+    pick-no (b ≡? 10) _ _ (eq-no b 10 (not-letter b 10 (n .0) (λ e. absurd (omega arith)) (λ e. absurd (omega arith)))) ∙ ap (before b) (line-piece l rest (n .1))
 
 abbrev pub Letters : List (List ℕ) → Type 0
 Letters [] = Unit {0}

@@ -14,4 +14,5 @@ pub mod Fitted
 pub mod Unfit
 pub mod Bytes
 pub mod Programs
+pub mod Sides
 pub mod Clear

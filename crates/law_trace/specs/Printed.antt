@@ -6,14 +6,17 @@ use mathlib.Core.Bool.{Bool, true, false, cond}
 use mathlib.Core.List.{List, [], _∷_, _++_, map, append-assoc}
 use lib.ListN.{length}
 use Rattle.spec_tests.specs.Rules.{_<?_, _≡?_, Fine, Refused}
-use Rattle.spec_tests.specs.Laws.{lt-yes, lt-no, eq-yes}
+use Rattle.spec_tests.specs.Laws.{lt-yes, lt-no, yes-lt, no-lt, eq-yes}
 use Rattle.spec_rules.specs.NetlistImage.{netlist}
 use Rattle.spec_rules.specs.Step.{Setting, Contents, Machine, Seen, act, clashing, noEnd, seen, onward, ofNetlist}
 use Rattle.spec_rules.specs.Listing.{together}
 use Rattle.spec_netlist.specs.Accept.{accepts}
-use Rattle.spec_trace.specs.Trace.{zeroed, settingOf, wrongLine, shown, Now, Before, At, reached, clashAt, After, Goes, Stops, lineDone, said, continued, traced}
+use Rattle.spec_trace.specs.Trace.{zeroed, settingOf, wrongLine, shown, Now, Before, At, reached, clashAt, After, Goes, Stops, settingsLine, said, continued, traced}
+use Rattle.spec_trace.specs.Named.{begun, landed}
 use Rattle.law_told.specs.Told.{pick-yes, pick-no}
-use Rattle.law_trace.specs.Runs.{seenText, AllRight, clashedFrom, clashed, clashText, runText, PrintsRun}
+use Rattle.law_histories.specs.Lines.{line-clash, line-goes}
+use Rattle.law_histories.specs.Plain.{AllRight, traced-two, plain-text}
+use Rattle.law_trace.specs.Runs.{seenText, clashedFrom, clashed, clashText, runText, PrintsRun}
 use Rattle.law_trace.specs.Shown.{shown-seen}
 
 traced-last : {S : Type 0} (f : ℕ → S → List ℕ → After S) (k : ℕ) (s : S) → traced f k s ([] ∷ []) ≡ []
@@ -22,39 +25,30 @@ traced-last f k s = pick-yes (length {A = ℕ} [] ≡? 0) _ _ (eq-yes 0 0 refl)
 
 traced-cons : {S : Type 0} (f : ℕ → S → List ℕ → After S) (k : ℕ) (s : S) (l : List ℕ) (ls : List (List ℕ)) → k < 4294967295
     → traced f k s (l ∷ (ls ++ ([] ∷ []))) ≡ continued (λ s′. traced f (suc k) s′ (ls ++ ([] ∷ []))) (f k s l)
-unfolding traced
-traced-cons f k s l [] h = pick-yes (k <? 4294967295) _ _ (lt-yes k 4294967295 h)
-traced-cons f k s l (x ∷ ls) h = pick-yes (k <? 4294967295) _ _ (lt-yes k 4294967295 h)
+traced-cons f k s l ls h = traced-two f k s l ls ∙ pick-yes (k <? 4294967295) _ _ (lt-yes k 4294967295 h)
 
 module _ (ws : List ℕ) (ok : accepts ws ≡ Fine) where
   abbrev m : Machine
   m = ofNetlist (netlist ws)
 
   abbrev line : ℕ → Now → List ℕ → After Now
-  line = lineDone ws
+  line = settingsLine ws
 
   -- a right line whose step has an end, and the lines after it
-  line-goes : (k : ℕ) (now : Now) (l : List ℕ) (c : Contents) → wrongLine ws l ≡ false → (clashAt ws now (settingOf ws l) <? 16) ≡ false → reached ws now (settingOf ws l) ≡ c
-      → line k now l ≡ Goes (shown ws (settingOf ws l) c) (At (settingOf ws l) c)
-  unfolding lineDone
-  line-goes k now l c e f q =
-      pick-no (wrongLine ws l) _ _ e ∙ pick-no (clashAt ws now (settingOf ws l) <? 16) _ _ f
-      ∙ ap (λ (c : Contents). Goes (shown ws (settingOf ws l) c) (At (settingOf ws l) c)) q
-
   onto : (k : ℕ) (now : Now) (l : List ℕ) (ls : List (List ℕ)) (c : Contents) → k < 4294967295 → wrongLine ws l ≡ false → (clashAt ws now (settingOf ws l) <? 16) ≡ false → reached ws now (settingOf ws l) ≡ c
       → traced line k now (l ∷ (ls ++ ([] ∷ []))) ≡ seenText ws (seen m (settingOf ws l) c) ++ traced line (suc k) (At (settingOf ws l) c) (ls ++ ([] ∷ []))
   unfolding continued
   onto k now l ls c h e f q =
-      traced-cons line k now l ls h ∙ ap (continued (λ s′. traced line (suc k) s′ (ls ++ ([] ∷ [])))) (line-goes k now l c e f q)
+      traced-cons line k now l ls h ∙ ap (continued (λ s′. traced line (suc k) s′ (ls ++ ([] ∷ [])))) (line-goes ws k now l e (no-lt _ 16 f) ∙ ap (λ (c : Contents). Goes (shown ws (settingOf ws l) c) (At (settingOf ws l) c)) q)
       ∙ ap (λ (x : List ℕ). x ++ traced line (suc k) (At (settingOf ws l) c) (ls ++ ([] ∷ []))) (shown-seen ws ok (settingOf ws l) c)
 
   -- one whose step has none
   stops-at : (k : ℕ) (now : Now) (l : List ℕ) (ls : List (List ℕ)) (x : ℕ) → k < 4294967295 → wrongLine ws l ≡ false → clashAt ws now (settingOf ws l) ≡ x → (x <? 16) ≡ true
       → traced line k now (l ∷ (ls ++ ([] ∷ []))) ≡ clashText k x
-  unfolding lineDone continued clashText
+  unfolding continued clashText
   stops-at k now l ls x h e q f =
       traced-cons line k now l ls h
-      ∙ ap (continued (λ s′. traced line (suc k) s′ (ls ++ ([] ∷ [])))) (pick-no (wrongLine ws l) _ _ e ∙ pick-yes (clashAt ws now (settingOf ws l) <? 16) _ _ (ap (λ (y : ℕ). y <? 16) q ∙ f) ∙ ap (λ (y : ℕ). Stops (Refused 14 k y)) q)
+      ∙ ap (continued (λ s′. traced line (suc k) s′ (ls ++ ([] ∷ [])))) (line-clash ws k now l e (yes-lt _ 16 (ap (λ (y : ℕ). y <? 16) q ∙ f)) ∙ ap (λ (y : ℕ). Stops (Refused 14 k y)) q)
       ∙ sym (pick-yes (x <? 16) (said (Refused 14 k x)) [] f)
 
   -- what the run shows after this moment
@@ -119,4 +113,5 @@ module _ (ws : List ℕ) (ok : accepts ws ≡ Fine) where
       ∙ ap (λ (n : ℕ). together (map (seenText ws) (onward m t zeroed ts)) ++ clashText n (clashedFrom m t zeroed ts)) (let z : 0 + length (onward m t zeroed ts) ≡ length (onward m t zeroed ts) = omega arith in z)
 
 pub prints-run : PrintsRun
-prints-run ws ok ls r h = printed ws ok ls r h
+unfolding landed
+prints-run ws ok ls r h = plain-text ws 0 begun ls r ∙ printed ws ok ls r h

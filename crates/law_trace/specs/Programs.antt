@@ -17,7 +17,8 @@ use Rattle.spec_model.specs.Words.{words}
 use Rattle.spec_call.specs.Call as Call
 use Rattle.spec_netlist.specs.Accept.{used, listAt, limit, headerAnswer, bodyAnswer, accepts}
 use Rattle.spec_trace.specs.Opened.{wordsOf, wordCount, otherLimits, opened, unfit}
-use Rattle.spec_trace.specs.Trace.{settingOf, wrongLine, Before, lineDone, traced, textFrom, unless, traceText, program}
+use Rattle.spec_trace.specs.Trace.{settingOf, wrongLine, traced}
+use Rattle.spec_trace.specs.Named.{begun, anyLine, textFrom, unless, traceText, program}
 use Rattle.check_image.specs.Accepted.{accepted}
 use Rattle.net_view.specs.View.{Fit}
 use Rattle.law_module.specs.Good.{good}
@@ -27,7 +28,8 @@ use Rattle.law_listed_made.specs.Accepted.{fit}
 use Rattle.law_call.specs.Calls.{is-good, passes, ended, buffer-is}
 use Rattle.law_stored.specs.Bounded.{bounded}
 use Rattle.law_stored.specs.Calls.{left, call-accepted, call-state}
-use Rattle.law_trace.specs.Runs.{seenText, AllRight, runText}
+use Rattle.law_histories.specs.Plain.{AllRight}
+use Rattle.law_trace.specs.Runs.{seenText, runText}
 use Rattle.law_trace.specs.Printed.{prints-run}
 use Rattle.law_trace.specs.Cut.{cut-long, cut-head, cut-count}
 use Rattle.law_trace.specs.Signals.{memoryBits, lineSetting, wrongFor, AllRightFor, outputText}
@@ -70,7 +72,7 @@ module _ (N P most : ℕ) (ws : List ℕ) (t : Taken N P most ws) where
       (pick-no (otherLimits N P (ws ++ rest)) _ _ (no-and _ _ (neither _ _ (ne-no (limit (ws ++ rest)) N l) (lt-no P (used (ws ++ rest)) (omega arith)))))
 
   -- behind the image's bytes the program reads a trace
-  pub reads-trace : (trace : List ℕ) → traceText N P most (bytesOf ws ++ trace) ≡ textFrom ws 0 Before trace
+  pub reads-trace : (trace : List ℕ) → traceText N P most (bytesOf ws ++ trace) ≡ textFrom ws 0 begun trace
   unfolding traceText unless andThen refuse
   reads-trace trace =
       let h3 = head (wordsOf trace) 3 (omega arith) in
@@ -80,7 +82,7 @@ module _ (N P most : ℕ) (ws : List ℕ) (t : Taken N P most ws) where
       let i = image-back ws trace n in
       let b = trace-back ws trace n in
       let o : opened N P (wordsOf (bytesOf ws ++ trace)) ≡ Fine = ap (opened N P) (words-back ws trace) ∙ opened-fine (wordsOf trace) in
-      rw (o, i, b) (ap (λ (a : Answer). unless a (textFrom ws 0 Before trace)) (pick-no (unfit most ws) _ _ (t .fit)))
+      rw (o, i, b) (ap (λ (a : Answer). unless a (textFrom ws 0 begun trace)) (pick-no (unfit most ws) _ _ (t .fit)))
 
   right-letters : (ls : List (List ℕ)) → AllRight ws ls → Letters ls
   unfolding wrongLine
@@ -91,7 +93,7 @@ module _ (N P most : ℕ) (ws : List ℕ) (t : Taken N P most ws) where
   pub program-prints : (ls : List (List ℕ)) → AllRight ws ls → length ls ≤ 4294967295
       → traceText N P most (bytesOf ws ++ traceBytes ls) ≡ runText (ofNetlist (netlist ws)) (seenText ws) (map (settingOf ws) ls)
   program-prints ls right few =
-      reads-trace (traceBytes ls) ∙ ap (traced (lineDone ws) 0 Before) (lines-back ls (right-letters ls right)) ∙ prints-run ws (t .accepted) ls right few
+      reads-trace (traceBytes ls) ∙ ap (traced (anyLine ws) 0 begun) (lines-back ls (right-letters ls right)) ∙ prints-run ws (t .accepted) ls right few
 
 -- ---- the image that the lowering call left ----
 
@@ -153,7 +155,7 @@ module _ (s : List ℕ) (N P : ℕ) (buffer scratch : List ℕ) (yes : Call.answ
   pub program-prints-module : (most : ℕ) → memoryBits m (m .memories) ≤ most → Ported m → (u : Valuation) (ls : List (List ℕ)) → AllRightFor m ls → length ls ≤ 4294967295
       → traceText N P most (bytesOf image ++ traceBytes ls) ≡ runText (ofModule m u) (outputText m) (map (lineSetting m) ls)
   program-prints-module most h ported u ls right few =
-      reads-trace N P most image (taken most (image-fits most h ported)) (traceBytes ls) ∙ ap (traced (lineDone image) 0 Before) (lines-back ls (letters ls right))
+      reads-trace N P most image (taken most (image-fits most h ported)) (traceBytes ls) ∙ ap (traced (anyLine image) 0 begun) (lines-back ls (letters ls right))
       ∙ prints-signals s N P buffer scratch yes ported u ls right few
 
 -- "netlists made with N = 1,024 and P = 2,048, and memories of at most 65,536 bits in all"

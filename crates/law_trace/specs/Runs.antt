@@ -10,7 +10,9 @@ use Rattle.spec_rules.specs.Step.{Setting, Contents, Machine, Seen, perhaps, ac
 use Rattle.spec_rules.specs.Listing.{together}
 use Rattle.spec_netlist.specs.Accept.{accepts}
 use Rattle.spec_trace.specs.Opened.{portsWith}
-use Rattle.spec_trace.specs.Trace.{zeroed, settingOf, wrongLine, digit, Before, lineDone, said, traced}
+use Rattle.spec_trace.specs.Trace.{zeroed, settingOf, digit, said, traced}
+use Rattle.spec_trace.specs.Named.{begun, anyLine}
+use Rattle.law_histories.specs.Plain.{AllRight}
 
 -- the output bits that a machine shows, ports in image order, bit 0 first
 unfoldable pub portText : Seen → List ℕ → List ℕ
@@ -18,11 +20,6 @@ portText x r = listOf (getD r 2 0) (λ i. digit (perhaps false (λ b. b) (x .out
 
 unfoldable pub seenText : List ℕ → Seen → List ℕ
 seenText ws x = together (map (portText x) (portsWith 8 ws)) ++ (10 ∷ [])
-
--- no line is "of another length or letter"
-abbrev pub AllRight : List ℕ → List (List ℕ) → Type 0
-AllRight ws [] = Unit {0}
-AllRight ws (l ∷ ls) = (wrongLine ws l ≡ false) × AllRight ws ls
 
 -- the lowest memory with a write clash in the first step that has no defined end, from a moment of a run on; 16 where every step has one
 unfoldable pub clashedFrom : Machine → Setting → Contents → List Setting → ℕ
@@ -45,4 +42,4 @@ runText m line ts = together (map line (run m zeroed ts)) ++ clashText (length (
 abbrev pub PrintsRun : Type 0
 PrintsRun =
     (ws : List ℕ) → accepts ws ≡ Fine → (ls : List (List ℕ)) → AllRight ws ls → length ls ≤ 4294967295
-    → traced (lineDone ws) 0 Before (ls ++ ([] ∷ [])) ≡ runText (ofNetlist (netlist ws)) (seenText ws) (map (settingOf ws) ls)
+    → traced (anyLine ws) 0 begun (ls ++ ([] ∷ [])) ≡ runText (ofNetlist (netlist ws)) (seenText ws) (map (settingOf ws) ls)

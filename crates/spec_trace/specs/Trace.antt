@@ -1,15 +1,14 @@
--- The trace program of change request Q-4: what it writes for its input. Assumes nothing.
+-- A settings line of the trace program, and its lines one after the other (docs/RULES.md, change requests Q-4 and Q-6). Assumes nothing.
 use Prim.Native.Nat.{ℕ, suc}
 use mathlib.Core.Bool.{Bool, true, false}
 use mathlib.Core.List.{List, [], _∷_, _++_, map}
 use lib.ListN.{length, drop, getD}
 use Rattle.spec_rtl.specs.Table.{build}
-use Rattle.spec_tests.specs.Rules.{_<?_, _≡?_, _≢?_, _or_, _and_, pick, Answer, Fine, Refused, andThen}
-use Rattle.spec_rules.specs.Checks.{refuse}
+use Rattle.spec_tests.specs.Rules.{_<?_, _≡?_, _≢?_, _or_, _and_, pick, Answer, Fine, Refused}
 use Rattle.spec_rules.specs.NetlistImage.{Netlist, netlist}
 use Rattle.spec_rules.specs.Step.{Setting, Contents, act, clashing, nodeValue, ofNetlist}
 use Rattle.spec_rules.specs.Listing.{text, decimal, line}
-use Rattle.spec_trace.specs.Opened.{wordsOf, imageOf, traceOf, opened, having, unfit, portsWith, inputNets, outputNets}
+use Rattle.spec_trace.specs.Opened.{having, portsWith, inputNets, outputNets}
 
 -- ---- a line ----
 
@@ -65,8 +64,8 @@ pub data After (S : Type 0) : Type 0 where
 
 -- line k: "13, a line of another length or letter, place its number, counted from 0"; "14, a write clash, place line and the lowest such
 -- memory, after the line's own check by 13 and before its outputs are printed"
-unfoldable pub lineDone : List ℕ → ℕ → Now → List ℕ → After Now
-lineDone ws k now l =
+unfoldable pub settingsLine : List ℕ → ℕ → Now → List ℕ → After Now
+settingsLine ws k now l =
     let t = settingOf ws l in
     let c = reached ws now t in
     let goes = Goes (shown ws t c) (At t c) in
@@ -103,25 +102,3 @@ traced f k s (l ∷ []) = pick (length l ≡? 0) [] (said (Refused 13 k 0))
 traced f k s (l ∷ m ∷ ls) =
     let text = continued (λ s′. traced f (suc k) s′ (m ∷ ls)) (f k s l) in
     pick (k <? 4294967295) text (said (Refused 13 k 0))
-
--- what is printed for these bytes of a trace, from line k on
-abbrev pub textFrom : List ℕ → ℕ → Now → List ℕ → List ℕ
-textFrom ws k now bytes = traced (lineDone ws) k now (pieces bytes)
-
--- ---- the program ----
-
-unfoldable pub unless : Answer → List ℕ → List ℕ
-unless Fine more = more
-unless (Refused n a b) more = said (Refused n a b)
-
--- with limits N and P, and this many memory bits at most
-unfoldable pub traceText : ℕ → ℕ → ℕ → List ℕ → List ℕ
-traceText N P most input =
-    let ws = imageOf input in
-    let printed = textFrom ws 0 Before (traceOf input) in
-    let later = refuse (unfit most ws) 12 in
-    unless (andThen (opened N P (wordsOf input)) later) printed
-
--- "This program takes netlists made with N = 1,024 and P = 2,048, and memories of at most 65,536 bits in all."
-abbrev pub program : List ℕ → List ℕ
-program input = traceText 1024 2048 65536 input

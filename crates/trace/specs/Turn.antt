@@ -74,26 +74,26 @@ goes-not stop e = rw e refl
 -- a turn of a run that goes on: some lines were taken of the bytes held, their text was printed, and some bytes came. Calls that go on from
 -- where it leaves the run are calls that go on from where it found it
 module _ (ws steps : List ℕ) (count : ℕ) (inputs outputs registers : List ℕ) (nr : ℕ) (memories : List ℕ) (nm : ℕ) where
-  pub record Turned (k : ℕ) (bytes values memory : List ℕ) (k′ : ℕ) (bytes′ values′ memory′ : List ℕ) : Type 0 where
+  pub record Turned (k : ℕ) (bytes values memory names kept : List ℕ) (k′ : ℕ) (bytes′ values′ memory′ names′ kept′ : List ℕ) : Type 0 where
     pub printed : List ℕ
     pub read : List ℕ
-    pub goes : (more t : List ℕ) → Calls ws steps count inputs outputs registers nr memories nm k′ bytes′ values′ memory′ more t
-        → Calls ws steps count inputs outputs registers nr memories nm k bytes values memory (read ++ more) (printed ++ t)
+    pub goes : (more t : List ℕ) → Calls ws steps count inputs outputs registers nr memories nm k′ bytes′ values′ memory′ names′ kept′ more t
+        → Calls ws steps count inputs outputs registers nr memories nm k bytes values memory names kept (read ++ more) (printed ++ t)
 
-module _ {ws steps : List ℕ} {count : ℕ} {inputs outputs registers : List ℕ} {nr : ℕ} {memories : List ℕ} {nm k : ℕ} {bytes values memory : List ℕ} {used at k′ : ℕ} {wait stop : Bool} {out values′ memory′ : List ℕ}
-    (r : Ran ws steps count inputs outputs registers nr memories nm k bytes values memory used at k′ wait stop out values′ memory′) (e : stop ≡ false) where
-  pub turned-on : {new : List ℕ} → drop used bytes ≡ new → Turned ws steps count inputs outputs registers nr memories nm k bytes values memory k′ new values′ memory′
+module _ {ws steps : List ℕ} {count : ℕ} {inputs outputs registers : List ℕ} {nr : ℕ} {memories : List ℕ} {nm k : ℕ} {bytes values memory names kept : List ℕ} {used at k′ : ℕ} {wait stop : Bool} {out values′ memory′ names′ kept′ : List ℕ}
+    (r : Ran ws steps count inputs outputs registers nr memories nm k bytes values memory names kept used at k′ wait stop out values′ memory′ names′ kept′) (e : stop ≡ false) where
+  pub turned-on : {new : List ℕ} → drop used bytes ≡ new → Turned ws steps count inputs outputs registers nr memories nm k bytes values memory names kept k′ new values′ memory′ names′ kept′
   turned-on q = record {
     printed = take at out;
     read = [];
-    goes = λ more t c. calls.Then (rw e at r) (subst (λ (l : List ℕ). Calls ws steps count inputs outputs registers nr memories nm k′ l values′ memory′ more t) (sym q) c);
+    goes = λ more t c. calls.Then (rw e at r) (subst (λ (l : List ℕ). Calls ws steps count inputs outputs registers nr memories nm k′ l values′ memory′ names′ kept′ more t) (sym q) c);
   }
 
-  pub turned-read : {old new : List ℕ} {k″ : ℕ} → drop used bytes ≡ old → Came old new → k″ ≡ k′ → Turned ws steps count inputs outputs registers nr memories nm k bytes values memory k″ new values′ memory′
+  pub turned-read : {old new : List ℕ} {k″ : ℕ} → drop used bytes ≡ old → Came old new → k″ ≡ k′ → Turned ws steps count inputs outputs registers nr memories nm k bytes values memory names kept k″ new values′ memory′ names′ kept′
   turned-read q m f = record {
     printed = take at out;
     read = m .some;
     goes = λ more t c. (
-        let d : Calls ws steps count inputs outputs registers nr memories nm k′ (drop used bytes ++ m .some) values′ memory′ more t = rw (q, sym (m .is), sym f) c in
+        let d : Calls ws steps count inputs outputs registers nr memories nm k′ (drop used bytes ++ m .some) values′ memory′ names′ kept′ more t = rw (q, sym (m .is), sym f) c in
         calls.Then (rw e at r) (calls.Read (m .some) more d));
   }

@@ -3,10 +3,11 @@
 // input, and that the text goes to standard output, is said here alone.
 ghost use mathlib.Core.Path.{_≡_};
 ghost use mathlib.Core.Bool.{true, not};
-ghost use Prim.Native.Nat.{_-_, _≤_, _<_};
-ghost use lib.ListN.{length, take, replicate};
+ghost use Prim.Native.Nat.{_+_, _-_, _≤_, _<_};
+ghost use lib.ListN.{length, take};
 ghost use Rattle.spec_tests.specs.Rules.{_and_};
-ghost use Rattle.trace_line.specs.Standing.{Standing};
+ghost use Rattle.trace_answer.specs.Lines.{Underway};
+ghost use Rattle.trace_open.specs.Begins.{Fresh};
 ghost use Rattle.trace.specs.Turn.{held, Came, Turned};
 use libc::STDIN_FILENO;
 use libc::STDOUT_FILENO;
@@ -108,10 +109,12 @@ fn turn(
     values: &mut [u32],
     old: &mut [u32],
     memory: &mut [u32],
+    names: &mut [u64],
+    kept: &mut [u32],
     out: &mut [u8],
 ) -> Held
-    requires { ⌜ (Standing (now net) (now steps) count (now inputs) (now outputs) (now registers) nr (now memories) nm (h .line) (now values) (now memory)) × (length (now old) ≡ length (now values)) × (h .from ≤ h .end) × (h .end ≤ length (now bytes)) × (length (now inputs) < length (now bytes)) ⌝ }
-    ensures { λ r. ⌜ (r .go ≡ true → Standing (now (net .entry)) (now (steps .entry)) count (now (inputs .entry)) (now (outputs .entry)) (now (registers .entry)) nr (now (memories .entry)) nm (r .line) (now (values .exit)) (now (memory .exit))) × (r .from ≤ r .end) × (r .end ≤ length (now (bytes .exit))) × (r .go ≡ true → Turned (now (net .entry)) (now (steps .entry)) count (now (inputs .entry)) (now (outputs .entry)) (now (registers .entry)) nr (now (memories .entry)) nm (h .line) (held (now (bytes .entry)) (h .from) (h .end)) (now (values .entry)) (now (memory .entry)) (r .line) (held (now (bytes .exit)) (r .from) (r .end)) (now (values .exit)) (now (memory .exit))) ⌝ }
+    requires { ⌜ (Underway (now net) (now steps) count (now inputs) (now outputs) (now registers) nr (now memories) nm (h .line) (now values) (now memory) (now names) (now kept)) × (length (now old) ≡ length (now values)) × (h .from ≤ h .end) × (h .end ≤ length (now bytes)) × (length (now inputs) + 13 < length (now bytes)) ⌝ }
+    ensures { λ r. ⌜ (r .go ≡ true → Underway (now (net .entry)) (now (steps .entry)) count (now (inputs .entry)) (now (outputs .entry)) (now (registers .entry)) nr (now (memories .entry)) nm (r .line) (now (values .exit)) (now (memory .exit)) (now (names .exit)) (now (kept .exit))) × (r .from ≤ r .end) × (r .end ≤ length (now (bytes .exit))) × (r .go ≡ true → Turned (now (net .entry)) (now (steps .entry)) count (now (inputs .entry)) (now (outputs .entry)) (now (registers .entry)) nr (now (memories .entry)) nm (h .line) (held (now (bytes .entry)) (h .from) (h .end)) (now (values .entry)) (now (memory .entry)) (now (names .entry)) (now (kept .entry)) (r .line) (held (now (bytes .exit)) (r .from) (r .end)) (now (values .exit)) (now (memory .exit)) (now (names .exit)) (now (kept .exit))) ⌝ }
 {
     let from = h.from;
     let end = h.end;
@@ -130,6 +133,8 @@ fn turn(
         values,
         old,
         memory,
+        names,
+        kept,
         out,
     );
     let written = io::write_all(STDOUT_FILENO, image_fields::stretch(out, 0, r.at));
@@ -160,10 +165,12 @@ fn run(
     values: &mut [u32],
     old: &mut [u32],
     memory: &mut [u32],
+    names: &mut [u64],
+    kept: &mut [u32],
     bytes: &mut [u8],
     out: &mut [u8],
 )
-    requires { ⌜ (Standing (now net) (now steps) count (now inputs) (now outputs) (now registers) nr (now memories) nm 0 (now values) (now memory)) × (length (now old) ≡ length (now values)) × (length (now inputs) < length (now bytes)) ⌝ }
+    requires { ⌜ (Underway (now net) (now steps) count (now inputs) (now outputs) (now registers) nr (now memories) nm 0 (now values) (now memory) (now names) (now kept)) × (length (now old) ≡ length (now values)) × (length (now inputs) + 13 < length (now bytes)) ⌝ }
 {
     let mut h = Held {
         from: 0,
@@ -188,6 +195,8 @@ fn run(
             values,
             old,
             memory,
+            names,
+            kept,
             out,
         );
         turns -= 1;
@@ -204,11 +213,13 @@ fn take_trace(
     registers: &[u32],
     memories: &[u32],
 )
-    requires { ⌜ (Standing (now net) (now steps) (t .steps) (take (t .inputs) (now inputs)) (take (t .outputs) (now outputs)) (now registers) (t .registers) (now memories) (t .memories) 0 (replicate 1024 0) (replicate 65536 0)) × (length (now inputs) ≤ 2048) ⌝ }
+    requires { ⌜ (Fresh (now net) (now steps) (t .steps) (take (t .inputs) (now inputs)) (take (t .outputs) (now outputs)) (now registers) (t .registers) (now memories) (t .memories)) × (length (now inputs) ≤ 2048) ⌝ }
 {
     let mut values = trace_open::value_table();
     let mut old = trace_open::value_table();
     let mut memory = trace_open::memory_table();
+    let mut names = trace_open::name_table();
+    let mut kept = trace_open::kept_table();
     let mut bytes = io::large_buffer();
     let mut out = io::large_buffer();
     run(
@@ -224,6 +235,8 @@ fn take_trace(
         &mut values,
         &mut old,
         &mut memory,
+        &mut names,
+        &mut kept,
         &mut bytes,
         &mut out,
     );

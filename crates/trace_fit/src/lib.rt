@@ -86,7 +86,7 @@ fn memories_unfit(net: &[u32], places: &[u32], count: usize) -> bool
 }
 
 // The bits of the memories at these places.
-fn memory_bits(net: &[u32], places: &[u32], count: usize) -> u64
+pub fn memory_bits(net: &[u32], places: &[u32], count: usize) -> u64
     requires { ⌜ Small (now net) (now places) count ⌝ }
     ensures { λ r. ⌜ r ≡ sumTo (bitsAt (now (net .entry)) (now (places .entry))) count ⌝ }
 {

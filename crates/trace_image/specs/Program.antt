@@ -8,7 +8,8 @@ use lib.ListN.{take}
 use Rattle.spec_tests.specs.Rules.{Fine, Refused, andThen}
 use Rattle.spec_netlist.specs.Accept.{accepts}
 use Rattle.spec_trace.specs.Opened.{wordsOf, wordCount, imageOf, traceOf, opened, unfit}
-use Rattle.spec_trace.specs.Trace.{Before, said, textFrom, unless, traceText}
+use Rattle.spec_trace.specs.Trace.{said}
+use Rattle.spec_trace.specs.Named.{begun, textFrom, unless, traceText}
 use Rattle.check_image.specs.Checked.{refuse-yes, refuse-no}
 use Rattle.law_told.specs.Told.{then-both}
 use Rattle.trace_image.specs.Headed.{headed, opened-headed}
@@ -59,6 +60,6 @@ module _ (N P most : ℕ) (input : List ℕ) where
     unfolding traceText andThen unless
     text-unfit u = rw (sym judged ∙ e, refuse-yes 12 (ap (unfit most) (sym image-is) ∙ u))
 
-    pub text-run : unfit most image ≡ false → traceText N P most input ≡ textFrom image 0 Before (traceOf input)
+    pub text-run : unfit most image ≡ false → traceText N P most input ≡ textFrom image 0 begun (traceOf input)
     unfolding traceText andThen unless
-    text-run u = rw (sym judged ∙ e, refuse-no 12 (ap (unfit most) (sym image-is) ∙ u)) (ap (λ (ws : List ℕ). textFrom ws 0 Before (traceOf input)) (sym image-is))
+    text-run u = rw (sym judged ∙ e, refuse-no 12 (ap (unfit most) (sym image-is) ∙ u)) (ap (λ (ws : List ℕ). textFrom ws 0 begun (traceOf input)) (sym image-is))

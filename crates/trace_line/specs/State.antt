@@ -22,6 +22,7 @@ use Rattle.trace_fit.specs.Fit.{bitsAt, memories-bits}
 use Rattle.trace_step.specs.Words.{baseAt, secondWords}
 use Rattle.trace_memory.specs.Ports.{PortFits, MemoryFits, MemoriesFit}
 use Rattle.trace_sim.specs.Sources.{register-at, memory-at}
+use Rattle.trace_sim.specs.Bases.{base-le}
 use Rattle.trace_sim.specs.Step.{Fit, Stored, second-in}
 
 -- the tables that are made once
@@ -70,17 +71,6 @@ map-getD (r ∷ rs) (suc i) h d = map-getD rs i (omega arith) d
 map-length : (rs : List (List ℕ)) → length (map memoryOf rs) ≡ length rs
 map-length [] = refl
 map-length (r ∷ rs) = ap suc (map-length rs)
-
-base-upto : (ws places : List ℕ) (a b : ℕ) → a ≤ b → baseAt ws places a ≤ baseAt ws places b
-base-upto ws places a b h = let m = more (b - a) in let e : baseAt ws places (a + (b - a)) ≡ baseAt ws places b = ap (baseAt ws places) (let z : a + (b - a) ≡ b = omega arith in z) in omega arith
-  where
-    more : (n : ℕ) → baseAt ws places a ≤ baseAt ws places (a + n)
-    more zero = let e : baseAt ws places a ≡ baseAt ws places (a + 0) = ap (baseAt ws places) (let z : a ≡ a + 0 = omega arith in z) in omega arith
-    more (suc n) =
-        let i = more n in
-        let m = sum-more (bitsAt ws places) (a + n) in
-        let e : baseAt ws places (a + n + 1) ≡ baseAt ws places (a + suc n) = ap (baseAt ws places) (let z : a + n + 1 ≡ a + suc n = omega arith in z) in
-        omega arith
 
 module _ {ws : List ℕ} {earlier : List (List ℕ)} {r : List ℕ} (t : MemoryTold ws earlier r) (rest : List ℕ) where
   word-of : (i : ℕ) → i < 8 → getD (r ++ rest) i 0 ≡ getD r i 0
@@ -131,5 +121,5 @@ module _ {ws steps : List ℕ} {count : ℕ} {inputs outputs registers : List �
           let n = q .count in
           let a = memory-at ws (p .ok) i (omega arith) in
           let b = subst (λ (z : List ℕ). Begins ws (getD memories i 0) z) (a .it .is) (q .at i h) in
-          subst (λ (z : List ℕ). MemoryFits z (baseAt ws memories i)) (sym (b .is)) (fits-memory (a .told) (b .rest) (baseAt ws memories i) (let m = sum-more (bitsAt ws memories) i in let t = base-total in let l = base-upto ws memories (i + 1) nm (omega arith) in
+          subst (λ (z : List ℕ). MemoryFits z (baseAt ws memories i)) (sym (b .is)) (fits-memory (a .told) (b .rest) (baseAt ws memories i) (let m = sum-more (bitsAt ws memories) i in let t = base-total in let l = base-le ws memories (i + 1) nm (omega arith) in
           let e = bits-here (a .told) (b .rest) (b .is) in omega arith))

@@ -5,11 +5,13 @@ use mathlib.Core.Path.{_≡_, refl, sym, ap, _∙_}
 use mathlib.Core.Bool.{Bool, true, false}
 use mathlib.Core.List.{List, [], _∷_, _++_}
 use lib.ListN.{length, getD, length-append}
-use Rattle.spec_tests.specs.Rules.{_<?_, _≡?_, _or_, pick, Refused}
+use Rattle.spec_tests.specs.Rules.{_<?_, _≡?_, pick, Answer, Refused}
 use Rattle.spec_tests.specs.Laws.{pick-hit, pick-skip, or-hit, eq-yes, eq-no, ne-yes, lt-yes, lt-no}
-use Rattle.law_told.specs.Told.{pick-yes, pick-no}
+use Rattle.spec_rules.specs.Listing.{text}
 use Rattle.spec_trace.specs.Opened.{inputNets}
-use Rattle.spec_trace.specs.Trace.{settingOf, wrongLine, shown, Now, At, reached, clashAt, After, Goes, Stops, lineDone, before, pieces, said, continued, traced, textFrom}
+use Rattle.spec_trace.specs.Trace.{settingOf, wrongLine, Before, Goes, Stops, before, pieces, said, continued, traced}
+use Rattle.spec_trace.specs.Named.{History, landed, joined, anyLine, textFrom}
+use Rattle.law_histories.specs.Lines.{names-short, line-wrong, settings-line}
 
 -- no byte of l ends a line
 abbrev pub Free : List ℕ → Type 0
@@ -49,77 +51,61 @@ pieces-more (b ∷ l) more f s = sym (pick-skip _ (eq-no b 10 (f 0 (omega arith)
 
 -- ---- the text ----
 
-long-wrong : (ws l : List ℕ) → length (inputNets ws) < length l → wrongLine ws l ≡ true
-unfolding wrongLine
-long-wrong ws l h = sym (or-hit _ (ne-yes _ _ (λ e. absurd (omega arith))))
+-- a line that is longer than the inputs and than a name's line
+long-wrong : (ws : List ℕ) (k : ℕ) (h : History) (l : List ℕ) → length (inputNets ws) < length l → 13 < length l → anyLine ws k h l ≡ Stops (Refused 13 k 0)
+unfolding wrongLine joined
+long-wrong ws k h l i n =
+    settings-line ws k h l (names-short (text "keep ") l n) (names-short (text "back ") l n)
+    ∙ ap (joined h (settingOf ws l)) (line-wrong ws k (landed ws Before (h .past)) l (sym (or-hit _ (ne-yes _ _ (λ e. absurd (omega arith))))))
 
-module _ (ws : List ℕ) (k : ℕ) (now : Now) where
-  -- it is answered
-  abbrev goes : List ℕ → After Now
-  goes l = Goes (shown ws (settingOf ws l) (reached ws now (settingOf ws l))) (At (settingOf ws l) (reached ws now (settingOf ws l)))
-
+module _ (ws : List ℕ) (k : ℕ) (h : History) where
   -- a line and its end
-  two : (l : List ℕ) (ps : List (List ℕ)) → Some ps → traced (lineDone ws) k now (l ∷ ps) ≡ pick (k <? 4294967295) (continued (λ n. traced (lineDone ws) (suc k) n ps) (lineDone ws k now l)) (said (Refused 13 k 0))
+  two : (l : List ℕ) (ps : List (List ℕ)) → Some ps → traced (anyLine ws) k h (l ∷ ps) ≡ pick (k <? 4294967295) (continued (λ n. traced (anyLine ws) (suc k) n ps) (anyLine ws k h l)) (said (Refused 13 k 0))
   unfolding traced
-  two l ps s = ap (λ (q : List (List ℕ)). traced (lineDone ws) k now (l ∷ q)) (s .is)
-      ∙ ap (λ (q : List (List ℕ)). pick (k <? 4294967295) (continued (λ n. traced (lineDone ws) (suc k) n q) (lineDone ws k now l)) (said (Refused 13 k 0))) (sym (s .is))
+  two l ps s = ap (λ (q : List (List ℕ)). traced (anyLine ws) k h (l ∷ q)) (s .is)
+      ∙ ap (λ (q : List (List ℕ)). pick (k <? 4294967295) (continued (λ n. traced (anyLine ws) (suc k) n q) (anyLine ws k h l)) (said (Refused 13 k 0))) (sym (s .is))
 
-  ended : (l rest : List ℕ) → Free l → textFrom ws k now (l ++ (10 ∷ rest)) ≡ pick (k <? 4294967295) (continued (λ n. textFrom ws (suc k) n rest) (lineDone ws k now l)) (said (Refused 13 k 0))
-  ended l rest f = ap (traced (lineDone ws) k now) (pieces-line l rest f) ∙ two l (pieces rest) (pieces-some rest)
+  ended : (l rest : List ℕ) → Free l → textFrom ws k h (l ++ (10 ∷ rest)) ≡ pick (k <? 4294967295) (continued (λ n. textFrom ws (suc k) n rest) (anyLine ws k h l)) (said (Refused 13 k 0))
+  ended l rest f = ap (traced (anyLine ws) k h) (pieces-line l rest f) ∙ two l (pieces rest) (pieces-some rest)
 
-  -- a line that is not refused under 13
-  right : (l : List ℕ) → wrongLine ws l ≡ false → lineDone ws k now l ≡ pick (clashAt ws now (settingOf ws l) <? 16) (Stops (Refused 14 k (clashAt ws now (settingOf ws l)))) (goes l)
-  unfolding lineDone
-  right l w = pick-no (wrongLine ws l) _ _ w
-
-  pub text-goes : (l rest : List ℕ) → Free l → k < 4294967295 → wrongLine ws l ≡ false → (clashAt ws now (settingOf ws l) <? 16) ≡ false
-      → textFrom ws k now (l ++ (10 ∷ rest)) ≡ shown ws (settingOf ws l) (reached ws now (settingOf ws l)) ++ textFrom ws (suc k) (At (settingOf ws l) (reached ws now (settingOf ws l))) rest
+  pub text-goes : (l rest : List ℕ) → Free l → k < 4294967295 → {t : List ℕ} {next : History} → anyLine ws k h l ≡ Goes t next → textFrom ws k h (l ++ (10 ∷ rest)) ≡ t ++ textFrom ws (suc k) next rest
   unfolding continued
-  text-goes l rest f h w c =
-      ended l rest f ∙ sym (pick-hit _ (lt-yes k 4294967295 h) refl)
-      ∙ ap (continued (λ n. textFrom ws (suc k) n rest)) (right l w ∙ pick-no (clashAt ws now (settingOf ws l) <? 16) _ (goes l) c)
+  text-goes l rest f i e = ended l rest f ∙ sym (pick-hit _ (lt-yes k 4294967295 i) refl) ∙ ap (continued (λ n. textFrom ws (suc k) n rest)) e
 
-  pub text-clash : (l rest : List ℕ) → Free l → k < 4294967295 → wrongLine ws l ≡ false → (clashAt ws now (settingOf ws l) <? 16) ≡ true
-      → textFrom ws k now (l ++ (10 ∷ rest)) ≡ said (Refused 14 k (clashAt ws now (settingOf ws l)))
+  pub text-stops : (l rest : List ℕ) → Free l → k < 4294967295 → {a : Answer} → anyLine ws k h l ≡ Stops a → textFrom ws k h (l ++ (10 ∷ rest)) ≡ said a
   unfolding continued
-  text-clash l rest f h w c =
-      ended l rest f ∙ sym (pick-hit _ (lt-yes k 4294967295 h) refl)
-      ∙ ap (continued (λ n. textFrom ws (suc k) n rest)) (right l w ∙ pick-yes (clashAt ws now (settingOf ws l) <? 16) _ (goes l) c)
+  text-stops l rest f i e = ended l rest f ∙ sym (pick-hit _ (lt-yes k 4294967295 i) refl) ∙ ap (continued (λ n. textFrom ws (suc k) n rest)) e
 
-  pub text-limit : (l rest : List ℕ) → Free l → 4294967295 ≤ k → textFrom ws k now (l ++ (10 ∷ rest)) ≡ said (Refused 13 k 0)
-  text-limit l rest f h = ended l rest f ∙ sym (pick-skip _ (lt-no k 4294967295 h) refl)
+  pub text-limit : (l rest : List ℕ) → Free l → 4294967295 ≤ k → textFrom ws k h (l ++ (10 ∷ rest)) ≡ said (Refused 13 k 0)
+  text-limit l rest f i = ended l rest f ∙ sym (pick-skip _ (lt-no k 4294967295 i) refl)
 
   either : (b : Bool) (x : List ℕ) → pick b x x ≡ x
   unfolding pick
   either true x = refl
   either false x = refl
 
-  pub text-wrong : (l rest : List ℕ) → Free l → wrongLine ws l ≡ true → textFrom ws k now (l ++ (10 ∷ rest)) ≡ said (Refused 13 k 0)
-  unfolding lineDone continued
-  text-wrong l rest f w =
-      ended l rest f ∙ ap (λ (x : List ℕ). pick (k <? 4294967295) x (said (Refused 13 k 0))) (ap (continued (λ n. textFrom ws (suc k) n rest))
-      (pick-yes (wrongLine ws l) (Stops (Refused 13 k 0)) _ w)) ∙ either (k <? 4294967295) (said (Refused 13 k 0))
-
-  wrong-two : (l q : List ℕ) (ps : List (List ℕ)) → length (inputNets ws) < length l → traced (lineDone ws) k now (l ∷ q ∷ ps) ≡ said (Refused 13 k 0)
-  unfolding traced lineDone continued
-  wrong-two l q ps h =
-      ap (λ (x : List ℕ). pick (k <? 4294967295) x (said (Refused 13 k 0))) (ap (continued (λ n. traced (lineDone ws) (suc k) n (q ∷ ps)))
-      (pick-yes (wrongLine ws l) (Stops (Refused 13 k 0)) _ (long-wrong ws l h)))
+  wrong-two : (l q : List ℕ) (ps : List (List ℕ)) → anyLine ws k h l ≡ Stops (Refused 13 k 0) → traced (anyLine ws) k h (l ∷ q ∷ ps) ≡ said (Refused 13 k 0)
+  unfolding traced continued
+  wrong-two l q ps e =
+      ap (λ (x : List ℕ). pick (k <? 4294967295) x (said (Refused 13 k 0))) (ap (continued (λ n. traced (anyLine ws) (suc k) n (q ∷ ps))) e)
       ∙ either (k <? 4294967295) (said (Refused 13 k 0))
 
   -- bytes without a line end at the end of the trace
-  pub text-end : (l : List ℕ) → Free l → textFrom ws k now l ≡ pick (length l ≡? 0) [] (said (Refused 13 k 0))
+  pub text-end : (l : List ℕ) → Free l → textFrom ws k h l ≡ pick (length l ≡? 0) [] (said (Refused 13 k 0))
   unfolding traced
-  text-end l f = ap (traced (lineDone ws) k now) (pieces-free l f)
+  text-end l f = ap (traced (anyLine ws) k h) (pieces-free l f)
 
   -- more bytes without a line end than a line has
-  pub text-long : (l more : List ℕ) → Free l → length (inputNets ws) < length l → textFrom ws k now (l ++ more) ≡ said (Refused 13 k 0)
+  pub text-long : (l more : List ℕ) → Free l → length (inputNets ws) < length l → 13 < length l → textFrom ws k h (l ++ more) ≡ said (Refused 13 k 0)
   unfolding traced
-  text-long l more f h = ap (traced (lineDone ws) k now) (pieces-more l more f (pieces-some more)) ∙ go (pieces-some more .rest)
+  text-long l more f i n = ap (traced (anyLine ws) k h) (pieces-more l more f (pieces-some more)) ∙ go (pieces-some more .rest)
     where
-      long : length (inputNets ws) < length (l ++ pieces-some more .first)
+      line : List ℕ
+      line = l ++ pieces-some more .first
+
+      long : length l ≤ length line
       long = let e = length-append l (pieces-some more .first) in omega arith
 
-      go : (ps : List (List ℕ)) → traced (lineDone ws) k now ((l ++ pieces-some more .first) ∷ ps) ≡ said (Refused 13 k 0)
+      go : (ps : List (List ℕ)) → traced (anyLine ws) k h (line ∷ ps) ≡ said (Refused 13 k 0)
       go [] = sym (pick-skip _ (eq-no _ 0 (λ e. absurd (let q = long in omega arith))) refl)
-      go (q ∷ ps) = wrong-two (l ++ pieces-some more .first) q ps long
+      go (q ∷ ps) = wrong-two line q ps (let z = long in long-wrong ws k h line (omega arith) (omega arith))

@@ -1,12 +1,11 @@
-// The lines of a trace as its bytes come: the first whole line among some bytes is judged, taken and answered.
+// The lines of a trace as its bytes come: the first whole line among some bytes is answered.
 ghost use mathlib.Core.Path.{_≡_};
-ghost use mathlib.Core.Bool.{true, false};
-ghost use Prim.Native.Nat.{_+_, _≤_, _<_};
+ghost use Prim.Native.Nat.{_≤_};
 ghost use lib.ListN.{length};
-ghost use Rattle.spec_tests.specs.Rules.{_<?_, _≢?_, _or_, _and_};
-ghost use Rattle.spec_trace.specs.Opened.{having};
-ghost use Rattle.trace_line.specs.Standing.{Standing};
-ghost use Rattle.trace_lines.specs.Answers.{LineEnd, Refuses, Waits, Answered};
+ghost use Rattle.spec_tests.specs.Rules.{_<?_, _and_};
+ghost use Rattle.trace_answer.specs.Settings.{Refuses};
+ghost use Rattle.trace_answer.specs.Lines.{Underway};
+ghost use Rattle.trace_lines.specs.Answers.{LineEnd, Waits, Answered};
 
 // What became of some bytes: how many are used up, where the text ends, and whether it is the last.
 pub struct Progress {
@@ -29,63 +28,36 @@ fn line_end(bytes: &[u8]) -> usize
     i
 }
 
-// A letter other than '0' and '1'.
-fn is_wrong_letter(b: u8) -> bool
-    ensures { λ r. ⌜ r ≡ (b ≢? 48 and b ≢? 49) ⌝ }
+// Bytes without a line end are more than a line has: a settings line one for each input, a keep or a back 13 at most.
+fn is_long(n: usize, inputs: usize) -> bool
+    ensures { λ r. ⌜ r ≡ (inputs <? n and 13 <? n) ⌝ }
 {
-    if b == 48 {
-        return false;
-    }
-    b != 49
-}
-
-// A line has one.
-fn has_wrong_letter(line: &[u8]) -> bool
-    ensures { λ r. ⌜ r ≡ having (λ b. b ≢? 48 and b ≢? 49) (now (line .entry)) ⌝ }
-{
-    let mut i: usize = 0;
-    while i < line.len() {
-        if is_wrong_letter(line[i]) {
-            return true;
-        }
-        i += 1;
+    if inputs < n {
+        return 13 < n;
     }
     false
 }
 
-// Line k is refused: one too many, of another length, or with another letter.
-fn is_refused(k: u32, line: &[u8], inputs: usize) -> bool
-    ensures { λ r. ⌜ r ≡ (4294967294 <? k or (length (now (line .entry)) ≢? inputs or having (λ b. b ≢? 48 and b ≢? 49) (now (line .entry)))) ⌝ }
-{
-    if 4294967294 < k {
-        return true;
-    }
-    if line.len() != inputs {
-        return true;
-    }
-    has_wrong_letter(line)
-}
-
-// Refusal n at line k and place x.
-fn refuse(out: &mut [u8], at: usize, n: u32, k: u32, x: u32) -> Progress
+// Refusal 13 at line k.
+fn refuse_line(out: &mut [u8], at: usize, k: u32) -> Progress
     requires { ⌜ at ≤ length (now out) ⌝ }
-    ensures { λ r. ⌜ Refuses n k x (now (out .entry)) at (now (out .exit)) (r .used) (r .at) (r .stop) ⌝ }
+    ensures { λ r. ⌜ (r .used ≡ 0) × Refuses 13 k 0 (now (out .entry)) at (now (out .exit)) (r .at) (r .stop) ⌝ }
 {
-    let to = listing_text::put_refusal(out, at, n, k, x);
+    let r = trace_answer::refuse(out, at, 13, k, 0);
     Progress {
         used: 0,
-        at: to,
-        stop: true,
+        at: r.at,
+        stop: r.stop,
     }
 }
 
 // No line end is there: it must still come, unless there are more bytes than a line has.
-fn wait(bytes: &[u8], inputs: usize, out: &mut [u8], at: usize, k: u32) -> Progress
+fn wait(n: usize, inputs: usize, out: &mut [u8], at: usize, k: u32) -> Progress
     requires { ⌜ at ≤ length (now out) ⌝ }
-    ensures { λ r. ⌜ Waits k (length (now (bytes .entry))) inputs (now (out .entry)) at (now (out .exit)) (r .used) (r .at) (r .stop) ⌝ }
+    ensures { λ r. ⌜ Waits k n inputs (now (out .entry)) at (now (out .exit)) (r .used) (r .at) (r .stop) ⌝ }
 {
-    if inputs < bytes.len() {
-        return refuse(out, at, 13, k, 0);
+    if is_long(n, inputs) {
+        return refuse_line(out, at, k);
     }
     Progress {
         used: 0,
@@ -110,21 +82,23 @@ pub fn next_line(
     values: &mut [u32],
     old: &mut [u32],
     memory: &mut [u32],
+    names: &mut [u64],
+    kept: &mut [u32],
     out: &mut [u8],
     at: usize,
 ) -> Progress
-    requires { ⌜ (Standing (now net) (now steps) count (now inputs) (now outputs) (now registers) nr (now memories) nm k (now values) (now memory)) × (length (now old) ≡ length (now values)) × (at ≤ length (now out)) ⌝ }
-    ensures { λ r. ⌜ Answered (now (net .entry)) (now (steps .entry)) count (now (inputs .entry)) (now (outputs .entry)) (now (registers .entry)) nr (now (memories .entry)) nm k (now (bytes .entry)) (now (out .entry)) at (now (values .entry)) (now (memory .entry)) (r .used) (r .at) (r .stop) (now (out .exit)) (now (values .exit)) (now (memory .exit)) ⌝ }
+    requires { ⌜ (Underway (now net) (now steps) count (now inputs) (now outputs) (now registers) nr (now memories) nm k (now values) (now memory) (now names) (now kept)) × (length (now old) ≡ length (now values)) × (at ≤ length (now out)) ⌝ }
+    ensures { λ r. ⌜ Answered (now (net .entry)) (now (steps .entry)) count (now (inputs .entry)) (now (outputs .entry)) (now (registers .entry)) nr (now (memories .entry)) nm k (now (bytes .entry)) (now (out .entry)) at (now (values .entry)) (now (memory .entry)) (now (names .entry)) (now (kept .entry)) (r .used) (r .at) (r .stop) (now (out .exit)) (now (values .exit)) (now (memory .exit)) (now (names .exit)) (now (kept .exit)) ⌝ }
 {
     let end = line_end(bytes);
     if end == bytes.len() {
-        return wait(bytes, inputs.len(), out, at, k);
+        return wait(bytes.len(), inputs.len(), out, at, k);
+    }
+    if 4294967294 < k {
+        return refuse_line(out, at, k);
     }
     let line = image_fields::stretch(bytes, 0, end);
-    if is_refused(k, line, inputs.len()) {
-        return refuse(out, at, 13, k, 0);
-    }
-    let clash = trace_line::take_line(
+    let r = trace_answer::any_line(
         net,
         steps,
         count,
@@ -139,14 +113,14 @@ pub fn next_line(
         values,
         old,
         memory,
+        names,
+        kept,
+        out,
+        at,
     );
-    if clash < 16 {
-        return refuse(out, at, 14, k, clash);
-    }
-    let to = trace_line::print_nets(outputs, values, out, at);
     Progress {
         used: end + 1,
-        at: to,
-        stop: false,
+        at: r.at,
+        stop: r.stop,
     }
 }

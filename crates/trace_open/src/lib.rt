@@ -50,6 +50,20 @@ pub fn memory_table() -> [u32; 65536]
     [0; 65536]
 }
 
+// Four names: the number of each, 0 where a place is free.
+pub fn name_table() -> [u64; 4]
+    ensures { λ r. ⌜ r ≡ replicate 4 0 ⌝ }
+{
+    [0; 4]
+}
+
+// Four moments of a run: a word for each net and each memory bit.
+pub fn kept_table() -> [u32; 266240]
+    ensures { λ r. ⌜ 266240 ≡ length r ⌝ }
+{
+    [0; 266240]
+}
+
 // How many words the image has that these bytes begin with, by its first sixteen; net is lent.
 pub fn words_by_header(input: &[u8], net: &mut [u32]) -> usize
     requires { ⌜ 8208 ≤ length (now net) ⌝ }

@@ -10,7 +10,7 @@ use Rattle.spec_tests.specs.Rules.{_≡?_, pick, Refused}
 use Rattle.spec_tests.specs.Laws.{pick-hit, pick-skip, eq-yes, eq-no}
 use Rattle.spec_trace.specs.Trace.{said}
 use Rattle.listing_text.specs.Text.{Wrote, wrote-none, wrote-same, refusalText}
-use Rattle.trace_lines.specs.Answers.{said-is}
+use Rattle.trace_answer.specs.Settings.{said-is}
 
 -- ---- the input's end ----
 

@@ -8,13 +8,14 @@ use lib.ListN.{length, take, drop, length-take, length-append, length-drop}
 use Rattle.spec_tests.specs.Rules.{_<?_}
 use Rattle.spec_tests.specs.Laws.{no-lt}
 use lib.Seq.{take-all, drop-drop}
-use Rattle.spec_trace.specs.Trace.{Now, textFrom}
+use Rattle.spec_trace.specs.Named.{History, textFrom}
 use Rattle.law_told.specs.Told.{untrue}
 use Rattle.listing_text.specs.Text.{Wrote, refusalText}
 use Rattle.listing_whole.specs.Whole.{refusal}
 use Rattle.listing_whole.specs.Length.{refusal-short}
-use Rattle.trace_line.specs.State.{Prepared, Holds}
-use Rattle.trace_line.specs.Standing.{Standing}
+use Rattle.trace_line.specs.State.{Prepared}
+use Rattle.trace_keep.specs.Slots.{Follows}
+use Rattle.trace_answer.specs.Lines.{Underway}
 use Rattle.trace_lines.specs.Pieces.{Free}
 use Rattle.trace_lines.specs.Answers.{Answered}
 
@@ -36,88 +37,88 @@ wrote-room {o} {t} {o′} {at} w h =
 pub refusal-few : (n k x : ℕ) → n < 4294967296 → k < 4294967296 → x < 4294967296 → length (refusalText n k x) ≤ 41
 refusal-few n k x l h g = let e = ap length (refusal n k x [] []) in let s = refusal-short n k x [] [] l h g in omega arith
 
-module _ (ws steps : List ℕ) (count : ℕ) (inputs outputs registers : List ℕ) (nr : ℕ) (memories : List ℕ) (nm k : ℕ) (bytes values memory : List ℕ) where
+module _ (ws steps : List ℕ) (count : ℕ) (inputs outputs registers : List ℕ) (nr : ℕ) (memories : List ℕ) (nm k : ℕ) (bytes values memory names kept : List ℕ) where
   -- from where the run stands on: the text of the lines taken, and where it then stands; where it stops, that is all
-  pub record Told (p : Prepared ws steps count inputs outputs registers nr memories nm) (n : Now) (used k′ : ℕ) (text : List ℕ) (stop : Bool) (values′ memory′ : List ℕ) : Type 0 where
-    pub next : Now
-    pub stops : stop ≡ true → (more : List ℕ) → textFrom ws k n (bytes ++ more) ≡ text
-    pub goes : stop ≡ false → (more : List ℕ) → textFrom ws k n (bytes ++ more) ≡ text ++ textFrom ws k′ next (drop used bytes ++ more)
-    pub holds : stop ≡ false → Holds ws (p .ok) memories k′ next values′ memory′
+  pub record Told (p : Prepared ws steps count inputs outputs registers nr memories nm) (h : History) (used k′ : ℕ) (text : List ℕ) (stop : Bool) (values′ memory′ names′ kept′ : List ℕ) : Type 0 where
+    pub next : History
+    pub stops : stop ≡ true → (more : List ℕ) → textFrom ws k h (bytes ++ more) ≡ text
+    pub goes : stop ≡ false → (more : List ℕ) → textFrom ws k h (bytes ++ more) ≡ text ++ textFrom ws k′ next (drop used bytes ++ more)
+    pub follows : stop ≡ false → Follows ws (p .ok) memories k′ next values′ memory′ names′ kept′
 
-  pub record Ran (used at k′ : ℕ) (wait stop : Bool) (out values′ memory′ : List ℕ) : Type 0 where
+  pub record Ran (used at k′ : ℕ) (wait stop : Bool) (out values′ memory′ names′ kept′ : List ℕ) : Type 0 where
     pub upTo : used ≤ length bytes
     pub place : at ≤ length out
-    pub says : (p : Prepared ws steps count inputs outputs registers nr memories nm) (n : Now) → Holds ws (p .ok) memories k n values memory → Told p n used k′ (take at out) stop values′ memory′
-    pub waits : wait ≡ true → Free (drop used bytes) × (length (drop used bytes) ≤ length inputs)
-    pub standing : stop ≡ false → Standing ws steps count inputs outputs registers nr memories nm k′ values′ memory′
+    pub says : (p : Prepared ws steps count inputs outputs registers nr memories nm) (h : History) → Follows ws (p .ok) memories k h values memory names kept → Told p h used k′ (take at out) stop values′ memory′ names′ kept′
+    pub waits : wait ≡ true → Free (drop used bytes) × (length (drop used bytes) ≤ length inputs + 13)
+    pub underway : stop ≡ false → Underway ws steps count inputs outputs registers nr memories nm k′ values′ memory′ names′ kept′
 
-module _ {ws steps : List ℕ} {count : ℕ} {inputs outputs registers : List ℕ} {nr : ℕ} {memories : List ℕ} {nm k : ℕ} {bytes values memory : List ℕ} where
+module _ {ws steps : List ℕ} {count : ℕ} {inputs outputs registers : List ℕ} {nr : ℕ} {memories : List ℕ} {nm k : ℕ} {bytes values memory names kept : List ℕ} where
   -- nothing is taken yet
-  pub ran-start : (out : List ℕ) → Standing ws steps count inputs outputs registers nr memories nm k values memory → Ran ws steps count inputs outputs registers nr memories nm k bytes values memory 0 0 k false false out values memory
+  pub ran-start : (out : List ℕ) → Underway ws steps count inputs outputs registers nr memories nm k values memory names kept → Ran ws steps count inputs outputs registers nr memories nm k bytes values memory names kept 0 0 k false false out values memory names kept
   ran-start out x = record {
     upTo = omega arith;
     place = omega arith;
-    says = λ p n h. record { next = n; stops = λ e. untrue e; goes = λ e more. refl; holds = λ e. h };
+    says = λ p h f. record { next = h; stops = λ e. untrue e; goes = λ e more. refl; follows = λ e. f };
     waits = λ e. untrue e;
-    standing = λ e. x;
+    underway = λ e. x;
   }
 
-  module _ {used at k₁ : ℕ} {out values₁ memory₁ : List ℕ} (r : Ran ws steps count inputs outputs registers nr memories nm k bytes values memory used at k₁ false false out values₁ memory₁)
-      {u to : ℕ} {stop : Bool} {rest out′ values₂ memory₂ : List ℕ} (er : rest ≡ drop used bytes)
-      (a : Answered ws steps count inputs outputs registers nr memories nm k₁ rest out at values₁ memory₁ u to stop out′ values₂ memory₂) (room : at + length outputs + 42 ≤ length out) where
+  module _ {used at k₁ : ℕ} {out values₁ memory₁ names₁ kept₁ : List ℕ} (r : Ran ws steps count inputs outputs registers nr memories nm k bytes values memory names kept used at k₁ false false out values₁ memory₁ names₁ kept₁)
+      {u to : ℕ} {stop : Bool} {rest out′ values₂ memory₂ names₂ kept₂ : List ℕ} (er : rest ≡ drop used bytes)
+      (a : Answered ws steps count inputs outputs registers nr memories nm k₁ rest out at values₁ memory₁ names₁ kept₁ u to stop out′ values₂ memory₂ names₂ kept₂) (room : at + length outputs + 42 ≤ length out) where
     behind : (more : List ℕ) → rest ++ more ≡ drop used bytes ++ more
     behind more = ap (λ (l : List ℕ). l ++ more) er
 
-    pub ran-stops : stop ≡ true → k₁ < 4294967296 → Ran ws steps count inputs outputs registers nr memories nm k bytes values memory used to k₁ false true out′ values₂ memory₂
+    pub ran-stops : stop ≡ true → k₁ < 4294967296 → Ran ws steps count inputs outputs registers nr memories nm k bytes values memory names kept used to k₁ false true out′ values₂ memory₂ names₂ kept₂
     ran-stops e small = record {
       upTo = r .upTo;
       place = a .place;
-      says = λ p n h. (
-          let t = r .says p n h in
+      says = λ p h f. (
+          let t = r .says p h f in
           record {
-            next = n;
-            stops = λ f more. t .goes refl more ∙ ap (λ (l : List ℕ). take at out ++ textFrom ws k₁ (t .next) l) (sym (behind more))
-                ∙ ap (λ (l : List ℕ). take at out ++ l) (a .stops e .says p (t .next) (t .holds refl) more)
+            next = h;
+            stops = λ g more. t .goes refl more ∙ ap (λ (l : List ℕ). take at out ++ textFrom ws k₁ (t .next) l) (sym (behind more))
+                ∙ ap (λ (l : List ℕ). take at out ++ l) (a .stops e .says p (t .next) (t .follows refl) more)
                 ∙ sym (wrote-room (a .stops e .wrote) (let q = a .stops e .small in let f = refusal-few (a .stops e .number) k₁ (a .stops e .place) (q .0) small (q .1) in omega arith));
-            goes = λ f. untrue (sym f);
-            holds = λ f. untrue (sym f);
+            goes = λ g. untrue (sym g);
+            follows = λ g. untrue (sym g);
           });
       waits = λ f. untrue f;
-      standing = λ f. untrue (sym f);
+      underway = λ f. untrue (sym f);
     }
 
-    pub ran-waits : stop ≡ false → u ≡ 0 → Ran ws steps count inputs outputs registers nr memories nm k bytes values memory used to k₁ true false out′ values₂ memory₂
+    pub ran-waits : stop ≡ false → u ≡ 0 → Ran ws steps count inputs outputs registers nr memories nm k bytes values memory names kept used to k₁ true false out′ values₂ memory₂ names₂ kept₂
     ran-waits e z =
         let w = a .waits e z in
         record {
           upTo = r .upTo;
           place = a .place;
-          says = λ p n h. rw (w .0 .0, w .0 .1, w .1 .1 .0, w .1 .1 .1) (r .says p n h);
-          waits = λ f. (subst Free er (w .1 .0 .0), (let l = w .1 .0 .1 in let n = ap length er in let i = ap length (r .standing refl .prepared .inputs-are) in omega arith));
-          standing = λ f. rw (w .1 .1 .0, w .1 .1 .1) (r .standing f);
+          says = λ p h f. rw (w .0 .0, w .0 .1, w .1 .1 .0 .0, w .1 .1 .0 .1, w .1 .1 .1 .0, w .1 .1 .1 .1) (r .says p h f);
+          waits = λ f. (subst Free er (w .1 .0 .0), (let l = w .1 .0 .1 in let n = ap length er in let i = ap length (r .underway refl .prepared .inputs-are) in omega arith));
+          underway = λ f. rw (w .1 .1 .0 .0, w .1 .1 .0 .1, w .1 .1 .1 .0, w .1 .1 .1 .1) (r .underway f);
         }
 
     pub stopped-waits : stop ≡ false → u ≡ 0 → {b : Bool} → b ≡ roomy out at (length outputs) → b ≡ true → Stopped out′ to (length outputs) true false
     stopped-waits e z q t f = let w = a .waits e z in sym t ∙ q ∙ rw (w .0 .0, w .0 .1) refl
 
-    pub ran-goes : stop ≡ false → 0 < u → Ran ws steps count inputs outputs registers nr memories nm k bytes values memory (used + u) to (k₁ + 1) false false out′ values₂ memory₂
+    pub ran-goes : stop ≡ false → 0 < u → Ran ws steps count inputs outputs registers nr memories nm k bytes values memory names kept (used + u) to (k₁ + 1) false false out′ values₂ memory₂ names₂ kept₂
     ran-goes e b = record {
       upTo = (let z = a .upTo in let y = ap length er in let d = length-drop used bytes in let q = r .upTo in omega arith);
       place = a .place;
-      says = λ p n h. (
-          let t = r .says p n h in
-          let g = a .goes e b p (t .next) (t .holds refl) in
+      says = λ p h f. (
+          let t = r .says p h f in
+          let g = a .goes e b p (t .next) (t .follows refl) in
           record {
             next = g .next;
-            stops = λ f. untrue f;
-            goes = λ f more. t .goes refl more ∙ ap (λ (l : List ℕ). take at out ++ textFrom ws k₁ (t .next) l) (sym (behind more)) ∙ ap (λ (l : List ℕ). take at out ++ l) (g .says more)
+            stops = λ q. untrue q;
+            goes = λ q more. t .goes refl more ∙ ap (λ (l : List ℕ). take at out ++ textFrom ws k₁ (t .next) l) (sym (behind more)) ∙ ap (λ (l : List ℕ). take at out ++ l) (g .says more)
                 ∙ sym (append-assoc (take at out) (g .text) (textFrom ws (k₁ + 1) (g .next) (drop u rest ++ more)))
                 ∙ ap (λ (l : List ℕ). l ++ textFrom ws (k₁ + 1) (g .next) (drop u rest ++ more)) (sym (wrote-room (g .wrote) (let s = g .short in let o = ap length (p .outputs-are) in omega arith)))
                 ∙ ap (λ (l : List ℕ). take to out′ ++ textFrom ws (k₁ + 1) (g .next) (l ++ more)) (ap (drop u) er ∙ drop-drop u used bytes);
-            holds = λ f. g .holds;
+            follows = λ q. g .follows;
           });
       waits = λ f. untrue f;
-      standing = λ f. a .standing e b;
+      underway = λ f. a .underway e b;
     }
 
 -- the bytes that are left

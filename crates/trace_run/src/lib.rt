@@ -4,7 +4,7 @@ ghost use mathlib.Core.Bool.{not};
 ghost use Prim.Native.Nat.{_+_, _≤_};
 ghost use lib.ListN.{length, take, drop};
 ghost use Rattle.spec_tests.specs.Rules.{_<?_};
-ghost use Rattle.trace_line.specs.Standing.{Standing};
+ghost use Rattle.trace_answer.specs.Lines.{Underway};
 ghost use Rattle.listing_text.specs.Text.{Wrote};
 ghost use Rattle.trace_run.specs.Ran.{roomy, Ran, Stopped};
 ghost use Rattle.trace_run.specs.Held.{endText};
@@ -49,10 +49,12 @@ pub fn take_lines(
     values: &mut [u32],
     old: &mut [u32],
     memory: &mut [u32],
+    names: &mut [u64],
+    kept: &mut [u32],
     out: &mut [u8],
 ) -> Run
-    requires { ⌜ (Standing (now net) (now steps) count (now inputs) (now outputs) (now registers) nr (now memories) nm k (now values) (now memory)) × (length (now old) ≡ length (now values)) ⌝ }
-    ensures { λ r. ⌜ Ran (now (net .entry)) (now (steps .entry)) count (now (inputs .entry)) (now (outputs .entry)) (now (registers .entry)) nr (now (memories .entry)) nm k (now (bytes .entry)) (now (values .entry)) (now (memory .entry)) (r .used) (r .at) (r .line) (r .wait) (r .stop) (now (out .exit)) (now (values .exit)) (now (memory .exit)) × Stopped (now (out .exit)) (r .at) (length (now (outputs .entry))) (r .wait) (r .stop) ⌝ }
+    requires { ⌜ (Underway (now net) (now steps) count (now inputs) (now outputs) (now registers) nr (now memories) nm k (now values) (now memory) (now names) (now kept)) × (length (now old) ≡ length (now values)) ⌝ }
+    ensures { λ r. ⌜ Ran (now (net .entry)) (now (steps .entry)) count (now (inputs .entry)) (now (outputs .entry)) (now (registers .entry)) nr (now (memories .entry)) nm k (now (bytes .entry)) (now (values .entry)) (now (memory .entry)) (now (names .entry)) (now (kept .entry)) (r .used) (r .at) (r .line) (r .wait) (r .stop) (now (out .exit)) (now (values .exit)) (now (memory .exit)) (now (names .exit)) (now (kept .exit)) × Stopped (now (out .exit)) (r .at) (length (now (outputs .entry))) (r .wait) (r .stop) ⌝ }
 {
     let mut used: usize = 0;
     let mut at: usize = 0;
@@ -73,6 +75,8 @@ pub fn take_lines(
             values,
             old,
             memory,
+            names,
+            kept,
             out,
             at,
         );

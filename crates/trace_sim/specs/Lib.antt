@@ -5,5 +5,6 @@ pub mod Registers
 pub mod Laid
 pub mod Accesses
 pub mod Memories
+pub mod Bases
 pub mod Step
 pub mod Inputs

@@ -13,7 +13,7 @@ use borrow.Author.Tests.{lt-ltb, le-ltb}
 use lib.ListN.{length, drop, getD, set, length-drop, List·getD-append}
 use Rattle.spec_rtl.specs.Word.{bit}
 use Rattle.spec_tests.specs.Rules.{_≡?_, _or_, pick, Fine}
-use Rattle.spec_tests.specs.Laws.{or-no, no-ne, eq-yes, eq-no, yes-eq, no-eq, sum-more}
+use Rattle.spec_tests.specs.Laws.{or-no, no-ne, eq-yes, eq-no, yes-eq, no-eq}
 use Rattle.spec_rules.specs.NetlistImage as N
 use Rattle.spec_rules.specs.NetlistImage.{nodeWord, portLength, recordsWith, memoryPortOf, memoryOf, netlist}
 use Rattle.spec_rules.specs.Step.{Setting, Contents, Access, perhaps, act, net, netAccess, netAccesses, dataWidth, memoryBit, readNext, writeNext, dataNext, wordsNext, ofNetlist}
@@ -32,7 +32,6 @@ use Rattle.trace_walk.specs.Places.{Begins, Places}
 use Rattle.trace_pass.specs.Plan.{size, Loaded, Valued}
 use Rattle.trace_pass.specs.Steps.{size-is}
 use Rattle.trace_plan.specs.Kinds.{is-source}
-use Rattle.trace_fit.specs.Fit.{bitsAt}
 use Rattle.trace_step.specs.Words.{registerBit, registerDone, registersDone, portRead, portWritten, secondWords, memoryRead, memoryWritten, baseAt, memoriesRead, memoriesWritten}
 use Rattle.trace_sim.specs.Moves.{Moves, moves-none, moves-then, moves-set}
 use Rattle.trace_sim.specs.Sources.{input-net, memory-net, register-at, memory-at, find-memory}
@@ -40,6 +39,7 @@ use Rattle.trace_sim.specs.Registers.{Inputs, register-wanted}
 use Rattle.trace_sim.specs.Accesses.{data-length, data-at}
 use Rattle.trace_sim.specs.Memories.{Rows, port-read, port-written, Written}
 use Rattle.trace_sim.specs.Laid.{row-before}
+use Rattle.trace_sim.specs.Bases.{base-le, base-next}
 
 -- ---- records as they are read at their places ----
 
@@ -337,33 +337,6 @@ module _ (ws : List ℕ) (ok : accepts ws ≡ Fine) (fit : Fit ws ok) (s t : Set
 
     -- ---- what memories write ----
 
-    base-mono : (places : List ℕ) (a n : ℕ) → baseAt ws places a ≤ baseAt ws places (a + n)
-    base-mono places a zero = let e : baseAt ws places a ≡ baseAt ws places (a + 0) = ap (baseAt ws places) (let z : a ≡ a + 0 = omega arith in z) in omega arith
-    base-mono places a (suc n) =
-        let i = base-mono places a n in
-        let m = sum-more (bitsAt ws places) (a + n) in
-        let e : baseAt ws places (a + n + 1) ≡ baseAt ws places (a + suc n) = ap (baseAt ws places) (let z : a + n + 1 ≡ a + suc n = omega arith in z) in
-        omega arith
-
-    base-le : (places : List ℕ) (a b : ℕ) → a ≤ b → baseAt ws places a ≤ baseAt ws places b
-    base-le places a b n = let m = base-mono places a (b - a) in let e : baseAt ws places (a + (b - a)) ≡ baseAt ws places b = ap (baseAt ws places) (let z : a + (b - a) ≡ b = omega arith in z) in omega arith
-
-    module _ {places : List ℕ} {count : ℕ} (p : Places ws 2 places count) where
-      -- the bits of memory m, read at its place
-      bits-are : (m : ℕ) (l : m < length (recordsWith 2 ws)) → bitsAt ws places m ≡ getD (memory-at ws ok m l .it .r) 2 0 * getD (memory-at ws ok m l .it .r) 7 0
-      bits-are m l =
-          let a = memory-at ws ok m l in
-          let q = p .count in
-          let b = subst (λ (z : List ℕ). Begins ws (getD places m 0) z) (a .it .is) (p .at m (omega arith)) in
-          let n = own-length (drop 6 (a .it .r)) in
-          let d = length-drop 6 (a .it .r) in
-          let o = a .told .first .long in
-          ap (λ (z : List ℕ). getD z 2 0 * getD z 7 0) (b .is) ∙ ap (λ (z : ℕ). z * getD (a .it .r ++ b .rest) 7 0) (List·getD-append (a .it .r) (b .rest) 0 2 (omega arith))
-          ∙ ap (λ (z : ℕ). getD (a .it .r) 2 0 * z) (List·getD-append (a .it .r) (b .rest) 0 7 (omega arith))
-
-      pub base-next : (m : ℕ) (l : m < length (recordsWith 2 ws)) → baseAt ws places m + getD (memory-at ws ok m l .it .r) 2 0 * getD (memory-at ws ok m l .it .r) 7 0 ≡ baseAt ws places (m + 1)
-      base-next m l = let e = bits-are m l in let f = sum-more (bitsAt ws places) m in omega arith
-
     -- one memory
     pub record MemoryIs (m : ℕ) (l : m < length (recordsWith 2 ws)) (base : ℕ) (mem mem′ : List ℕ) : Type 0 where
       pub long : length mem′ ≡ length mem
@@ -449,8 +422,8 @@ module _ (ws : List ℕ) (ok : accepts ws ≡ Fine) (fit : Fit ws ok) (s t : Set
             let a = memory-at ws ok i l in
             let d = subst (λ (z : List ℕ). Begins ws (getD places i 0) z) (a .it .is) (p .at i (omega arith)) in
             let q = ih .long in
-            let z = base-next p i l in
-            let f = base-le places (i + 1) count (omega arith) in
+            let z = base-next ws ok p i l in
+            let f = base-le ws places (i + 1) count (omega arith) in
             let k = memory-written i l y (baseAt ws places i) w (ih .old i l (omega arith)) (omega arith) in
             let e : memoryWritten (baseAt ws places i) (drop (getD places i 0) ws) v n w ≡ memoryWritten (baseAt ws places i) (a .it .r) v n w =
             ap (λ (z : List ℕ). memoryWritten (baseAt ws places i) z v n w) (d .is) ∙ written-cut (a .told) (d .rest) (baseAt ws places i) v n w in
@@ -459,15 +432,15 @@ module _ (ws : List ℕ) (ok : accepts ws ≡ Fine) (fit : Fit ws ok) (s t : Set
               new = λ m lm km. elim (decLt m i) [
                 | yes o ↦ record {
                   at = λ x j hx hj. (
-                      let g₁ = base-next p m lm in
-                      let g₂ = base-le places (m + 1) i (omega arith) in
+                      let g₁ = base-next ws ok p m lm in
+                      let g₂ = base-le ws places (m + 1) i (omega arith) in
                       let g₃ = row-before x (getD (memory-at ws ok m lm .it .r) 2 0) (getD (memory-at ws ok m lm .it .r) 7 0) j hx hj in
                       k .below _ (omega arith) ∙ ih .new m lm o .at x j hx hj);
                 }
                 | no o ↦ here m i lm l (omega arith) (memoryWritten (baseAt ws places i) (a .it .r) v n w) (k .rows)
               ];
               old = λ m lm km. record {
-                at = λ x j hx hj. (let g₂ = base-le places (i + 1) m (omega arith) in k .above _ (omega arith) ∙ ih .old m lm (omega arith) .at x j hx hj);
+                at = λ x j hx hj. (let g₂ = base-le ws places (i + 1) m (omega arith) in k .above _ (omega arith) ∙ ih .old m lm (omega arith) .at x j hx hj);
               };
             })
           where

@@ -4,19 +4,19 @@ use native.Mathlib.Omega.{arith}
 use mathlib.Core.Path.{_≡_, refl, sym, ap, _∙_}
 use mathlib.Core.Bool.{Bool, true, false, not}
 use mathlib.Core.List.{List, [], _++_, append-nil}
-use lib.ListN.{length, take, drop, getD, replicate, length-drop, take-append-drop, drop-of-length-le}
+use lib.ListN.{length, take, drop, getD, length-drop, take-append-drop, drop-of-length-le}
 use Rattle.spec_tests.specs.Rules.{Refused, pick, _≡?_}
 use Rattle.spec_tests.specs.Laws.{lt-no}
-use Rattle.spec_trace.specs.Trace.{Before, said, textFrom}
+use Rattle.spec_trace.specs.Trace.{said}
+use Rattle.spec_trace.specs.Named.{begun, textFrom}
 use Rattle.law_told.specs.Told.{untrue}
 use Rattle.listing_text.specs.Text.{Wrote, refusalText}
-use Rattle.trace_line.specs.Standing.{Standing}
-use Rattle.trace_lines.specs.Answers.{said-is}
+use Rattle.trace_answer.specs.Settings.{said-is}
+use Rattle.trace_answer.specs.Lines.{Underway}
 use Rattle.trace_run.specs.Ran.{Ran, Stopped, wrote-room, room-there, refusal-few}
 use Rattle.trace_run.specs.Held.{endText}
-use Rattle.trace_open.specs.Begins.{zeros}
 use Rattle.trace_run.specs.Calls as calls
-use Rattle.trace_run.specs.Calls.{trace-text}
+use Rattle.trace_run.specs.Calls.{follows-start, trace-text}
 
 -- the first r bytes of the buffer o begin the text t, and are all of it where the buffer has this many more
 pub record Begins (spare : ℕ) (t o : List ℕ) (r : ℕ) : Type 0 where
@@ -58,36 +58,33 @@ end-few left k h = go (left ≡? 0)
     go true = omega arith
     go false = let e = ap length (said-is 13 k 0) in let f = refusal-few 13 k 0 (omega arith) h (omega arith) in omega arith
 
-pub zero-at : {v : List ℕ} (n : ℕ) → v ≡ replicate n 0 → (j : ℕ) → getD v j 0 ≡ 0
-zero-at n e j = ap (λ (l : List ℕ). getD l j 0) e ∙ zeros n j
+module _ {ws steps : List ℕ} {count : ℕ} {inputs outputs registers : List ℕ} {nr : ℕ} {memories : List ℕ} {nm : ℕ} {v m n kept : List ℕ} (x : Underway ws steps count inputs outputs registers nr memories nm 0 v m n kept)
+    (zv : (j : ℕ) → getD v j 0 ≡ 0) (zm : (j : ℕ) → getD m j 0 ≡ 0) (zn : (j : ℕ) → getD n j 0 ≡ 0) (trace : List ℕ) where
+  all-bytes : {t : List ℕ} → calls.Calls ws steps count inputs outputs registers nr memories nm 0 [] v m n kept (trace ++ []) t → textFrom ws 0 begun trace ≡ t
+  all-bytes c = sym (ap (textFrom ws 0 begun) (append-nil trace)) ∙ trace-text ws steps count inputs outputs registers nr memories nm (x .prepared) zv zm zn c
 
-module _ {ws steps : List ℕ} {count : ℕ} {inputs outputs registers : List ℕ} {nr : ℕ} {memories : List ℕ} {nm : ℕ} {v m : List ℕ} (x : Standing ws steps count inputs outputs registers nr memories nm 0 v m)
-    (zv : (j : ℕ) → getD v j 0 ≡ 0) (zm : (j : ℕ) → getD m j 0 ≡ 0) (trace : List ℕ) where
-  all-bytes : {t : List ℕ} → calls.Calls ws steps count inputs outputs registers nr memories nm 0 [] v m (trace ++ []) t → textFrom ws 0 Before trace ≡ t
-  all-bytes c = sym (ap (textFrom ws 0 Before) (append-nil trace)) ∙ trace-text ws steps count inputs outputs registers nr memories nm (x .prepared) zv zm c
-
-  module _ {used at k : ℕ} {wait stop : Bool} {out v′ m′ : List ℕ} (r : Ran ws steps count inputs outputs registers nr memories nm 0 trace v m used at k wait stop out v′ m′ × Stopped out at (length outputs) wait stop) where
+  module _ {used at k : ℕ} {wait stop : Bool} {out v′ m′ n′ kept′ : List ℕ} (r : Ran ws steps count inputs outputs registers nr memories nm 0 trace v m n kept used at k wait stop out v′ m′ n′ kept′ × Stopped out at (length outputs) wait stop) where
     -- the text was the last
-    pub lines-last : stop ≡ true → Begins (length outputs + 42) (textFrom ws 0 Before trace) out at
+    pub lines-last : stop ≡ true → Begins (length outputs + 42) (textFrom ws 0 begun trace) out at
     lines-last e = begins-whole (r .0 .place) (all-bytes (calls.Read trace [] (calls.Last (rw e at (r .0)))))
 
     -- no more bytes come
     pub lines-wait : stop ≡ false → wait ≡ true → (left : ℕ) → left ≡ length trace - used → k < 4294967296 → {out′ : List ℕ} {to : ℕ} → Wrote out at (endText left k) out′ to
-        → Begins (length outputs + 42) (textFrom ws 0 Before trace) out′ to
+        → Begins (length outputs + 42) (textFrom ws 0 begun trace) out′ to
     lines-wait e f left q h w =
         let room = room-there (r .1 e) f in
         let d = length-drop used trace in
-        let n : length (drop used trace) ≡ left = omega arith in
-        begins-whole (w .upto) (all-bytes (calls.Read trace [] (calls.Then (rw e at (r .0)) (calls.End (r .0 .waits f .0)))) ∙ ap (λ (j : ℕ). take at out ++ endText j k) n
-        ∙ sym (wrote-room w (let z = end-few left k h in omega arith)))
+        let z : length (drop used trace) ≡ left = omega arith in
+        begins-whole (w .upto) (all-bytes (calls.Read trace [] (calls.Then (rw e at (r .0)) (calls.End (r .0 .waits f .0)))) ∙ ap (λ (j : ℕ). take at out ++ endText j k) z
+        ∙ sym (wrote-room w (let y = end-few left k h in omega arith)))
 
     -- there is no room for more
-    pub lines-cut : stop ≡ false → wait ≡ false → Begins (length outputs + 42) (textFrom ws 0 Before trace) out at
+    pub lines-cut : stop ≡ false → wait ≡ false → Begins (length outputs + 42) (textFrom ws 0 begun trace) out at
     lines-cut e f =
-        let t = r .0 .says (x .prepared) Before (refl, (zv, zm)) in
+        let t = r .0 .says (x .prepared) begun (follows-start ws steps count inputs outputs registers nr memories nm (x .prepared .ok) zv zm zn kept) in
         record {
           upto = r .0 .place;
           rest = textFrom ws k (t .next) (drop used trace ++ []);
-          is = sym (ap (textFrom ws 0 Before) (append-nil trace)) ∙ t .goes e [];
+          is = sym (ap (textFrom ws 0 begun) (append-nil trace)) ∙ t .goes e [];
           whole = λ l. untrue (sym f ∙ r .1 e ∙ ap not (lt-no (length out) (at + length outputs + 42) (omega arith)));
         }

@@ -1,8 +1,8 @@
 // The trace program's text for an input in memory, in a lent buffer. It is whole where the buffer has 2,090 bytes to spare; else its start.
 ghost use Prim.Native.Nat.{_+_};
-ghost use lib.ListN.{length, replicate};
-ghost use Rattle.spec_trace.specs.Trace.{Before, textFrom, program};
-ghost use Rattle.trace_line.specs.Standing.{Standing};
+ghost use lib.ListN.{length};
+ghost use Rattle.spec_trace.specs.Named.{begun, textFrom, program};
+ghost use Rattle.trace_open.specs.Begins.{Fresh};
 ghost use Rattle.trace_text.specs.Begins.{Begins};
 ghost use Rattle.trace_text.specs.Input.{judgedText};
 use trace_open::Opened;
@@ -21,12 +21,14 @@ fn lines_text(
     trace: &[u8],
     out: &mut [u8],
 ) -> usize
-    requires { ⌜ Standing (now net) (now steps) count (now inputs) (now outputs) (now registers) nr (now memories) nm 0 (replicate 1024 0) (replicate 65536 0) ⌝ }
-    ensures { λ r. ⌜ Begins (length (now (outputs .entry)) + 42) (textFrom (now (net .entry)) 0 Before (now (trace .entry))) (now (out .exit)) r ⌝ }
+    requires { ⌜ Fresh (now net) (now steps) count (now inputs) (now outputs) (now registers) nr (now memories) nm ⌝ }
+    ensures { λ r. ⌜ Begins (length (now (outputs .entry)) + 42) (textFrom (now (net .entry)) 0 begun (now (trace .entry))) (now (out .exit)) r ⌝ }
 {
     let mut values = trace_open::value_table();
     let mut old = trace_open::value_table();
     let mut memory = trace_open::memory_table();
+    let mut names = trace_open::name_table();
+    let mut kept = trace_open::kept_table();
     let r = trace_run::take_lines(
         net,
         steps,
@@ -42,6 +44,8 @@ fn lines_text(
         &mut values,
         &mut old,
         &mut memory,
+        &mut names,
+        &mut kept,
         out,
     );
     if r.stop {

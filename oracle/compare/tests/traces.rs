@@ -7,6 +7,7 @@ use compare::plan::Plan;
 use compare::traces::cases::right;
 use compare::traces::clashes;
 use compare::traces::limits::{at_the_limits, bytes};
+use compare::traces::names::{self, Ending, BADLY_FORMED};
 use compare::traces::run::{run, Tracer};
 use compare::traces::selftest::self_test;
 use compare::traces::stored::{controller, read, stdout};
@@ -22,10 +23,11 @@ fn both_programs_agree_and_every_outcome_is_met() {
     driver::with_big_stack(|| {
         let tally = run(&Variant(None), &PLAN).unwrap_or_else(|failure| panic!("{failure}"));
         println!("{tally}");
-        for outcome in ["run to the end", "refused 11", "refused 12", "refused 13", "refused 14"] {
+        for outcome in ["run to the end", "refused 11", "refused 12", "refused 13", "refused 14", "refused 15"] {
             assert!(tally.outcomes[outcome] > PLAN.count / 20, "{outcome}: {tally}");
         }
         assert!(tally.moving > tally.lines / 3, "{tally}");
+        assert!(tally.backs > PLAN.count && tally.keeps > PLAN.count && tally.differing > PLAN.count / 20, "{tally}");
     });
 }
 
@@ -68,6 +70,21 @@ fn what_11_lets_pass_is_read() {
     });
 }
 
+/// What the oracle's trace program prints.
+fn printed(words: &[u32], trace: &[u8]) -> String {
+    String::from_utf8(driver::trace(&bytes(words, trace))).unwrap()
+}
+
+/// A netlist and a right trace: lowered, by hand, or one whose contents show.
+fn some_right(random: &mut Random, number: u64) -> (Vec<u32>, Vec<Vec<u8>>) {
+    match number % 5 {
+        0 => right(random, true),
+        1 | 2 => right(random, false),
+        3 => names::right_store(random),
+        _ => clashes::right(random),
+    }
+}
+
 /// The settings of a trace's lines, by signal.
 fn settings(netlist: &Netlist, lines: &[Vec<u8>]) -> Vec<Setting> {
     let setting = |line: &Vec<u8>| {
@@ -89,32 +106,56 @@ fn output_line(netlist: &Netlist, seen: &Observation) -> String {
 fn the_netlist_simulator_shows_the_same_outputs() {
     let (mut compared, mut refused) = (0, 0);
     driver::with_big_stack(|| {
-        for number in 0..800 {
-            let random = &mut Random::of_case(3, number);
-            let (words, lines) = match number % 4 {
-                0 => right(random, true),
-                3 => clashes::right(random),
-                _ => right(random, false),
-            };
-            let text = driver::trace(&bytes(&words, &lines.concat()));
+        for number in 0..1_000 {
+            let (words, lines) = some_right(&mut Random::of_case(3, number), number);
+            let text = printed(&words, &lines.concat());
             let netlist = Netlist::decode(&words).unwrap();
             let sim = NetlistSim::new(&words);
             let Ok(seen) = sim.run(&sim.zero_contents(), &settings(&netlist, &lines)) else { continue };
-            if text.starts_with(b"refused") {
+            if text.starts_with("refused") {
                 continue;
             }
-            let printed = seen.observations.len();
-            compared += printed;
+            let shown = seen.observations.len();
+            compared += shown;
             let mut expected: String = seen.observations.iter().map(|seen| output_line(&netlist, seen)).collect();
             if let Some(memory) = seen.clash {
                 refused += 1;
-                expected += &format!("refused 14 {printed} {memory}\n");
+                expected += &format!("refused 14 {shown} {memory}\n");
             }
-            assert_eq!(String::from_utf8(text).unwrap(), expected, "case {number}");
+            assert_eq!(text, expected, "case {number}");
         }
     });
     println!("{compared} lines, {refused} write clashes");
     assert!(compared > 10_000 && refused > 100, "{compared} {refused}");
+}
+
+/// "After a back, the settings lines up to the next back print the output bits that they
+/// would have printed had they followed the keep."
+#[test]
+fn each_ending_prints_what_it_prints_as_a_plain_trace() {
+    let (mut backs, mut refused) = (0, 0);
+    driver::with_big_stack(|| {
+        for number in 0..1_000 {
+            let random = &mut Random::of_case(5, number);
+            let (words, lines) = some_right(random, number);
+            let lines = names::with_names(random, lines);
+            let text = printed(&words, &lines.concat());
+            if text.starts_with("refused") {
+                continue;
+            }
+            let endings = names::endings(&lines);
+            let run = |ending: &Ending| {
+                let lines: String = ending.lines.iter().map(|line| format!("{line}\n")).collect();
+                printed(&words, lines.as_bytes())
+            };
+            let texts: Vec<String> = endings.iter().map(run).collect();
+            assert_eq!(text, names::joined(&endings, &texts), "case {number}");
+            backs += endings.len() - 1;
+            refused += usize::from(text.contains("refused 14 "));
+        }
+    });
+    println!("{backs} backs, {refused} write clashes");
+    assert!(backs > 2_000 && refused > 50, "{backs} {refused}");
 }
 
 /// What each input at a limit ends with: its last line.
@@ -128,13 +169,15 @@ fn the_inputs_are_at_the_limits() {
             last.strip_prefix("refused ").map(|place| (name, place.to_string()))
         })
         .collect();
-    let expected: Vec<(&str, String)> = LIMITS.iter().map(|&(name, place)| (name, place.to_string())).collect();
+    let badly_formed = BADLY_FORMED.concat().into_iter().map(|line| (line, "13 2 0"));
+    let expected: Vec<(&str, String)> = LIMITS.into_iter().chain(badly_formed).map(|(name, place)| (name, place.to_string())).collect();
     assert_eq!(refused, expected);
-    assert_eq!(at_the_limits().len(), 137);
+    assert_eq!(at_the_limits().len(), 238);
 }
 
-/// Those that are refused; all others run to the end.
-const LIMITS: [(&str, &str); 96] = [
+/// Those that are refused, without the lines that are badly formed keeps and backs; all
+/// others run to the end.
+const LIMITS: [(&str, &str); 122] = [
     ("no bytes", "11 0 0"),
     ("a cut word", "11 0 0"),
     ("a word", "11 1 0"),
@@ -204,8 +247,6 @@ const LIMITS: [(&str, &str); 96] = [
     ("a space", "13 0 0"),
     ("byte 13 and byte 10", "13 0 0"),
     ("byte 13 alone", "13 0 0"),
-    ("a keep", "13 1 0"),
-    ("a back", "13 0 0"),
     ("a long line", "13 0 0"),
     ("no inputs, a letter", "13 1 0"),
     ("no inputs, a letter without byte 10", "13 2 0"),
@@ -231,6 +272,34 @@ const LIMITS: [(&str, &str); 96] = [
     ("a line with a clash, too short", "13 1 0"),
     ("a clash before a wrong line", "14 1 5"),
     ("a clash before an open line", "14 1 5"),
+    ("a fifth name", "15 8 0"),
+    ("a fifth name after a back", "15 10 0"),
+    ("a fifth name after one was kept again", "15 10 0"),
+    ("a keep before the first line", "15 0 0"),
+    ("a back before the first line", "15 0 0"),
+    ("a back to a name not kept", "15 1 0"),
+    ("a back to a name of which one is the beginning", "15 2 0"),
+    ("a back to the beginning of a name", "15 2 0"),
+    ("a back to seven of eight letters", "15 2 0"),
+    ("keeps and backs are counted", "13 4 0"),
+    ("a keep without its end", "13 1 0"),
+    ("a back without its end", "13 2 0"),
+    ("a back without its end, to a name not kept", "13 1 0"),
+    ("a fifth name without its end", "13 5 0"),
+    ("a keep without its end, before the first line", "13 0 0"),
+    ("twelve inputs and thirteen letters", "13 1 0"),
+    ("fourteen inputs and thirteen letters", "13 1 0"),
+    ("fourteen inputs and nine letters of a name", "13 1 0"),
+    ("three inputs and thirteen letters", "13 2 0"),
+    ("thirteen letters without an end", "13 2 0"),
+    ("fourteen letters without an end", "13 2 0"),
+    ("the longest keep without its end", "13 2 0"),
+    ("nine letters of a name without an end", "13 2 0"),
+    ("no inputs, a keep at the front", "15 0 0"),
+    ("no inputs, nine letters of a name", "13 1 0"),
+    ("a clash after a back", "14 4 5"),
+    ("a clash after a back, with lines between", "14 6 5"),
+    ("a back and the line of a clash without its end", "13 3 0"),
 ];
 
 fn file(folder: &str, name: &str) -> Vec<u8> {
@@ -244,7 +313,9 @@ fn the_stored_runs_hold_the_oracles_texts() {
     assert!(inputs.len() > 300, "{}", inputs.len());
     let texts = file("trace_runs", "stdout");
     assert!(stdout(&inputs) == texts, "other texts than stored");
-    assert!(String::from_utf8_lossy(&texts).contains("\nrefused 14 "), "no write clash");
+    for number in ["14", "15"] {
+        assert!(String::from_utf8_lossy(&texts).contains(&format!("\nrefused {number} ")), "no refusal {number}");
+    }
 }
 
 #[test]

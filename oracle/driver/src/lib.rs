@@ -15,6 +15,7 @@ mod prepared;
 mod rtl;
 mod simulation;
 mod trace;
+mod trace_history;
 mod trace_sim;
 mod validated;
 mod words;

@@ -1,10 +1,11 @@
-//! The trace program (requests Q-4 and Q-6): a netlist image and a trace come in as
-//! bytes, the output bits after each line go out. The requests' sentences stand in
-//! quotes.
+//! The trace program (requests Q-4, Q-6 and Q-8): a netlist image and a trace come in
+//! as bytes, the output bits after each settings line go out. The requests' sentences
+//! stand in quotes; keeps and backs are taken in trace_history.rs.
 
 use image::netlist::{HEADER_WORDS, Netlist, Node};
 use reference::{FINE, netlist_answer};
 
+use crate::trace_history::{LONGEST, NameLine, NamedRuns};
 use crate::trace_sim::TraceSim;
 
 /// "This program takes netlists made with N = 1,024 and P = 2,048, and memories of at
@@ -146,7 +147,7 @@ fn is_taken(netlist: &Netlist) -> bool {
 // ---- the trace ----
 
 struct Lines {
-    sim: TraceSim,
+    runs: NamedRuns,
     /// The line's number, counted from 0.
     number: u32,
     /// Its characters so far.
@@ -155,7 +156,7 @@ struct Lines {
 
 impl Lines {
     fn new(sim: TraceSim) -> Self {
-        Lines { sim, number: 0, line: Vec::new() }
+        Lines { runs: NamedRuns::new(sim), number: 0, line: Vec::new() }
     }
 
     fn take(&mut self, bytes: &[u8], text: &mut Vec<u8>) -> Result<(), [u32; 3]> {
@@ -164,15 +165,29 @@ impl Lines {
                 return self.wrong();
             }
             if byte == b'\n' {
-                self.run_line(text)?;
+                self.take_line(text)?;
             } else {
                 self.line.push(byte);
                 // A longer line is wrong whatever follows.
-                if self.line.len() > self.sim.input_bits() {
+                if self.line.len() > self.runs.sim().input_bits().max(LONGEST) {
                     return self.wrong();
                 }
             }
         }
+        Ok(())
+    }
+
+    /// "Refused, after 13's line end and line limit: 15, .. place the line; any other
+    /// line, a badly formed name included, is judged by 13." "Neither line prints
+    /// anything." (Q-8)
+    fn take_line(&mut self, text: &mut Vec<u8>) -> Result<(), [u32; 3]> {
+        match NameLine::read(&self.line) {
+            None => self.run_line(text)?,
+            Some(line) if self.runs.take(&line) => {}
+            Some(_) => return Err([15, self.number, 0]),
+        }
+        self.line.clear();
+        self.number += 1;
         Ok(())
     }
 
@@ -182,15 +197,12 @@ impl Lines {
     /// and before its outputs are printed." (Q-6)
     fn run_line(&mut self, text: &mut Vec<u8>) -> Result<(), [u32; 3]> {
         let is_bit = |letter: &u8| matches!(letter, b'0' | b'1');
-        if self.line.len() != self.sim.input_bits() || !self.line.iter().all(is_bit) {
+        if self.line.len() != self.runs.sim().input_bits() || !self.line.iter().all(is_bit) {
             return self.wrong();
         }
-        let setting = self.line.iter().map(|&letter| letter == b'1');
-        self.sim.set(setting).map_err(|memory| [14, self.number, memory])?;
-        text.extend(self.sim.outputs().map(|bit| if bit { b'1' } else { b'0' }));
+        self.runs.set(&self.line).map_err(|memory| [14, self.number, memory])?;
+        text.extend(self.runs.sim().outputs().map(|bit| if bit { b'1' } else { b'0' }));
         text.push(b'\n');
-        self.line.clear();
-        self.number += 1;
         Ok(())
     }
 
@@ -218,7 +230,7 @@ mod tests {
 
     #[test]
     fn the_last_line_is_printed_and_one_more_is_refused_whatever_it_holds() {
-        for more in ["0\n", "x", "\n", "00"] {
+        for more in ["0\n", "x", "\n", "00", "keep a\n", "back a\n"] {
             let (mut lines, mut text) = (inverter(MOST_LINES - 2), Vec::new());
             assert_eq!(lines.take(b"0\n1\n", &mut text), Ok(()));
             assert_eq!(lines.end(), Ok(()));
@@ -228,9 +240,18 @@ mod tests {
     }
 
     #[test]
+    fn keeps_and_backs_are_counted_up_to_the_limit() {
+        let (mut lines, mut text) = (inverter(MOST_LINES - 4), Vec::new());
+        assert_eq!(lines.take(b"0\nkeep a\n1\nback a\n", &mut text), Ok(()));
+        assert_eq!(lines.take(b"back a\n", &mut text), Err([13, 4_294_967_295, 0]));
+        assert_eq!(text, b"1\n0\n");
+    }
+
+    #[test]
     fn a_wrong_line_near_the_end_has_its_own_number() {
         let (mut lines, mut text) = (inverter(MOST_LINES - 1), Vec::new());
         assert_eq!(lines.take(b"2\n", &mut text), Err([13, 4_294_967_294, 0]));
+        assert_eq!(inverter(MOST_LINES - 1).take(b"back a\n", &mut text), Err([15, 4_294_967_294, 0]));
         assert_eq!(text, b"");
     }
 }

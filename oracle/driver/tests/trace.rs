@@ -1,6 +1,6 @@
 //! The trace program on cases worked out by hand: the step rule line by line, words
 //! beyond 64 bits, the order of ports, what is refused and in which order. Write
-//! clashes stand in clashes.rs.
+//! clashes stand in clashes.rs, keeps and backs in keeps.rs.
 
 use driver::{TraceProgram, trace};
 use image::ABSENT;
@@ -178,7 +178,7 @@ fn lines_and_their_ends() {
         ("0\n1\n01\n", "1\n0\nrefused 13 2 0\n"),
         ("0\r\n", "refused 13 0 0\n"),
         ("x\n0\n", "refused 13 0 0\n"),
-        ("keep a\n", "refused 13 0 0\n"),
+        ("keep  a\n", "refused 13 0 0\n"),
     ];
     for (trace, expected) in cases {
         assert_eq!(printed(&inverter(trace)), expected, "{trace:?}");

@@ -1,12 +1,12 @@
 -- `trace_text::judged_text` meets its contract. Assumes nothing.
 use Rattle.trace_text.proofs.judged_text.Statement.{statement}
 use Rattle.trace_text.proofs.judged_text.Tie as tie
-use mathlib.Core.Path.{refl, sym, ap}
+use mathlib.Core.Path.{sym, ap}
 use native.Mathlib.Omega.{arith}
 use lib.ListN.{length-take}
 use lib.Seq.{length-take-le}
 use Rattle.trace_open.specs.Opens.{answerOf}
-use Rattle.trace_open.specs.Begins.{opened-begins}
+use Rattle.trace_open.specs.Begins.{opened-fresh}
 use Rattle.trace_text.specs.Begins.{begins-refusal}
 use Rattle.trace_text.specs.Input.{text-taken, text-not}
 use borrow.Author.Needs.{needs}
@@ -24,7 +24,7 @@ slice-aggregate-lines-text-3 : tie.Need-slice-aggregate-lines-text-3
 slice-aggregate-lines-text-3 c = sym (length-take-le _ _ (c .before .before .before .before .before .before .before .before .before .before .before .«open» .ensures .tables _ (c .before .before .before .before .t .given .1) .outputs-in))
 
 lines-text-requires : tie.Need-lines-text-requires
-lines-text-requires c κs = opened-begins (c .before .before .before .before .before .before .before .before .before .before .before .before .before .before .«open» .ensures) (c .before .before .before .before .before .before .before .t .given .1) refl refl
+lines-text-requires c κs = opened-fresh (c .before .before .before .before .before .before .before .before .before .before .before .before .before .before .«open» .ensures) (c .before .before .before .before .before .before .before .t .given .1)
 
 returns : tie.Need-returns
 returns c = text-taken (c .before .before .before .before .before .before .before .before .before .before .before .before .before .before .before .before .before .«open» .ensures) _ (c .before .before .before .before .before .before .before .before .before .before .t .given .1) (omega (arith, length-take (c .before .before .before .before .before .before .before .before .before .before .t .given .0 .0 .outputs) (c .before .before .before .before .before .before .before .before .before .before .before .before .before .before .before .before .before .«open» .last .1 .1 .1 .0), c .before .before .before .before .before .before .before .before .before .before .before .before .before .before .before .before .before .«open» .kept .1 .1 .1 .0, c .before .before .before .before .before .before .before .before .before .before .before .before .before .before .before .before .before .before .before .before .before .before .before .before .before .list-table2 .ensures)) (c .before .before .lines-text .ensures)

@@ -1,17 +1,20 @@
 //! The inputs that are compared: at the limits, lowered netlists and netlists made by
 //! hand with traces, both with a damaged netlist or a damaged trace, netlists that 12
-//! refuses or just lets pass, write clashes.
+//! refuses or just lets pass, write clashes, keeps and backs that 15 refuses or just
+//! lets pass. Half of the other traces have keeps and backs too.
 
 use super::clashes::near_clash;
 use super::heavy::HEAVY;
 use super::limits::{at_the_limits, bytes};
 use super::lines::Inputs;
 use super::machine::{machine, Size, N, P};
+use super::names::{badly_formed, half_with_names, near_15, right_store};
 use crate::netlists::cases::draft_of;
 use crate::netlists::damage::damaged;
 use crate::netlists::draft::Draft;
 use crate::netlists::free::{free, Size as FreeSize};
 use image::netlist::Netlist;
+use image::netlist_parts::{input, output};
 use image::{bring_near_clash, generate, lower_depths, Random, Size as ImageSize, ABSENT};
 use std::fmt;
 use std::sync::OnceLock;
@@ -28,6 +31,8 @@ pub enum Origin {
     Taken,
     /// Near what 14 refuses.
     Clash,
+    /// Near what 15 refuses.
+    Names,
     /// As free as refusal 11 is.
     Free,
 }
@@ -42,6 +47,7 @@ impl fmt::Display for Origin {
             Origin::DamagedTrace => "trace damaged",
             Origin::Taken => "near refusal 12",
             Origin::Clash => "near refusal 14",
+            Origin::Names => "near refusal 15",
             Origin::Free => "any netlist",
         })
     }
@@ -65,42 +71,68 @@ pub fn case(random: &mut Random, number: u64) -> Case {
 fn mixed_case(random: &mut Random) -> Case {
     let made = |origin: Origin, input: Vec<u8>| Case { origin, input };
     match random.below(100) {
-        0..27 => {
-            let (words, lines) = right(random, true);
+        0..24 => {
+            let (words, lines) = right_or_named(random, true);
             made(Origin::Lowered, bytes(&words, &lines.concat()))
         }
-        27..58 => {
-            let (words, lines) = right(random, false);
+        24..50 => {
+            let (words, lines) = right_or_named(random, false);
             made(Origin::ByHand, bytes(&words, &lines.concat()))
         }
-        58..70 => {
+        50..60 => {
             let is_lowered = random.flag();
-            let (words, lines) = right(random, is_lowered);
+            let (words, lines) = right_or_named(random, is_lowered);
             made(Origin::DamagedTrace, damaged_trace(random, &words, lines))
         }
-        70..80 => {
+        60..69 => {
             let draft = if random.flag() { lowered(random) } else { by_hand(random) };
-            let trace = trace(random, &draft.words()).concat();
+            let trace = named_trace(random, &draft.words());
             made(Origin::DamagedNetlist, bytes(&damaged(random, &draft), &trace))
         }
-        80..87 => made(Origin::Taken, near_12(random)),
-        87..97 => made(Origin::Clash, near_clash(random)),
+        69..76 => made(Origin::Taken, near_12(random)),
+        76..86 => made(Origin::Clash, near_clash(random)),
+        86..97 => made(Origin::Names, near_refused_names(random)),
         _ => {
             let size = random.pick(&[FreeSize::Small, FreeSize::Middle]);
             let words = Draft { n: N, ..free(random, size) }.words();
-            let trace = trace(random, &words).concat();
+            let trace = named_trace(random, &words);
             made(Origin::Free, bytes(&words, &trace))
         }
     }
 }
 
+/// The lines of a trace for a right netlist, half of them with keeps and backs.
+fn named_trace(random: &mut Random, words: &[u32]) -> Vec<u8> {
+    let lines = trace(random, words);
+    half_with_names(random, lines).concat()
+}
+
+fn near_refused_names(random: &mut Random) -> Vec<u8> {
+    let (words, lines) = match random.below(4) {
+        0 => right_store(random),
+        number => right(random, number == 1),
+    };
+    let lines = near_15(random, lines);
+    bytes(&words, &lines.concat())
+}
+
 // ---- right inputs ----
 
-/// A netlist that 11 lets pass, and a right trace.
+/// A netlist that 11 lets pass, and a right trace. In many of them contents show.
 pub fn right(random: &mut Random, is_lowered: bool) -> (Vec<u32>, Vec<Vec<u8>>) {
-    let draft = if is_lowered { lowered(random) } else { by_hand(random) };
+    let mut draft = if is_lowered { lowered(random) } else { by_hand(random) };
+    if random.chance(60) {
+        show_contents(random, &mut draft);
+    }
     let words = draft.words();
     let lines = trace(random, &words);
+    (words, lines)
+}
+
+/// The same, half of the traces with keeps and backs.
+fn right_or_named(random: &mut Random, is_lowered: bool) -> (Vec<u32>, Vec<Vec<u8>>) {
+    let (words, lines) = right(random, is_lowered);
+    let lines = half_with_names(random, lines);
     (words, lines)
 }
 
@@ -136,6 +168,25 @@ pub fn lowered(random: &mut Random) -> Draft {
     }
 }
 
+/// An output port more, of some register bits and read data, as far as there is room.
+fn show_contents(random: &mut Random, draft: &mut Draft) {
+    let mut contents: Vec<u32> = (0..).zip(&draft.nodes).filter(|(_, node)| matches!(node[0], 7 | 9)).map(|(net, _)| net).collect();
+    random.shuffle(&mut contents);
+    let used: usize = draft.records.iter().map(Vec::len).sum();
+    contents.truncate(random.pick(&[3, 20]).min(N - draft.nodes.len()).min(P.saturating_sub(used + 3)));
+    if !contents.is_empty() {
+        let (signal, first, width) = (free_signal(draft, 8), draft.nodes.len() as u32, contents.len() as u32);
+        draft.nodes.extend((0..).zip(contents).map(|(bit, net)| output(signal, bit, net)));
+        draft.records.push([0, signal, width].into_iter().chain(first..first + width).collect());
+    }
+}
+
+/// A signal that no input (kind 0) or no output (kind 8) has.
+fn free_signal(draft: &Draft, kind: u32) -> u32 {
+    let signals: Vec<u32> = draft.nodes.iter().filter(|node| node[0] == kind).map(|node| node[1]).collect();
+    (0..512).find(|signal| !signals.contains(signal)).expect("a signal that is free")
+}
+
 /// Lines for a right netlist.
 pub fn trace(random: &mut Random, words: &[u32]) -> Vec<Vec<u8>> {
     let netlist = Netlist::decode(words).unwrap_or_else(|problem| panic!("a right netlist: {problem}"));
@@ -154,7 +205,7 @@ fn damaged_trace(random: &mut Random, words: &[u32], mut lines: Vec<Vec<u8>>) ->
     let at = random.below(lines.len() + 1);
     let mut words = words.to_vec();
     let mut missing = 0;
-    match random.below(12) {
+    match random.below(13) {
         0 => lines.insert(at, b"\n".to_vec()),
         1 => lines.insert(at, random.pick(&[&b"keep a\n"[..], b"back a\n", b"\r\n", b"0", b" ", b"\0\0\0\0", b"\xef\xbb\xbf"]).to_vec()),
         2 => words.resize(16 + 6 * N + P, 0),
@@ -163,6 +214,7 @@ fn damaged_trace(random: &mut Random, words: &[u32], mut lines: Vec<Vec<u8>>) ->
         5 => lines.iter_mut().for_each(|line| line.insert(line.len() - 1, b'\r')),
         6 => missing = random.range(1, 40) as usize,
         7 => words.truncate(words.len() - random.range(1, 6).min(words.len() as u32) as usize),
+        12 => lines.insert(at, badly_formed(random)),
         _ if at == lines.len() => lines.push(vec![b'0'; random.below(6)]),
         8 => drop(lines[at].remove(0)),
         9 => lines[at].insert(0, random.pick(b"01")),
@@ -182,7 +234,7 @@ fn damaged_trace(random: &mut Random, words: &[u32], mut lines: Vec<Vec<u8>>) ->
 /// A netlist by hand with one thing changed that 12 judges, or two.
 fn near_12(random: &mut Random) -> Vec<u8> {
     let mut draft = by_hand(random);
-    let lines = trace(random, &draft.words()).concat();
+    let lines = named_trace(random, &draft.words());
     for _ in 0..random.range(1, 2) {
         match random.below(6) {
             0 => draft.n = random.pick(&[N - 1, N + 1, N + 1, 65_535]).max(draft.nodes.len()),
@@ -240,11 +292,10 @@ fn other_depth(random: &mut Random, draft: &mut Draft) {
 fn add_port(random: &mut Random, draft: &mut Draft) {
     let used: usize = draft.records.iter().map(Vec::len).sum();
     let width = (P + random.below(3)).saturating_sub(used + 4);
-    let signals: Vec<u32> = draft.nodes.iter().filter(|node| node[0] == 0).map(|node| node[1]).collect();
-    let signal = (0..512).find(|signal| !signals.contains(signal)).expect("a signal that is free");
+    let signal = free_signal(draft, 0);
     if (1..=N - draft.nodes.len()).contains(&width) {
         let first = draft.nodes.len() as u32;
-        draft.nodes.extend((0..width as u32).map(|bit| image::netlist_parts::input(signal, bit)));
+        draft.nodes.extend((0..width as u32).map(|bit| input(signal, bit)));
         draft.records.push([0, signal, width as u32].into_iter().chain(first..first + width as u32).collect());
     }
 }

@@ -4,6 +4,8 @@
 use super::limits::{bytes, Named};
 use super::lines::line;
 use super::machine::N;
+use super::names::half_with_names;
+use super::run::refusal;
 use crate::netlists::draft::Draft;
 use image::netlist_parts::{input, memory_output, output, NodeWords};
 use image::{Random, ABSENT};
@@ -108,26 +110,30 @@ impl Rig {
 /// A netlist and a trace with what is near a clash; some traces end at it, or are wrong
 /// there.
 pub fn near_clash(random: &mut Random) -> Vec<u8> {
-    let (words, mut lines) = right(random);
-    let text = driver::trace(&bytes(&words, &lines.concat()));
-    let last = text.strip_suffix(b"\n").and_then(|text| text.rsplit(|&byte| byte == b'\n').next());
-    if last.is_some_and(|line| line.starts_with(b"refused 14 ")) && random.chance(25) {
-        let at = text.iter().filter(|&&byte| byte == b'\n').count() - 1;
-        match random.below(5) {
-            0 => lines.truncate(at + 1),
-            1 => {
-                lines.truncate(at + 1);
-                lines[at].pop();
-            }
-            2 => drop(lines[at].remove(0)),
-            3 => lines[at].insert(0, b'0'),
-            _ => {
-                let letter = random.below(lines[at].len() - 1);
-                lines[at][letter] = random.pick(b"2 /\r\0");
-            }
-        }
+    let (words, lines) = right(random);
+    let mut lines = half_with_names(random, lines);
+    match refusal(&driver::trace(&bytes(&words, &lines.concat()))) {
+        Some([14, at, _]) if random.chance(25) => change_near(random, &mut lines, at as usize),
+        _ => {}
     }
     bytes(&words, &lines.concat())
+}
+
+/// Ends the lines with this one, or makes it wrong.
+fn change_near(random: &mut Random, lines: &mut Vec<Vec<u8>>, at: usize) {
+    match random.below(5) {
+        0 => lines.truncate(at + 1),
+        1 => {
+            lines.truncate(at + 1);
+            lines[at].pop();
+        }
+        2 => drop(lines[at].remove(0)),
+        3 => lines[at].insert(0, b'0'),
+        _ => {
+            let letter = random.below(lines[at].len() - 1);
+            lines[at][letter] = random.pick(b"2 /\r\0");
+        }
+    }
 }
 
 /// A netlist, its records in any order, and a right trace.
@@ -309,6 +315,25 @@ fn lines_with_a_clash() -> Vec<Named> {
         ("a line with a clash, too short", [&clash[..end - 2], b"\n"].concat()),
         ("a clash before a wrong line", [&clash[..], b"x\n"].concat()),
         ("a clash before an open line", [&clash[..], &vec![b'0'; bits]].concat()),
+    ]
+}
+
+/// Clashes and steps without one that follow a back (request Q-8): the kept setting
+/// and the words decide.
+pub fn after_backs() -> Vec<Named> {
+    let rig = Rig(plain().to_vec());
+    let low = |writes: &[Write]| line(&rig.setting([false; CLOCKS], writes));
+    let high = |writes: &[Write]| line(&rig.setting([true; CLOCKS], writes));
+    let (keep, back) = (b"keep a\n".to_vec(), b"back a\n".to_vec());
+    let off = [(0, 1, 1), (0, 0, 1)];
+    let first = [(1, 1, 1), (0, 0, 1)];
+    let run = |lines: &[&Vec<u8>]| bytes(&rig.draft().words(), &lines.iter().flat_map(|line| line.iter().copied()).collect::<Vec<u8>>());
+    vec![
+        ("a clash after a back", run(&[&low(&BOTH), &keep, &low(&off), &back, &high(&off)])),
+        ("a clash after a back, with lines between", run(&[&low(&off), &keep, &high(&first), &back, &high(&off), &low(&BOTH), &high(&BOTH)])),
+        ("a back from what would clash", run(&[&low(&off), &keep, &low(&BOTH), &back, &high(&BOTH)])),
+        ("a back past an edge", run(&[&high(&BOTH), &keep, &low(&BOTH), &back, &high(&BOTH)])),
+        ("a back and the line of a clash without its end", run(&[&low(&BOTH), &keep, &back, &high(&BOTH)[..rig.inputs()].to_vec()])),
     ]
 }
 

@@ -1,9 +1,10 @@
 //! Inputs of the trace program at each of its limits and just beyond, by name: what
 //! 12 refuses and what it just lets pass, the order of 11 and 12, where the netlist
-//! ends, ends of traces, write clashes and what is just none.
+//! ends, ends of traces, write clashes and what is just none, keeps and backs.
 
 use super::clashes;
 use super::machine::{N, P};
+use super::name_limits;
 use crate::netlists::draft::Draft;
 use image::netlist_parts::{
     arithmetic_output, comparison_output, constant, input, memory, memory_output, not, output, register, register_output, NodeWords,
@@ -14,7 +15,8 @@ pub type Named = (&'static str, Vec<u8>);
 
 /// All of them.
 pub fn at_the_limits() -> Vec<Named> {
-    [headers(), sizes(), clocks(), resets(), memories(), borders_of_the_netlist(), traces(), clashes::named()].concat()
+    let lines = [traces(), clashes::named(), name_limits::named()];
+    [headers(), sizes(), clocks(), resets(), memories(), borders_of_the_netlist(), lines.concat()].concat()
 }
 
 /// Words as bytes, low first, and what follows.
@@ -27,7 +29,7 @@ fn draft(nodes: Vec<NodeWords>, records: &[&[u32]]) -> Draft {
 }
 
 /// Output 1 is the inverse of input 0.
-fn inverter() -> Draft {
+pub fn inverter() -> Draft {
     draft(vec![input(0, 0), not(0), output(1, 0, 1)], &[&[0, 0, 1, 0], &[0, 1, 1, 2]])
 }
 
@@ -186,8 +188,8 @@ fn resets() -> Vec<Named> {
 // ---- memories ----
 
 /// Memories of these depths and widths, the first with so many ports, on one clock; the
-/// ports do not write at once.
-fn of_memories(ports: u32, sizes: &[(u32, u32)]) -> Vec<u8> {
+/// ports do not write at once. A line has one letter.
+pub fn of_memories(ports: u32, sizes: &[(u32, u32)], trace: &[u8]) -> Vec<u8> {
     let mut nodes = vec![input(0, 0)];
     let mut records: Vec<Vec<u32>> = vec![vec![0, 0, 1, 0]];
     for (number, &(depth, width)) in (0..).zip(sizes) {
@@ -205,10 +207,11 @@ fn of_memories(ports: u32, sizes: &[(u32, u32)]) -> Vec<u8> {
     let last = nodes.len() as u32;
     nodes.push(output(1, 0, last - 1));
     records.push(vec![0, 1, 1, last]);
-    bytes(&Draft { n: N, nodes, records }.words(), b"0\n1\n0\n1\n0\n1\n")
+    bytes(&Draft { n: N, nodes, records }.words(), trace)
 }
 
 fn memories() -> Vec<Named> {
+    let of_memories = |ports: u32, sizes: &[(u32, u32)]| of_memories(ports, sizes, b"0\n1\n0\n1\n0\n1\n");
     vec![
         ("65,536 words of one bit", of_memories(1, &[(65_536, 1)])),
         ("65,536 words of one bit, two ports", of_memories(2, &[(65_536, 1)])),
@@ -249,10 +252,18 @@ fn borders_of_the_netlist() -> Vec<Named> {
 
 // ---- traces ----
 
+/// A constant's output.
+pub fn without_inputs(trace: &[u8]) -> Vec<u8> {
+    bytes(&draft(vec![constant(1), output(0, 0, 0)], &[&[0, 0, 1, 1]]).words(), trace)
+}
+
+/// Two inputs.
+pub fn without_outputs(trace: &[u8]) -> Vec<u8> {
+    bytes(&draft(vec![input(9, 0), input(9, 1)], &[&[0, 9, 2, 0, 1]]).words(), trace)
+}
+
 fn traces() -> Vec<Named> {
     let inverted = |trace: &[u8]| bytes(&inverter().words(), trace);
-    let no_inputs = |trace: &[u8]| bytes(&draft(vec![constant(1), output(0, 0, 0)], &[&[0, 0, 1, 1]]).words(), trace);
-    let no_outputs = |trace: &[u8]| bytes(&draft(vec![input(9, 0), input(9, 1)], &[&[0, 9, 2, 0, 1]]).words(), trace);
     vec![
         ("no lines", inverted(b"")),
         ("a line", inverted(b"0\n")),
@@ -267,15 +278,13 @@ fn traces() -> Vec<Named> {
         ("a space", inverted(b"0 \n")),
         ("byte 13 and byte 10", inverted(b"0\r\n1\r\n")),
         ("byte 13 alone", inverted(b"0\r1\r")),
-        ("a keep", inverted(b"0\nkeep a\n1\n")),
-        ("a back", inverted(b"back a\n")),
         ("a long line", inverted(&[b'0'; 70_000])),
         ("long output", inverted(&b"0\n1\n".repeat(40_000))),
-        ("no inputs, no lines", no_inputs(b"")),
-        ("no inputs, lines", no_inputs(b"\n\n")),
-        ("no inputs, a letter", no_inputs(b"\n0\n")),
-        ("no inputs, a letter without byte 10", no_inputs(b"\n\n1")),
-        ("no outputs", no_outputs(b"00\n11\n01\n")),
-        ("no outputs, too short", no_outputs(b"00\n1\n01\n")),
+        ("no inputs, no lines", without_inputs(b"")),
+        ("no inputs, lines", without_inputs(b"\n\n")),
+        ("no inputs, a letter", without_inputs(b"\n0\n")),
+        ("no inputs, a letter without byte 10", without_inputs(b"\n\n1")),
+        ("no outputs", without_outputs(b"00\n11\n01\n")),
+        ("no outputs, too short", without_outputs(b"00\n1\n01\n")),
     ]
 }

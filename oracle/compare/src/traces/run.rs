@@ -1,7 +1,7 @@
 //! What the trace program prints on many inputs, held against the oracle's trace
 //! program byte for byte, up to the first difference.
 
-use super::cases::{case, Case, Origin};
+use super::cases::{case, Origin};
 use super::limits::bytes;
 use crate::plan::Plan;
 use crate::printed::Difference;
@@ -43,12 +43,13 @@ impl Tracer for Program {
     fn trace(&self, input: &[u8]) -> Result<Vec<u8>, String> {
         let mut process = self.start()?;
         let stdin = process.stdin.take().expect("a pipe");
+        let feed = |mut stdin: ChildStdin| write(&mut stdin, input);
         let wait = || process.wait_with_output().map_err(|error| self.problem(error));
         let (written, output) = if input.len() <= PIPE {
-            (write(stdin, input), wait()?)
+            (feed(stdin), wait()?)
         } else {
             std::thread::scope(|scope| {
-                let writer = scope.spawn(|| write(stdin, input));
+                let writer = scope.spawn(|| feed(stdin));
                 let output = wait()?;
                 Ok::<_, String>((writer.join().expect("a thread that ends"), output))
             })?
@@ -63,21 +64,24 @@ impl Tracer for Program {
 }
 
 /// Writes all; a program that reads no further is no problem.
-fn write(mut pipe: ChildStdin, input: &[u8]) -> std::io::Result<()> {
-    match pipe.write_all(input) {
+pub fn write(pipe: &mut impl Write, bytes: &[u8]) -> std::io::Result<()> {
+    match pipe.write_all(bytes).and_then(|()| pipe.flush()) {
         Err(error) if error.kind() == ErrorKind::BrokenPipe => Ok(()),
         written => written,
     }
 }
 
-/// How a text ends: by its last line.
+/// The refusal that a text ends with, if it does.
+pub fn refusal(text: &[u8]) -> Option<[u32; 3]> {
+    let last = text.strip_suffix(b"\n")?.rsplit(|&byte| byte == b'\n').next()?;
+    let numbers = String::from_utf8_lossy(last.strip_prefix(b"refused ")?);
+    let numbers: Vec<u32> = numbers.split(' ').map(|number| number.parse().expect("a number of a refusal")).collect();
+    numbers.try_into().ok()
+}
+
+/// How a text ends.
 pub fn outcome(text: &[u8]) -> String {
-    let last = text.strip_suffix(b"\n").unwrap_or(text).rsplit(|&byte| byte == b'\n').next().unwrap_or(b"");
-    let words: Vec<&[u8]> = last.split(|&byte| byte == b' ').collect();
-    match words[..] {
-        [b"refused", number, ..] => format!("refused {}", String::from_utf8_lossy(number)),
-        _ => "run to the end".to_string(),
-    }
+    refusal(text).map_or("run to the end".to_string(), |[number, ..]| format!("refused {number}"))
 }
 
 /// What was compared.
@@ -88,27 +92,62 @@ pub struct Tally {
     pub lines: u64,
     /// Lines whose output bits are others than those of the line before.
     pub moving: u64,
+    /// Keeps and backs that were taken.
+    pub keeps: u64,
+    pub backs: u64,
+    /// Inputs that would print other output bits without their backs.
+    pub differing: u64,
     pub origins: BTreeMap<String, u64>,
     pub outcomes: BTreeMap<String, u64>,
 }
 
 impl Tally {
-    fn count(&mut self, case: &Case, text: &[u8]) {
+    /// An input and what it prints.
+    pub fn count(&mut self, input: &[u8], text: &[u8]) {
         self.inputs += 1;
-        self.bytes += case.input.len() as u64;
-        let is_bits = |line: &&[u8]| line.iter().all(|byte| matches!(byte, b'0' | b'1'));
-        let lines: Vec<&[u8]> = text.split(|&byte| byte == b'\n').filter(is_bits).collect();
+        self.bytes += input.len() as u64;
+        let lines = output_bits(text);
         self.lines += text.iter().filter(|&&byte| byte == b'\n').count() as u64;
         self.moving += lines.windows(2).filter(|pair| !pair[1].is_empty() && pair[0] != pair[1]).count() as u64;
-        *self.origins.entry(case.origin.to_string()).or_default() += 1;
+        self.count_names(input, text);
         *self.outcomes.entry(outcome(text)).or_default() += 1;
     }
+
+    /// Keeps and backs before the line that is refused.
+    fn count_names(&mut self, input: &[u8], text: &[u8]) {
+        let lines = taken(input, text);
+        let backs = lines.iter().filter(|line| line.starts_with(b"back")).count();
+        self.keeps += lines.iter().filter(|line| line.starts_with(b"keep")).count() as u64;
+        self.backs += backs as u64;
+        if backs > 0 {
+            let plain: Vec<&[u8]> = lines.into_iter().filter(|line| !line.starts_with(b"back")).collect();
+            let without = driver::trace(&bytes(&parts(input).0, &plain.concat()));
+            self.differing += u64::from(output_bits(&without) != output_bits(text));
+        }
+    }
+}
+
+/// The lines of a text that are output bits.
+fn output_bits(text: &[u8]) -> Vec<&[u8]> {
+    text.split(|&byte| byte == b'\n').filter(|line| line.iter().all(|byte| matches!(byte, b'0' | b'1'))).collect()
+}
+
+/// The lines of the trace that were taken, with their ends: those before a refusal, none
+/// where the netlist is refused.
+pub fn taken<'a>(input: &'a [u8], text: &[u8]) -> Vec<&'a [u8]> {
+    let count = match refusal(text) {
+        None => usize::MAX,
+        Some([11 | 12, ..]) => 0,
+        Some([_, line, _]) => line as usize,
+    };
+    parts(input).1.split_inclusive(|&byte| byte == b'\n').take(count).collect()
 }
 
 impl fmt::Display for Tally {
     fn fmt(&self, f: &mut fmt::Formatter) -> fmt::Result {
-        let Tally { inputs, bytes, lines, moving, origins, outcomes } = self;
+        let Tally { inputs, bytes, lines, moving, keeps, backs, differing, origins, outcomes } = self;
         write!(f, "{inputs} inputs of {bytes} bytes, {lines} lines printed, {moving} of them other than the one before")?;
+        write!(f, "; {keeps} keeps, {backs} backs, {differing} inputs that print other bits without their backs")?;
         outcomes.iter().chain(origins).try_for_each(|(name, count)| write!(f, "; {name}: {count}"))
     }
 }
@@ -161,7 +200,8 @@ pub fn run(tracer: &dyn Tracer, plan: &Plan) -> Result<Tally, Box<Failure>> {
     for number in plan.first..plan.first + plan.count {
         let case = case(&mut Random::of_case(plan.seed, number), number);
         let expected = driver::trace(&case.input);
-        tally.count(&case, &expected);
+        tally.count(&case.input, &expected);
+        *tally.origins.entry(case.origin.to_string()).or_default() += 1;
         if let Some(difference) = compare(tracer, &case.input, &expected) {
             let again = |input: &[u8]| compare(tracer, input, &driver::trace(input));
             let small = shrink(&case.input, &|input| again(input).is_some());
@@ -218,12 +258,20 @@ fn shrink(input: &[u8], persists: &dyn Fn(&[u8]) -> bool) -> Vec<u8> {
 
 #[cfg(test)]
 mod tests {
-    use super::outcome;
+    use super::{bytes, outcome, taken};
 
     #[test]
     fn outcomes() {
         assert_eq!(outcome(b""), "run to the end");
         assert_eq!(outcome(b"01\n00\n"), "run to the end");
         assert_eq!(outcome(b"01\nrefused 13 1 0\n"), "refused 13");
+    }
+
+    #[test]
+    fn lines_that_are_taken() {
+        let input = bytes(&[0, 0, 0, 0, 5], b"0\nkeep a\nback b\n");
+        assert_eq!(taken(&input, b"1\n"), [&b"0\n"[..], b"keep a\n", b"back b\n"]);
+        assert_eq!(taken(&input, b"1\nrefused 15 2 0\n"), [&b"0\n"[..], b"keep a\n"]);
+        assert_eq!(taken(&input, b"refused 12 0 0\n"), [&b""[..]; 0]);
     }
 }

@@ -6,7 +6,8 @@
 use super::cases::{by_hand, case, lowered, trace, Origin};
 use super::limits::{at_the_limits, bytes};
 use super::machine::{machine, Size};
-use super::run::outcome;
+use super::names::{with_names, BADLY_FORMED};
+use super::run::{outcome, Tally};
 use crate::netlists::cases::draft_of;
 use image::Random;
 use std::collections::BTreeMap;
@@ -14,7 +15,7 @@ use std::collections::BTreeMap;
 /// Of other inputs so many: whole runs, those that are refused by each number, and
 /// damaged header words.
 const RUNS: usize = 24;
-const OF_EACH_REFUSAL: usize = 6;
+const OF_EACH_REFUSAL: usize = 5;
 const HEADERS: usize = 200;
 /// Inputs of as many bytes or more are not stored.
 const MOST_BYTES: usize = 100_000;
@@ -30,13 +31,18 @@ pub fn make(seed: u64) -> Vec<Vec<u8>> {
     inputs
 }
 
-/// Of the many kinds of clocks and resets some are enough.
+/// Of the many kinds of clocks and resets some are enough, and of the badly formed keeps
+/// and backs a third.
 fn is_stored(name: &str) -> bool {
+    let badly_formed = BADLY_FORMED.map(|lines| lines.iter().position(|&line| line == name));
+    if let [Some(place), _] | [_, Some(place)] = badly_formed {
+        return place % 3 == usize::from(badly_formed[0].is_none());
+    }
     let is_one_of_many = ["a memory's clock", "a synchronous reset", "an asynchronous reset"].iter().any(|many| name.starts_with(many));
     !is_one_of_many || [" an input", " a gate", " on an input"].iter().any(|end| name.ends_with(end))
 }
 
-/// A netlist that moves, and a long trace.
+/// A netlist that moves, and a long trace; in every second one backs that show.
 fn whole_run(random: &mut Random, number: usize) -> Vec<u8> {
     loop {
         let draft = match number % 4 {
@@ -46,11 +52,15 @@ fn whole_run(random: &mut Random, number: usize) -> Vec<u8> {
             _ => by_hand(random),
         };
         let words = draft.words();
-        let lines = trace(random, &words);
+        let mut lines = trace(random, &words);
+        let has_names = number % 8 >= 4;
+        if has_names {
+            lines = with_names(random, lines);
+        }
         let input = bytes(&words, &lines.concat());
-        let mut printed: Vec<Vec<u8>> = driver::trace(&input).split(|&byte| byte == b'\n').map(<[u8]>::to_vec).collect();
-        printed.dedup();
-        if printed.len() > 12 {
+        let mut tally = Tally::default();
+        tally.count(&input, &driver::trace(&input));
+        if tally.moving > 10 && (!has_names || tally.backs > 2 && tally.differing > 0) {
             return input;
         }
     }
@@ -124,13 +134,13 @@ pub fn read(bytes: &[u8]) -> Result<Vec<Vec<u8>>, String> {
     }
 }
 
-/// How many inputs, bytes and lines there are, and the inputs by outcome.
+/// How many inputs, bytes, lines, keeps and backs there are, and the inputs by outcome.
 pub fn describe(inputs: &[Vec<u8>]) -> String {
-    let texts: Vec<Vec<u8>> = inputs.iter().map(|input| driver::trace(input)).collect();
-    let mut outcomes: BTreeMap<String, usize> = BTreeMap::new();
-    texts.iter().for_each(|text| *outcomes.entry(outcome(text)).or_default() += 1);
-    let lines = texts.concat().iter().filter(|&&byte| byte == b'\n').count();
+    let mut tally = Tally::default();
+    inputs.iter().for_each(|input| tally.count(input, &driver::trace(input)));
+    let Tally { lines, keeps, backs, differing, outcomes, .. } = tally;
     let mut text = format!("{} inputs, {} bytes, {lines} lines printed\n", inputs.len(), stdin(inputs).len());
+    text += &format!("{keeps} keeps, {backs} backs, {differing} inputs that print other bits without their backs\n");
     outcomes.iter().for_each(|(outcome, count)| text += &format!("{outcome}: {count}\n"));
     text
 }
@@ -139,10 +149,12 @@ pub fn describe(inputs: &[Vec<u8>]) -> String {
 
 /// A trace for corpus/controller.txt: clk, rst, go, set, two bits of goal. It is
 /// reset, counts on twice, waits, is set to 3, counts over to 0, is reset while it
-/// would count, and set while its clock falls.
-const CONTROLLER: [&str; 22] = [
+/// would count, and set while its clock falls. That moment is kept; it counts on, waits
+/// from there, and goes back to a name that is not kept.
+const CONTROLLER: [&str; 29] = [
     "010000", "110000", "001000", "101000", "001000", "101000", "000000", "100000", "001111", "101111", "001000", "101000",
     "001000", "101000", "011000", "111000", "001110", "101110", "001101", "001101", "101000", "011111",
+    "keep late", "001000", "101000", "back late", "000000", "100000", "back early",
 ];
 
 /// The lowered controller, of which this is the module image, and its trace.

@@ -1,5 +1,6 @@
 //! Benchmarks of the trace program beside the oracle's and beside Icarus Verilog, on
-//! netlists about as large as it takes. It measures; it judges nothing.
+//! netlists about as large as it takes, and of its keeps and backs beside its lines. It
+//! measures; it judges nothing.
 
 use std::fs::File;
 use std::io::Write;
@@ -26,10 +27,15 @@ const USAGE: &str = "bench-trace [--program PROGRAM] [--most LINES]
     trace program in this process, and vvp on the netlist as Verilog, where it is
     installed: 1,000 lines, without what it takes to compile. PROGRAM is
     TRACE_PROGRAM, or target/bin/trace. A process's time is from its start to its
-    end, the least of three; the oracle's is processor time.";
+    end, the least of three; the oracle's is processor time. Then the nanoseconds of
+    a keep and of a back, by what one behind each of LINES lines adds to their time.";
 
 /// Different lines; longer traces repeat them.
 const LINES: usize = 1_000;
+
+/// Netlists whose keeps and backs are timed: one without memory bits, one with as many
+/// as there may be.
+const KEPT: [&str; 2] = ["counters, 3 of 32 bits", "a memory of 1,024 words of 64 bits"];
 
 struct Plan {
     program: PathBuf,
@@ -37,7 +43,7 @@ struct Plan {
 }
 
 fn main() -> ExitCode {
-    match plan(Words::of_process()).and_then(|plan| bench(&plan)) {
+    match plan(Words::of_process()).and_then(|plan| bench(&plan).and_then(|()| bench_names(&plan))) {
         Ok(()) => ExitCode::SUCCESS,
         Err(problem) => {
             eprintln!("bench-trace: {problem}\n\n{USAGE}");
@@ -70,9 +76,7 @@ fn bench(plan: &Plan) -> Result<(), String> {
     println!("|---|---|---|---|{}---|---|---|---|---|---|", "---|".repeat(counts.len()));
     for (name, draft) in HEAVY {
         let load = Load::new(&draft());
-        if !load.is_run_by(&plan.program)? {
-            return Err(format!("{name}: the program prints other lines than the oracle"));
-        }
+        load.is_run_by(&plan.program).map_err(|problem| format!("{name}: {problem}"))?;
         let seconds = counts.iter().map(|&count| load.program_seconds(&plan.program, count)).collect::<Result<Vec<f64>, _>>()?;
         let most = *counts.last().ok_or("--most is at least 1,000")?;
         let program = most as f64 / seconds[seconds.len() - 1];
@@ -82,6 +86,26 @@ fn bench(plan: &Plan) -> Result<(), String> {
         let millions = program * load.nets() as f64 / 1e6;
         let beside = icarus.map_or("| - | - |".to_string(), |icarus| format!("| {icarus:.0} | {:.2} |", program / icarus));
         println!("| {name} | {} |{times} {program:.0} | {millions:.1} | {oracle:.0} | {:.3} {beside}", load.sizes(), program / oracle);
+    }
+    Ok(())
+}
+
+/// Keeps and backs: a line of a table for each netlist.
+fn bench_names(plan: &Plan) -> Result<(), String> {
+    println!("\n| netlist | register bits | memory bits | a line, ns | a keep, ns | a back, ns |");
+    println!("|---|---|---|---|---|---|");
+    let count = plan.most - plan.most % LINES;
+    for (name, draft) in HEAVY.into_iter().filter(|(name, _)| KEPT.contains(name)) {
+        let load = Load::new(&draft());
+        let nanoseconds = |load: &Load| {
+            load.is_run_by(&plan.program).map_err(|problem| format!("{name}: {problem}"))?;
+            Ok::<_, String>(1e9 * load.program_seconds(&plan.program, count)? / count as f64)
+        };
+        let line = nanoseconds(&load)?;
+        let [keep, back] = ["keep a\n", "back a\n"].map(|behind| nanoseconds(&load.with_behind_each(behind)));
+        let words = load.netlist.memories.iter().map(|memory| memory.depth as usize * memory.ports[0].read_data.len());
+        let (registers, memory) = (load.netlist.registers.len(), words.sum::<usize>());
+        println!("| {name} | {registers} | {memory} | {line:.0} | {:.0} | {:.0} |", keep? - line, back? - line);
     }
     Ok(())
 }
@@ -107,6 +131,14 @@ impl Load {
         let netlist = Netlist::decode(&words).expect("a right netlist");
         let lines = Inputs::of(&netlist).busy_lines(&mut Random::new(1), LINES);
         Load { words, netlist, lines }
+    }
+
+    /// The same, with a keep behind the first line and then this line behind each.
+    fn with_behind_each(&self, behind: &str) -> Load {
+        let netlist = Netlist::decode(&self.words).expect("a right netlist");
+        let mut lines: Vec<Vec<u8>> = self.lines.iter().map(|line| [line, behind.as_bytes()].concat()).collect();
+        lines[0] = [&self.lines[0][..], b"keep a\n", behind.as_bytes()].concat();
+        Load { words: self.words.clone(), netlist, lines }
     }
 
     fn nets(&self) -> usize {
@@ -137,9 +169,12 @@ impl Load {
     }
 
     /// Whether the program prints what the oracle prints.
-    fn is_run_by(&self, program: &Path) -> Result<bool, String> {
+    fn is_run_by(&self, program: &Path) -> Result<(), String> {
         let input = bytes(&self.words, &self.lines.concat());
-        Ok(Program(program.to_path_buf()).trace(&input)? == driver::trace(&input))
+        match Program(program.to_path_buf()).trace(&input)? == driver::trace(&input) {
+            true => Ok(()),
+            false => Err("the program prints other lines than the oracle".to_string()),
+        }
     }
 
     /// Parsing, running and printing in this process.

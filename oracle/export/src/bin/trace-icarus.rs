@@ -19,7 +19,8 @@ Writes netlists (lowered, and made by hand) as Verilog, has Icarus Verilog run
 them over traces, many in one simulation, and compares the output bits after each
 line with the oracle's trace program, and with the program that the variable
 TRACE_PROGRAM names, if it does. Where both ports of a memory write to one word, the
-Verilog tells line and memory, which must be the programs'. With --self-test, rules
+Verilog tells line and memory, which must be the programs'. A trace with keeps and
+backs is simulated once for each run that it stands for. With --self-test, rules
 of the step and of values read wrongly on purpose must each differ from Icarus. Exits
 with 1 at the first difference, with 2 where a tool is missing.";
 
@@ -73,7 +74,7 @@ fn run(plan: &Plan) -> Result<String, String> {
     let start = Instant::now();
     let program = std::env::var_os("TRACE_PROGRAM").map(|path| Program(path.into()));
     let (mut next, mut left) = (plan.first, plan.count as usize);
-    let (mut lines, mut nets, mut stored, mut clashes) = (0, 0, 0, 0);
+    let (mut lines, mut nets, mut stored, mut clashes, mut backs) = (0, 0, 0, 0, 0);
     while left > 0 {
         let batch = traced(plan.seed, next, left.min(TOGETHER));
         for (traced, theirs) in batch.iter().zip(icarus(&batch)?) {
@@ -82,6 +83,7 @@ fn run(plan: &Plan) -> Result<String, String> {
             }
             lines += traced.text.lines().count();
             clashes += usize::from(traced.is_clash());
+            backs += traced.endings.len() - 1;
             nets += traced.netlist.nodes.len();
             stored += usize::from(!traced.netlist.registers.is_empty() || !traced.netlist.memories.is_empty());
         }
@@ -92,7 +94,7 @@ fn run(plan: &Plan) -> Result<String, String> {
     let port = if program.is_some() { ", the trace program" } else { "" };
     Ok(format!(
         "equal: Icarus{port}, and the oracle's trace program: {count} traces, {stored} of them with registers or memories, \
-         {clashes} of them up to a write clash, {lines} lines, {nets} nets; seed {}; {seconds:.1} s",
+         {clashes} of them up to a write clash, {backs} backs, {lines} lines, {nets} nets; seed {}; {seconds:.1} s",
         plan.seed
     ))
 }

@@ -1,13 +1,13 @@
--- `trace_lines::has_wrong_letter` meets its contract. Assumes nothing.
-use Rattle.trace_lines.proofs.has_wrong_letter.Statement.{statement}
-use Rattle.trace_lines.proofs.has_wrong_letter.Tie as tie
+-- `trace_answer::has_wrong_letter` meets its contract. Assumes nothing.
+use Rattle.trace_answer.proofs.has_wrong_letter.Statement.{statement}
+use Rattle.trace_answer.proofs.has_wrong_letter.Tie as tie
 use Prim.Native.Nat.{_-_}
 use mathlib.Core.Bool.{false}
 use mathlib.Core.Path.{_≡_, sym, _∙_}
 use lib.ListN.{length, take}
 use Rattle.spec_tests.specs.Rules.{_≢?_, _and_}
 use Rattle.spec_trace.specs.Opened.{having}
-use Rattle.trace_lines.specs.Answers.{letters-none, letters-more, letters-all, letters-found}
+use Rattle.trace_names.specs.Letters.{letters-none, letters-more, letters-all, letters-found}
 use borrow.Author.Needs.{needs}
 
 abbrev Inv-loop : tie.InvT-loop

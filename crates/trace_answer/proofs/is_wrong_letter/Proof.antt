@@ -1,6 +1,6 @@
--- `trace_lines::is_wrong_letter` meets its contract. Assumes nothing.
-use Rattle.trace_lines.proofs.is_wrong_letter.Statement.{statement}
-use Rattle.trace_lines.proofs.is_wrong_letter.Tie as tie
+-- `trace_answer::is_wrong_letter` meets its contract. Assumes nothing.
+use Rattle.trace_answer.proofs.is_wrong_letter.Statement.{statement}
+use Rattle.trace_answer.proofs.is_wrong_letter.Tie as tie
 use mathlib.Core.Path.{refl}
 use Rattle.spec_tests.specs.Laws.{and-miss, and-skip, ne-no, ne-yes, ne-same}
 

@@ -1,0 +1,3 @@
+-- What a line of a trace comes to.
+pub mod Settings
+pub mod Lines

@@ -1,0 +1,5 @@
+-- Moments of a run kept by name.
+pub mod Copies
+pub mod Slots
+pub mod Places
+pub mod Kept
