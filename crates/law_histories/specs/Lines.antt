@@ -13,30 +13,30 @@ use Rattle.spec_rules.specs.Listing.{text}
 use Rattle.spec_trace.specs.Opened.{having}
 use Rattle.spec_trace.specs.Trace.{settingOf, wrongLine, shown, Now, Before, At, reached, clashAt, After, Goes, Stops, settingsLine}
 use Rattle.spec_trace.specs.Named as Named
-use Rattle.spec_trace.specs.Named.{Keep, Back, goodName, names, readLine, History, landed, joined, put, find, restored, anyLine}
+use Rattle.spec_trace.specs.Named.{Keep, Back, goodName, isNamed, readLine, History, landed, joined, put, find, restored, anyLine}
 use Rattle.law_told.specs.Told.{pick-yes, pick-no}
 
 -- ---- which line it is ----
 
 module _ (ws : List ℕ) (k : ℕ) (h : History) (l : List ℕ) where
-  pub keep-line : names (text "keep ") l ≡ true → anyLine ws k h l ≡ Named.kept k (drop 5 l) h
+  pub keep-line : isNamed (text "keep ") l ≡ true → anyLine ws k h l ≡ Named.kept k (drop 5 l) h
   unfolding readLine Named.lineDone
-  keep-line e = ap (Named.lineDone ws k h) (pick-yes (names (text "keep ") l) (Keep (drop 5 l)) _ e)
+  keep-line e = ap (Named.lineDone ws k h) (pick-yes (isNamed (text "keep ") l) (Keep (drop 5 l)) _ e)
 
-  module _ (no : names (text "keep ") l ≡ false) where
-    pub back-line : names (text "back ") l ≡ true → anyLine ws k h l ≡ restored k h (find (drop 5 l) (h .held))
+  module _ (no : isNamed (text "keep ") l ≡ false) where
+    pub back-line : isNamed (text "back ") l ≡ true → anyLine ws k h l ≡ restored k h (find (drop 5 l) (h .held))
     unfolding readLine Named.lineDone
-    back-line e = ap (Named.lineDone ws k h) (pick-no (names (text "keep ") l) (Keep (drop 5 l)) _ no ∙ pick-yes (names (text "back ") l) (Back (drop 5 l)) _ e)
+    back-line e = ap (Named.lineDone ws k h) (pick-no (isNamed (text "keep ") l) (Keep (drop 5 l)) _ no ∙ pick-yes (isNamed (text "back ") l) (Back (drop 5 l)) _ e)
 
-    pub settings-line : names (text "back ") l ≡ false → anyLine ws k h l ≡ joined h (settingOf ws l) (settingsLine ws k (landed ws Before (h .past)) l)
+    pub settings-line : isNamed (text "back ") l ≡ false → anyLine ws k h l ≡ joined h (settingOf ws l) (settingsLine ws k (landed ws Before (h .past)) l)
     unfolding readLine Named.lineDone
-    settings-line e = ap (Named.lineDone ws k h) (pick-no (names (text "keep ") l) (Keep (drop 5 l)) _ no ∙ pick-no (names (text "back ") l) (Back (drop 5 l)) _ e)
+    settings-line e = ap (Named.lineDone ws k h) (pick-no (isNamed (text "keep ") l) (Keep (drop 5 l)) _ no ∙ pick-no (isNamed (text "back ") l) (Back (drop 5 l)) _ e)
 
 -- the longest line that has a name
 
-pub names-short : (word l : List ℕ) → 13 < length l → names word l ≡ false
-unfolding names goodName outside _and_
-names-short word l h = go (sameText (take 5 l) word)
+pub named-short : (word l : List ℕ) → 13 < length l → isNamed word l ≡ false
+unfolding isNamed goodName outside _and_
+named-short word l h = go (sameText (take 5 l) word)
   where
     long : 8 < length (drop 5 l)
     long = let d = length-drop 5 l in omega arith

@@ -11,7 +11,7 @@ use Rattle.spec_tests.specs.Laws.{or-no, and-miss, eq-no, ne-yes, no-ne, no-lt}
 use Rattle.spec_rules.specs.Step.{Setting}
 use Rattle.spec_trace.specs.Opened.{having}
 use Rattle.spec_trace.specs.Trace.{settingOf, wrongLine, shown, Now, Before, At, reached, clashAt, After, Goes, Stops, settingsLine, said, continued, traced}
-use Rattle.spec_trace.specs.Named.{goodName, names, History, landed, joined, anyLine}
+use Rattle.spec_trace.specs.Named.{goodName, isNamed, History, landed, joined, anyLine}
 use Rattle.law_told.specs.Told.{and-second}
 use Rattle.law_histories.specs.Lines.{settings-line, landed-more}
 
@@ -36,8 +36,8 @@ having-no b l e = at (other b) refl e
 pub not-letter : (b c : ℕ) → other b ≡ false → (c ≡ 48 → ⊥) → (c ≡ 49 → ⊥) → b ≡ c → ⊥
 not-letter b c e x y z = y (sym z ∙ no-ne b 49 (and-second (b ≢? 48) (b ≢? 49) e (ne-yes b 48 (λ q. x (sym z ∙ q)))))
 
-not-named : (c : ℕ) (word l : List ℕ) → (c ≡ 48 → ⊥) → (c ≡ 49 → ⊥) → having other l ≡ false → names (c ∷ word) l ≡ false
-unfolding names sameText
+not-named : (c : ℕ) (word l : List ℕ) → (c ≡ 48 → ⊥) → (c ≡ 49 → ⊥) → having other l ≡ false → isNamed (c ∷ word) l ≡ false
+unfolding isNamed sameText
 not-named c word [] x y h = sym (and-miss (goodName (drop 5 [])) refl)
 not-named c word (b ∷ l) x y h = sym (and-miss (goodName (drop 5 (b ∷ l))) (sym (and-miss _ (eq-no b c (not-letter b c (having-no b l h .0) x y)))))
 

@@ -15,11 +15,11 @@ use Rattle.spec_netlist.specs.Accept.{wrongHeader, belongs, mostOwner, mostBit,
 use Rattle.spec_netlist.specs.Examples.{register}
 use Rattle.spec_trace.specs.Opened.{wordsOf, otherLimits, opened, having, noInput, registerUnfit, secondUnfit, memoryUnfit, bitsOf, unfit, portsWith, netsWith}
 use Rattle.spec_trace.specs.Trace.{settingBy, settingOf, wrongLine, digit, shown, reached, clashAt, settingsLine, before, pieces, said, continued, traced}
-use Rattle.spec_trace.specs.Named.{goodName, names, readLine, put, find, landed, joined, kept, restored, lineDone, unless, traceText}
+use Rattle.spec_trace.specs.Named.{goodName, isNamed, readLine, put, find, landed, joined, kept, restored, lineDone, unless, traceText}
 
 -- all that is computed
 computing : ℕ
-unfolding clashing _<?_ _≡?_ _≢?_ _or_ _and_ pick outside upTo first any each listOf only sameText andThen controlOf optional registerOf refuse nodeWord nodeOf nodeAt portLists portLength recordLength split recordsOf recordsWith registerBitOf memoryPortOf memoryOf arithmeticOf comparisonOf outPortOf notOutput isOutputPort netlist digits decimal line together wrongHeader belongs mostOwner mostBit inputCount wrongOwner sameNode wrongBit wrongInput wrongNodeWord portsLength extent member secondData ownNets taken countOf wrongLevel notAbove firstWrong noNet noOptional notOwn wrongPort wrongRegister wrongMemoryPort wrongMemory wrongArithmetic wrongComparison wrongWord judged headerAnswer lengthAnswer nodesAnswer listAnswer alone aloneAnswer wrongCount countsAnswer bodyAnswer accepts wordsOf otherLimits opened having noInput registerUnfit secondUnfit memoryUnfit bitsOf unfit portsWith netsWith settingBy settingOf wrongLine digit shown reached clashAt settingsLine before pieces said continued traced goodName names readLine put find landed joined kept restored lineDone unless traceText
+unfolding clashing _<?_ _≡?_ _≢?_ _or_ _and_ pick outside upTo first any each listOf only sameText andThen controlOf optional registerOf refuse nodeWord nodeOf nodeAt portLists portLength recordLength split recordsOf recordsWith registerBitOf memoryPortOf memoryOf arithmeticOf comparisonOf outPortOf notOutput isOutputPort netlist digits decimal line together wrongHeader belongs mostOwner mostBit inputCount wrongOwner sameNode wrongBit wrongInput wrongNodeWord portsLength extent member secondData ownNets taken countOf wrongLevel notAbove firstWrong noNet noOptional notOwn wrongPort wrongRegister wrongMemoryPort wrongMemory wrongArithmetic wrongComparison wrongWord judged headerAnswer lengthAnswer nodesAnswer listAnswer alone aloneAnswer wrongCount countsAnswer bodyAnswer accepts wordsOf otherLimits opened having noInput registerUnfit secondUnfit memoryUnfit bitsOf unfit portsWith netsWith settingBy settingOf wrongLine digit shown reached clashAt settingsLine before pieces said continued traced goodName isNamed readLine put find landed joined kept restored lineDone unless traceText
 computing = zero
 
 -- four bytes a word, low first

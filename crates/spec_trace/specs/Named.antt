@@ -24,13 +24,13 @@ unfoldable pub goodName : List ℕ → Bool
 goodName w = not (outside (length w) 1 8 or having (λ b. outside b 97 122) w)
 
 -- a line of this word, five bytes with its blank, and a name
-unfoldable pub names : List ℕ → List ℕ → Bool
-names word l = sameText (take 5 l) word and goodName (drop 5 l)
+unfoldable pub isNamed : List ℕ → List ℕ → Bool
+isNamed word l = sameText (take 5 l) word and goodName (drop 5 l)
 
 unfoldable pub readLine : List ℕ → Line
 readLine l =
-    pick (names (text "keep ") l) (Keep (drop 5 l))
-    (pick (names (text "back ") l) (Back (drop 5 l))
+    pick (isNamed (text "keep ") l) (Keep (drop 5 l))
+    (pick (isNamed (text "back ") l) (Back (drop 5 l))
     (Settings l))
 
 -- ---- names held, each with something ----
@@ -58,7 +58,7 @@ pub record History : Type 0 where
 abbrev pub begun : History
 begun = record { past = []; held = [] }
 
--- where a run over these settings, one step each, stands
+-- where a run over these settings stands, the first at its start
 unfoldable pub landed : List ℕ → Now → List Setting → Now
 landed ws now [] = now
 landed ws now (t ∷ ts) = landed ws (At t (reached ws now t)) ts

@@ -11,7 +11,7 @@ use Rattle.spec_rules.specs.Listing.{text}
 use Rattle.spec_trace.specs.Opened.{outputNets}
 use Rattle.spec_trace.specs.Trace.{settingOf, Now, Before, Goes, Stops, settingsLine}
 use Rattle.spec_trace.specs.Named as Named
-use Rattle.spec_trace.specs.Named.{names, History, landed, joined, restored, find, anyLine}
+use Rattle.spec_trace.specs.Named.{isNamed, History, landed, joined, restored, find, anyLine}
 use Rattle.law_told.specs.Told.{untrue}
 use Rattle.listing_text.specs.Text.{Wrote, refusalText}
 use Rattle.trace_line.specs.State.{Prepared, Sized, Holds}
@@ -63,26 +63,26 @@ standing-of {ws} x = record { prepared = x .prepared; sized = x .sized; stands =
 
 -- ---- which line it is ----
 
-its-name : {b : Bool} (word l : List ℕ) → b ≡ names word l → b ≡ true → Name (drop 5 l)
-unfolding names
+its-name : {b : Bool} (word l : List ℕ) → b ≡ isNamed word l → b ≡ true → Name (drop 5 l)
+unfolding isNamed
 its-name word l e t = name-told (and-yes (sym e ∙ t) .1)
 
-pub given-name : {b : Bool} (word l : List ℕ) → b ≡ names word l → b ≡ true → {w : List ℕ} → w ≡ drop 5 l → Name w
+pub given-name : {b : Bool} (word l : List ℕ) → b ≡ isNamed word l → b ≡ true → {w : List ℕ} → w ≡ drop 5 l → Name w
 given-name word l e t ew = subst Name (sym ew) (its-name word l e t)
 
 -- ---- what it comes to ----
 
-module _ {ws steps : List ℕ} {count : ℕ} {inputs outputs registers : List ℕ} {nr : ℕ} {memories : List ℕ} {nm k : ℕ} {l out : List ℕ} {at : ℕ} {values memory names₀ kept : List ℕ}
-    (x : Underway ws steps count inputs outputs registers nr memories nm k values memory names₀ kept) {b : Bool} (e : b ≡ names (text "keep ") l) where
+module _ {ws steps : List ℕ} {count : ℕ} {inputs outputs registers : List ℕ} {nr : ℕ} {memories : List ℕ} {nm k : ℕ} {l out : List ℕ} {at : ℕ} {values memory names kept : List ℕ}
+    (x : Underway ws steps count inputs outputs registers nr memories nm k values memory names kept) {b : Bool} (e : b ≡ isNamed (text "keep ") l) where
   -- a keep
-  pub answers-keep : b ≡ true → {w : List ℕ} → w ≡ drop 5 l → {done : Bool} {names′ kept′ : List ℕ} → Keeps ws memories k w values memory names₀ kept done names′ kept′ → {to : ℕ} {stop : Bool} {out′ : List ℕ} → Unless done k out at out′ to stop
-      → Answers ws steps count inputs outputs registers nr memories nm k l out at values memory names₀ kept to stop out′ values memory names′ kept′
+  pub answers-keep : b ≡ true → {w : List ℕ} → w ≡ drop 5 l → {done : Bool} {names′ kept′ : List ℕ} → Keeps ws memories k w values memory names kept done names′ kept′ → {to : ℕ} {stop : Bool} {out′ : List ℕ} → Unless done k out at out′ to stop
+      → Answers ws steps count inputs outputs registers nr memories nm k l out at values memory names kept to stop out′ values memory names′ kept′
   answers-keep t {w} ew {done} {names′} {kept′} a {to} {stop} {out′} u = go done refl
     where
       is : (h : History) → anyLine ws k h l ≡ Named.kept k w h
       is h = keep-line ws k h l (sym e ∙ t) ∙ ap (λ (v : List ℕ). Named.kept k v h) (sym ew)
 
-      go : (d : Bool) → done ≡ d → Answers ws steps count inputs outputs registers nr memories nm k l out at values memory names₀ kept to stop out′ values memory names′ kept′
+      go : (d : Bool) → done ≡ d → Answers ws steps count inputs outputs registers nr memories nm k l out at values memory names kept to stop out′ values memory names′ kept′
       go true q = record {
         place = u .yes q .1 .upto;
         stops = λ y. untrue (sym (u .yes q .0) ∙ y);
@@ -98,17 +98,17 @@ module _ {ws steps : List ℕ} {count : ℕ} {inputs outputs registers : List �
         sized = λ y. untrue (sym y ∙ u .no q .last);
       }
 
-  module _ (no : b ≡ false) {c : Bool} (f : c ≡ names (text "back ") l) where
+  module _ (no : b ≡ false) {c : Bool} (f : c ≡ isNamed (text "back ") l) where
     -- a back
-    pub answers-back : c ≡ true → {w : List ℕ} → w ≡ drop 5 l → {done : Bool} {values′ memory′ : List ℕ} → Backs ws memories k w values memory names₀ kept done values′ memory′ → {to : ℕ} {stop : Bool} {out′ : List ℕ}
+    pub answers-back : c ≡ true → {w : List ℕ} → w ≡ drop 5 l → {done : Bool} {values′ memory′ : List ℕ} → Backs ws memories k w values memory names kept done values′ memory′ → {to : ℕ} {stop : Bool} {out′ : List ℕ}
         → length values′ ≡ length values → length memory′ ≡ length memory → Unless done k out at out′ to stop
-        → Answers ws steps count inputs outputs registers nr memories nm k l out at values memory names₀ kept to stop out′ values′ memory′ names₀ kept
+        → Answers ws steps count inputs outputs registers nr memories nm k l out at values memory names kept to stop out′ values′ memory′ names kept
     answers-back t {w} ew {done} {values′} {memory′} a {to} {stop} {out′} lv lm u = go done refl
       where
         is : (h : History) → anyLine ws k h l ≡ restored k h (find w (h .held))
         is h = back-line ws k h l (sym e ∙ no) (sym f ∙ t) ∙ ap (λ (v : List ℕ). restored k h (find v (h .held))) (sym ew)
 
-        go : (d : Bool) → done ≡ d → Answers ws steps count inputs outputs registers nr memories nm k l out at values memory names₀ kept to stop out′ values′ memory′ names₀ kept
+        go : (d : Bool) → done ≡ d → Answers ws steps count inputs outputs registers nr memories nm k l out at values memory names kept to stop out′ values′ memory′ names kept
         go true q = record {
           place = u .yes q .1 .upto;
           stops = λ y. untrue (sym (u .yes q .0) ∙ y);
@@ -131,7 +131,7 @@ module _ {ws steps : List ℕ} {count : ℕ} {inputs outputs registers : List �
 
     -- settings
     pub answers-settings : c ≡ false → {to : ℕ} {stop : Bool} {out′ values′ memory′ : List ℕ} → Settles ws steps count inputs outputs registers nr memories nm k l out at values memory to stop out′ values′ memory′
-        → Answers ws steps count inputs outputs registers nr memories nm k l out at values memory names₀ kept to stop out′ values′ memory′ names₀ kept
+        → Answers ws steps count inputs outputs registers nr memories nm k l out at values memory names kept to stop out′ values′ memory′ names kept
     answers-settings t {to} {stop} {out′} {values′} {memory′} s = record {
       place = s .place;
       stops = λ y. (

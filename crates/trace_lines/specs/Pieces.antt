@@ -11,7 +11,7 @@ use Rattle.spec_rules.specs.Listing.{text}
 use Rattle.spec_trace.specs.Opened.{inputNets}
 use Rattle.spec_trace.specs.Trace.{settingOf, wrongLine, Before, Goes, Stops, before, pieces, said, continued, traced}
 use Rattle.spec_trace.specs.Named.{History, landed, joined, anyLine, textFrom}
-use Rattle.law_histories.specs.Lines.{names-short, line-wrong, settings-line}
+use Rattle.law_histories.specs.Lines.{named-short, line-wrong, settings-line}
 
 -- no byte of l ends a line
 abbrev pub Free : List ℕ → Type 0
@@ -55,7 +55,7 @@ pieces-more (b ∷ l) more f s = sym (pick-skip _ (eq-no b 10 (f 0 (omega arith)
 long-wrong : (ws : List ℕ) (k : ℕ) (h : History) (l : List ℕ) → length (inputNets ws) < length l → 13 < length l → anyLine ws k h l ≡ Stops (Refused 13 k 0)
 unfolding wrongLine joined
 long-wrong ws k h l i n =
-    settings-line ws k h l (names-short (text "keep ") l n) (names-short (text "back ") l n)
+    settings-line ws k h l (named-short (text "keep ") l n) (named-short (text "back ") l n)
     ∙ ap (joined h (settingOf ws l)) (line-wrong ws k (landed ws Before (h .past)) l (sym (or-hit _ (ne-yes _ _ (λ e. absurd (omega arith))))))
 
 module _ (ws : List ℕ) (k : ℕ) (h : History) where

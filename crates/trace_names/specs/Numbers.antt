@@ -9,7 +9,7 @@ use lib.Seq.{getD-drop}
 use Rattle.spec_tests.specs.Rules.{_<?_, _or_, _and_, outside, sameText}
 use Rattle.spec_tests.specs.Laws.{or-left, or-right, or-skip, and-miss, and-skip, and-yes, lt-yes, lt-no, eq-yes, yes-eq, inside}
 use Rattle.spec_trace.specs.Opened.{having}
-use Rattle.spec_trace.specs.Named.{goodName, names}
+use Rattle.spec_trace.specs.Named.{goodName, isNamed}
 use Rattle.law_told.specs.Told.{untrue}
 use Rattle.trace_names.specs.Letters.{none-there}
 
@@ -140,10 +140,10 @@ unfolding goodName outside
 long-name w h = sym (ap not (or-left (having (λ b. outside b 97 122) w) (or-right (length w <? 1) (lt-yes 8 (length w) h))))
 
 module _ (word l : List ℕ) {five : List ℕ} {t : Bool} (e : five ≡ take 5 l) (f : t ≡ sameText five word) where
-  pub other-word : t ≡ false → false ≡ names word l
-  unfolding names
+  pub other-word : t ≡ false → false ≡ isNamed word l
+  unfolding isNamed
   other-word q = and-miss _ (sym (f ∙ ap (λ (x : List ℕ). sameText x word) e) ∙ q)
 
-  pub its-name : t ≡ true → {w : List ℕ} → w ≡ drop 5 l → {r : Bool} → r ≡ goodName w → r ≡ names word l
-  unfolding names
+  pub its-name : t ≡ true → {w : List ℕ} → w ≡ drop 5 l → {r : Bool} → r ≡ goodName w → r ≡ isNamed word l
+  unfolding isNamed
   its-name q g h = and-skip (sym (f ∙ ap (λ (x : List ℕ). sameText x word) e) ∙ q) (h ∙ ap goodName g)

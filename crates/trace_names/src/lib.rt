@@ -4,7 +4,7 @@ ghost use Prim.Native.Nat.{_≤_};
 ghost use lib.ListN.{length, getD};
 ghost use Rattle.spec_tests.specs.Rules.{_≡?_, _or_, outside, first};
 ghost use Rattle.spec_trace.specs.Opened.{having};
-ghost use Rattle.spec_trace.specs.Named.{goodName, names};
+ghost use Rattle.spec_trace.specs.Named.{goodName, isNamed};
 ghost use Rattle.trace_names.specs.Numbers.{number};
 
 // A name has a letter that is not of a to z.
@@ -36,7 +36,7 @@ fn is_name(name: &[u8]) -> bool
 
 // A line of this word, five bytes, and a name.
 pub fn is_named(line: &[u8], word: &[u8]) -> bool
-    ensures { λ r. ⌜ r ≡ names (now (word .entry)) (now (line .entry)) ⌝ }
+    ensures { λ r. ⌜ r ≡ isNamed (now (word .entry)) (now (line .entry)) ⌝ }
 {
     if check_names::same_text(image_fields::stretch(line, 0, 5), word) {
         return is_name(image_fields::part(line, 5));
