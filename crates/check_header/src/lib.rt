@@ -1,4 +1,6 @@
 // The check of the header, refusal 3, and of the caller's limits and buffers, refusals 1, 2 and 5.
+#![tactic(auto)]
+
 ghost use Rattle.std.specs.Prelude.{◌≡◌, ◌≤◌, ◌<◌};
 ghost use Rattle.spec_tests.specs.Rules.{◌<?◌, ◌or◌, outside, sum_to};
 ghost use Rattle.spec_rules.specs.Image.{most_of, count_at_of, start_of};

@@ -1,4 +1,5 @@
 // The check of an image: refusals 1 to 5, in their order.
+#![tactic(auto)]
 ghost use Rattle.std.specs.Prelude.{◌≡◌, ◌≤◌, length};
 ghost use Rattle.spec_rules.specs.Image.{count_at_of};
 ghost use Rattle.spec_rules.specs.Checks as rule;
@@ -6,7 +7,7 @@ ghost use Rattle.check_drivers.specs.Bits.{SignalsFit, Firsts, Marks};
 ghost use Rattle.check_image.specs.Accepted.{Counts};
 ghost use Rattle.check_image.specs.Checked.{answer_of, drivers_then, records_then};
 
-#[derive(Drop)]
+#[derive(Clone, Copy)]
 pub enum Checked {
     Fine,
     Limits,

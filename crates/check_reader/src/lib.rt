@@ -1,6 +1,7 @@
 // The module image as a struct that holds it as a borrowed slice (`Lowering<'a>` of the Rust). Its methods take it apart and call a
 // reader on the slice and a number; names are handed back as stretches of the caller's image. Functions with plain parameters stand
 // above it: who calls those has no struct in hand.
+#![tactic(auto)]
 ghost use Rattle.std.specs.Prelude.{◌≡◌};
 ghost use Rattle.spec_rules.specs.Image.{count_at_of, name_of, signal_width, signal_at, assign_at, register_at, memory_at};
 ghost use Rattle.spec_rules.specs.Checks.{checked};
@@ -11,7 +12,7 @@ ghost use Rattle.check_image.specs.Checked.{answer_of};
 use check_image::Checked;
 use image_records::{Assignment, Expression, Memory, Register, Signal};
 
-#[derive(Drop)]
+#[derive(Clone, Copy)]
 pub struct Lowering<'a> {
     pub image: &'a [u8],
 }

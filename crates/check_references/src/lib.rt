@@ -1,4 +1,6 @@
 // The rules that several sorts of record share: references to signals and expressions, 1-bit signals, controls. For all bytes.
+#![tactic(auto)]
+
 ghost use Rattle.std.specs.Prelude.{◌≡◌, ◌+◌, ◌≤◌};
 ghost use Rattle.spec_tests.specs.Rules.{◌<?◌};
 ghost use Rattle.spec_rules.specs.Checks.{no_signal, no_expr, bad_bit, bad_control, not_zero, bad_optional, bad_value};

@@ -1,4 +1,5 @@
 // Which operands an Add takes: an inner Add's with a carry, or its own. Follows `lower_add_with_carry` of struo-synth.
+#![tactic(auto)]
 ghost use Rattle.std.specs.Prelude.{◌≡◌, ◌+◌, ◌≤◌, ◌<◌};
 ghost use Rattle.spec_rtl.specs.Rtl as R;
 ghost use Rattle.spec_model.specs.Lowering as model;
@@ -8,7 +9,7 @@ ghost use Rattle.expr_fusion.specs.Fusion.{In, InList, Inside, parts_of, ZeroSte
 use image_records::{ExprKind, OpClass};
 
 // What an expression's kind says of its being zero.
-#[derive(Drop)]
+#[derive(Clone, Copy)]
 pub enum ZeroTest {
     Zero,
     NotZero,
@@ -61,7 +62,7 @@ pub fn is_zero_expression(image: &[u8], e: u32) -> bool
 }
 
 // The expression whose bit 0 is the carry.
-#[derive(Drop)]
+#[derive(Clone, Copy)]
 pub enum Carry {
     Of(u32),
     Nothing,
@@ -125,7 +126,7 @@ pub fn carry_lsb(image: &[u8], e: u32) -> Carry
 }
 
 // The operands of an Add.
-#[derive(Drop)]
+#[derive(Clone, Copy)]
 pub enum Sum {
     Of(u32, u32),
     Nothing,
@@ -162,7 +163,7 @@ pub fn add_operands(image: &[u8], e: u32) -> Sum
 }
 
 // The answer of the fusion test: an inner Add's operands and a carry, or nothing to fuse.
-#[derive(Drop)]
+#[derive(Clone, Copy)]
 pub enum Fusion {
     Carried(u32, u32, u32),
     Plain,
@@ -197,7 +198,7 @@ pub fn fusion_test(image: &[u8], lhs: u32, rhs: u32) -> Fusion
 }
 
 // What an Add lowers: two expressions, and perhaps a carry.
-#[derive(Drop)]
+#[derive(Clone, Copy)]
 pub struct Operands {
     pub lhs: u32,
     pub rhs: u32,

@@ -1,11 +1,13 @@
 // The rows of the range table on numbers: what an expression's range is, from its operands' ranges.
+#![tactic(auto)]
+
 ghost use Rattle.std.specs.Prelude.{◌≡◌, ◌+◌, ◌-◌, ◌*◌, ◌/◌, ◌%◌, ◌^◌, ◌<◌, ◌≤◌, min, max, ◌&&◌, nat_le};
 ghost use Rattle.std.proofs.Math.Option.{some};
 ghost use Rattle.spec_model.specs.Ranges as model;
 ghost use Rattle.expr_range_rows.specs.Rows.{shown, known, Held, Joins, and_range, join_of, narrow_word};
 
 // The least and the largest number that a word can be.
-#[derive(Drop)]
+#[derive(Clone, Copy)]
 pub struct Range {
     pub min: u64,
     pub max: u64,
@@ -150,7 +152,7 @@ fn hull(lhs: Range, rhs: Range) -> Range
 }
 
 // A range, or none for an expression wider than 64 bits.
-#[derive(Drop)]
+#[derive(Clone, Copy)]
 pub enum Known {
     Of(Range),
     Wide,

@@ -1,4 +1,6 @@
 // Total readers of the module image: past the end a byte reads as 0, so no reader asks anything of its caller.
+#![tactic(auto)]
+
 ghost use Rattle.std.specs.Prelude.{◌≡◌, ◌+◌, ◌≤◌, ◌<◌, length, take, drop, get_or};
 ghost use Rattle.spec_tests.specs.Rules.{outside};
 ghost use Rattle.spec_rules.specs.Image as Image;

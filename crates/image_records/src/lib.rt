@@ -1,4 +1,5 @@
 // The records of the image as values: expressions, signals, assignments, registers and memories; operators by class.
+#![tactic(auto)]
 ghost use Rattle.std.specs.Prelude.{◌≡◌, ◌≤◌};
 ghost use Rattle.spec_rules.specs.Image.{direction, signal_at, assign_at, register_at, memory_at};
 ghost use Rattle.image_records.specs.Others.{direction_means, signal_means, assignment_means, control_means, enable_means, reset_means, register_means, port_means, second_means, memory_means, control_in, enable_in, reset_in, port_in, second_in};
@@ -7,7 +8,7 @@ ghost use Rattle.image_records.specs.OpClass.{op_class_of, bitwise};
 
 use image_numbers::ABSENT;
 
-#[derive(Drop)]
+#[derive(Clone, Copy)]
 pub enum UnaryOp {
     BitNot,
     LogicNot,
@@ -16,7 +17,7 @@ pub enum UnaryOp {
     ReduceXor,
 }
 
-#[derive(Drop)]
+#[derive(Clone, Copy)]
 pub enum BinaryOp {
     And,
     Or,
@@ -40,7 +41,7 @@ pub enum BinaryOp {
 }
 
 // Operands as in the image: a constant and a Concat name their list words.
-#[derive(Drop)]
+#[derive(Clone, Copy)]
 pub enum ExprKind {
     Signal(u32, u32),
     Constant(u32),
@@ -51,7 +52,7 @@ pub enum ExprKind {
     Slice(u32, u32),
 }
 
-#[derive(Drop)]
+#[derive(Clone, Copy)]
 pub struct Expression {
     pub width: u32,
     pub kind: ExprKind,
@@ -173,20 +174,20 @@ pub fn expression_at(image: &[u8], r: u32) -> Expression
     expression_in(image_fields::section(image, image_fields::EXPRESSIONS), r)
 }
 
-#[derive(Drop)]
+#[derive(Clone, Copy)]
 pub enum Direction {
     Internal,
     Input,
     Output,
 }
 
-#[derive(Drop)]
+#[derive(Clone, Copy)]
 pub struct Signal {
     pub width: u32,
     pub direction: Direction,
 }
 
-#[derive(Drop)]
+#[derive(Clone, Copy)]
 pub struct Assignment {
     pub signal: u32,
     pub lsb: u32,
@@ -195,32 +196,32 @@ pub struct Assignment {
 }
 
 // A control's signal, and the level at which it is active.
-#[derive(Drop)]
+#[derive(Clone, Copy)]
 pub struct Control {
     pub signal: u32,
     pub level: bool,
 }
 
-#[derive(Drop)]
+#[derive(Clone, Copy)]
 pub enum Enable {
     Absent,
     Present(Control),
 }
 
-#[derive(Drop)]
+#[derive(Clone, Copy)]
 pub struct Reset {
     pub control: Control,
     pub asynchronous: bool,
     pub value: u32,
 }
 
-#[derive(Drop)]
+#[derive(Clone, Copy)]
 pub enum ResetOption {
     Absent,
     Present(Reset),
 }
 
-#[derive(Drop)]
+#[derive(Clone, Copy)]
 pub struct Register {
     pub target: u32,
     pub next: u32,
@@ -230,7 +231,7 @@ pub struct Register {
     pub reset: ResetOption,
 }
 
-#[derive(Drop)]
+#[derive(Clone, Copy)]
 pub struct MemoryPort {
     pub read_address: u32,
     pub read_data: u32,
@@ -242,13 +243,13 @@ pub struct MemoryPort {
     pub rising: bool,
 }
 
-#[derive(Drop)]
+#[derive(Clone, Copy)]
 pub enum SecondPort {
     Absent,
     Present(MemoryPort),
 }
 
-#[derive(Drop)]
+#[derive(Clone, Copy)]
 pub struct Memory {
     pub depth: u32,
     pub style: u32,
@@ -413,7 +414,7 @@ pub fn memory_at(image: &[u8], r: u32) -> Memory
 // ---- operators by class ----
 
 // What the ranges and the fusion ask of an operator.
-#[derive(Drop)]
+#[derive(Clone, Copy)]
 pub enum OpClass {
     Ands,
     Ors,

@@ -1,5 +1,6 @@
 // The listing program's stored runs: reads how many inputs there are, then of each its length and its bytes, and prints the listing of each.
 // oracle/compare/src/bin/make-listings.rs makes what is read and what must be printed.
+#![tactic(auto)]
 ghost use Rattle.std.specs.Prelude.{◌≤◌, length};
 
 fn read_word() -> u32 {

@@ -1,4 +1,5 @@
 // The answer of a call: accepted, or a refusal with its place, and its three numbers.
+#![tactic(auto)]
 ghost use Rattle.std.specs.Prelude.{◌≡◌};
 ghost use Rattle.spec_call.specs.Call.{numbers_of};
 ghost use Rattle.check_image.specs.Checked as checked;
@@ -8,7 +9,7 @@ use check_image::Checked;
 use walk_view::Lowered;
 
 // Accepted, or a refusal with its place (docs/RULES.md): 1 to 10 in this order.
-#[derive(Drop)]
+#[derive(Clone, Copy)]
 pub enum Outcome {
     Fine,
     Limits,

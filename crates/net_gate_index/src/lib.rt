@@ -1,4 +1,5 @@
 // Equal constants and gates are made a single time: a hash index in lent words, with chains.
+#![tactic(auto)]
 ghost use Rattle.std.specs.Prelude.{◌≡◌, ◌+◌, ◌*◌, ◌≤◌, ◌<◌, length, get_or};
 ghost use Rattle.spec_model.specs.Words.{absent, node};
 ghost use Rattle.spec_model.specs.Builder.{same, find, add_cached};
@@ -11,7 +12,7 @@ ghost use Rattle.net_gate_index.specs.Found.{found_of};
 use image_numbers::*;
 use net_nodes::Added;
 
-#[derive(Drop)]
+#[derive(Clone, Copy)]
 pub enum Found {
     At(u32),
     Nothing,

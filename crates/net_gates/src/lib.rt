@@ -1,4 +1,5 @@
 // Constants and gates, folded as struo-ir folds them.
+#![tactic(auto)]
 ghost use Rattle.std.specs.Prelude.{◌≡◌, ℕ, ◌<◌, min, max};
 ghost use Rattle.spec_model.specs.Words.{absent, gate};
 ghost use Rattle.spec_model.specs.Builder.{node_for_net, is_constant, add_cached, add_constant, add_not, add_and, add_or, add_xor, add_mux};
@@ -124,7 +125,7 @@ pub fn add_xor(net: &mut [u32], idx: &mut [u32], n: u32, lhs: u32, rhs: u32) -> 
 }
 
 // A mux's condition and its two sides.
-#[derive(Drop)]
+#[derive(Clone, Copy)]
 struct Mux {
     condition: u32,
     then_net: u32,

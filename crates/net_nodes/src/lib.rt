@@ -1,4 +1,5 @@
 // Nodes of a netlist image in lent words: 16 header words, then six words a node.
+#![tactic(auto)]
 ghost use Rattle.std.specs.Prelude.{◌≡◌, false, ℕ, ◌+◌, ◌*◌, ◌≤◌, ◌<◌, length, get_or, replicate};
 ghost use Rattle.spec_model.specs.Words.{absent, node};
 ghost use Rattle.spec_model.specs.Builder.{node_for_net, constant_value, add_node};
@@ -10,7 +11,7 @@ ghost use Rattle.net_nodes.specs.Gives.{value_of, Adds};
 use image_numbers::*;
 
 // What adding gives: the net, or refusal 9 or 10.
-#[derive(Drop)]
+#[derive(Clone, Copy)]
 pub enum Added {
     Net(u32),
     TooManyNets,
@@ -18,7 +19,7 @@ pub enum Added {
 }
 
 // A net's constant value, if it has one.
-#[derive(Drop)]
+#[derive(Clone, Copy)]
 pub enum Constant {
     Zero,
     One,

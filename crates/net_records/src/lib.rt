@@ -1,4 +1,5 @@
 // List records of a netlist image: the list stands behind n nodes; the header counts its words and the records of each kind.
+#![tactic(auto)]
 ghost use Rattle.std.specs.Prelude.{◌≡◌, ◌+◌, ◌≤◌, length};
 ghost use Rattle.std.proofs.lemmas.List.Edits.{sets};
 ghost use Rattle.net_view.specs.View.{Formed, Built};
@@ -7,7 +8,7 @@ ghost use Rattle.net_records.specs.Pushes.{Pushes};
 use image_numbers::*;
 
 // What pushing gives: refusal 10 if the record would pass the list's limit.
-#[derive(Drop)]
+#[derive(Clone, Copy)]
 pub enum Pushed {
     Done,
     ListFull,

@@ -1,5 +1,6 @@
 // Netlists taken back in, stored runs: reads how many slices there are, then of each the number of its words and the words, low byte first,
 // and prints the answer of each, three numbers. oracle/compare/src/bin/make-netlists.rs makes what is read and what must be printed.
+#![tactic(auto)]
 ghost use Rattle.std.specs.Prelude.{◌≡◌, length};
 
 // What each word of an answer holds before a call.

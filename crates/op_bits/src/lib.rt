@@ -1,4 +1,5 @@
 // Gates over the bits of words: the nets of a word stand in a lent slice, and the result takes the place of the first operand.
+#![tactic(auto)]
 ghost use Rattle.std.specs.Prelude.{◌≡◌, length};
 ghost use Rattle.spec_model.specs.Builder.{each, both, add_not, add_mux};
 ghost use Rattle.spec_model.specs.Lowering.{add_gate, add_equal};
@@ -12,7 +13,7 @@ ghost use Rattle.op_bits.specs.Kinds.{gate_of, pair_made};
 use net_fold::Filled;
 use net_nodes::Added;
 
-#[derive(Drop)]
+#[derive(Clone, Copy)]
 pub enum Gate {
     And,
     Or,
@@ -20,7 +21,7 @@ pub enum Gate {
 }
 
 // What is made of two bits: a gate, or whether they are equal.
-#[derive(Drop)]
+#[derive(Clone, Copy)]
 pub enum Pair {
     Gate(Gate),
     Equal,

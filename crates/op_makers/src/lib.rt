@@ -1,4 +1,5 @@
 // A binary operator by what makes it.
+#![tactic(auto)]
 ghost use Rattle.std.specs.Prelude.{◌≡◌};
 ghost use Rattle.op_makers.specs.Class.{class_of};
 
@@ -8,7 +9,7 @@ use net_fold::ArithmeticOp;
 use op_bits::Gate;
 use op_shifts::ShiftKind;
 
-#[derive(Drop)]
+#[derive(Clone, Copy)]
 pub enum Class {
     Bitwise(Gate),
     Arithmetic(ArithmeticOp),

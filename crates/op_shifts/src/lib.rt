@@ -1,4 +1,5 @@
 // Shifts by a word: a stage of muxes for each bit of the amount.
+#![tactic(auto)]
 ghost use Rattle.std.specs.Prelude.{◌≡◌, ◌+◌, ◌*◌, ◌≤◌, ◌<◌, min, length, get_or};
 ghost use Rattle.spec_model.specs.Builder.{both, add_mux};
 ghost use Rattle.spec_model.specs.Lowering.{shifted, stages, shift};
@@ -11,7 +12,7 @@ ghost use Rattle.op_shifts.specs.Kinds.{shift_of};
 use net_fold::Filled;
 use net_nodes::Added;
 
-#[derive(Drop)]
+#[derive(Clone, Copy)]
 pub enum ShiftKind {
     Left,
     Right,

@@ -1,4 +1,5 @@
 // What connecting memories, registers and outputs of struo-synth has in common: words of a list record, and the record pushed.
+#![tactic(auto)]
 ghost use Rattle.std.specs.Prelude.{◌≡◌, ◌<◌, get_or};
 ghost use Rattle.spec_rules.specs.Image.{count_at_of, signal_width};
 ghost use Rattle.spec_model.specs.Words.{Netlist, low_word, bit_word};
@@ -17,7 +18,7 @@ use scratch_tables::Known;
 use walk_view::Lowered;
 
 // A control in a record: its net and its level.
-#[derive(Drop)]
+#[derive(Clone, Copy)]
 pub struct ControlWords {
     pub net: u32,
     pub level: u32,

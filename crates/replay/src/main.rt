@@ -1,5 +1,6 @@
 // Replays the calls of the oracle's list (oracle/replay/README.md) from standard input: each must be answered as listed, and the lowering
 // call must leave both buffers as listed.
+#![tactic(auto)]
 ghost use Rattle.std.specs.Prelude.{◌≡◌, ◌≤◌, length};
 
 use image_fields::word;
@@ -8,14 +9,14 @@ use image_fields::word;
 const BEFORE: u32 = 2779096485;
 
 // What is answered as listed.
-#[derive(Drop)]
+#[derive(Clone, Copy)]
 struct Agreed {
     checks: bool,
     lowering: bool,
 }
 
 // How many calls are answered as listed.
-#[derive(Drop)]
+#[derive(Clone, Copy)]
 struct Agreements {
     checks: u32,
     lowering: u32,

@@ -1,5 +1,6 @@
 // The walk's tables in its scratch: nets, drivers and marks of signal bits, nets of expression bits. Each function reads or writes
 // one of them; the image is what the contracts speak of.
+#![tactic(auto)]
 ghost use Rattle.std.specs.Prelude.{◌≡◌, false, map, suc, ◌+◌, ◌≤◌, ◌<◌, length, get_or, set, take};
 ghost use Rattle.std.proofs.Math.Seq.{paste};
 ghost use Rattle.spec_tests.specs.Rules.{list_of};
@@ -12,14 +13,14 @@ ghost use Rattle.scratch_tables.specs.Answers.{known_of, driven_by, SignalPlace,
 use image_numbers::ABSENT;
 
 // A net that may not be there yet.
-#[derive(Drop)]
+#[derive(Clone, Copy)]
 pub enum Known {
     Net(u32),
     Absent,
 }
 
 // What drives a signal's bit: a bit of an expression, or no assignment.
-#[derive(Drop)]
+#[derive(Clone, Copy)]
 pub enum Driver {
     Expr(u32, u32),
     Nothing,

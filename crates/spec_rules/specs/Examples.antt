@@ -1,7 +1,7 @@
 -- Demand 3 is no empty claim. The smallest image, y = ~a: its checks, listing, module; demand 3 holds for its netlist words and
 -- fails for words in which the output reads a where it should read ~a. A register: a netlist right at the start only fails it.
 use Rattle.std.specs.Prelude.{ℕ, zero, suc, ◌≡◌, refl, Bool, true, false, List, [], ◌∷◌, ltb, eqb}
-use Rattle.std.proofs.Common.{sym, ap, ◌∙◌, arith}
+use Rattle.std.proofs.Common.{sym, subst, ap, ◌∙◌, arith}
 use Rattle.std.proofs.Math.Path.{fun_ext}
 use Rattle.std.proofs.Math.Option.{Option, none, some, none-ne-some, some-injective}
 use Rattle.std.proofs.Math.Dec.{leb-suc-suc, leb-suc-zero, eqb-suc-suc, eqb-zero-suc}
@@ -102,7 +102,7 @@ holds_here ported u c l = run_alike (of_module m u) (of_netlist (n 1)) (λ s c. 
     at s c (suc (suc p)) i = let f : eqb 1 (suc (suc p)) ≡ false = eqb-suc-suc 0 (suc p) ∙ eqb-zero-suc p in rw f
 
 pub holds : Demand3 (decode image) (netlist right)
-holds = rw (the_module, the_netlist) holds_here
+holds = subst (λ x. Demand3 x (netlist right)) (sym the_module) (subst (λ x. Demand3 m x) (sym the_netlist) holds_here)
 
 -- output bit 0 of signal p after setting k
 shown : ℕ → ℕ → List Seen → Option Bool
@@ -129,7 +129,7 @@ fails_here d = differ (ap (shown 1 0) (d ported (λ p i. false) empty ((λ p i. 
     }
 
 pub fails : Demand3 (decode image) (netlist wrong) → ⊥
-fails d = fails_here (rw (the_module, the_other) at d)
+fails d = fails_here (subst (λ x. Demand3 m x) the_other (subst (λ x. Demand3 x (netlist wrong)) the_module d))
 
 -- ---- signals clock, d, q; at the clock's rising edge q takes d ----
 

@@ -1,4 +1,5 @@
 // A netlist image taken back in: header, length, nodes, list, nodes left without a record, record counts, in this order.
+#![tactic(auto)]
 ghost use Rattle.std.specs.Prelude.{◌≡◌, ℕ, ◌*◌, ◌≤◌, ◌<◌, length, get_or};
 ghost use Rattle.spec_tests.specs.Rules.{first};
 ghost use Rattle.spec_rules.specs.NetlistImage.{records_of};
@@ -12,7 +13,7 @@ ghost use Rattle.stored_check.specs.Cut.{list_end};
 use image_numbers::*;
 
 // Nothing is wrong, or the number of the first wrong word in the slice.
-#[derive(Drop)]
+#[derive(Clone, Copy)]
 pub enum Stored {
     Right,
     Wrong(u32),

@@ -1,4 +1,5 @@
 // The library's public calls.
+#![tactic(auto)]
 ghost use Rattle.std.specs.Prelude.{◌≡◌};
 ghost use Rattle.spec_rules.specs.Checks.{checked};
 ghost use Rattle.spec_tests.specs.Rules.{pick};

@@ -1,6 +1,7 @@
 // The trace program: reads a netlist image and a trace from standard input, and prints the output bits after each line, or the refusal. What it
 // prints is made by proved functions, and a turn of its loop is one of the calls that write the text (`Turned`); that the bytes are those of standard
 // input, and that the text goes to standard output, is said here alone.
+#![tactic(auto)]
 ghost use Rattle.std.specs.Prelude.{◌≡◌, true, not, ◌+◌, ◌-◌, ◌≤◌, ◌<◌, length, take};
 ghost use Rattle.spec_tests.specs.Rules.{◌and◌};
 ghost use Rattle.trace_answer.specs.Lines.{Underway};
@@ -12,7 +13,7 @@ use trace_open::Opened;
 use trace_tables::Tables;
 
 // Where the bytes that were read and are not used up begin and end in their buffer, the next line's number, and whether the run goes on.
-#[derive(Drop)]
+#[derive(Clone, Copy)]
 struct Held {
     from: usize,
     end: usize,

@@ -1,4 +1,5 @@
 // One line of a trace answered: settings are judged, taken and printed; a keep or a back prints nothing.
+#![tactic(auto)]
 ghost use Rattle.std.specs.Prelude.{◌≡◌, true, false, ◌≤◌, length};
 ghost use Rattle.spec_tests.specs.Rules.{◌≢?◌, ◌or◌, ◌and◌};
 ghost use Rattle.spec_trace.specs.Opened.{having};
@@ -7,7 +8,7 @@ ghost use Rattle.trace_answer.specs.Settings.{Refuses, Unless, Settles};
 ghost use Rattle.trace_answer.specs.Lines.{Underway, Answers};
 
 // Where a line's text ends, and whether it is the last.
-#[derive(Drop)]
+#[derive(Clone, Copy)]
 pub struct Printed {
     pub at: usize,
     pub stop: bool,

@@ -1,4 +1,5 @@
 // The netlist image at the front of the trace program's input: its words, its end by its header, and its judgement.
+#![tactic(auto)]
 ghost use Rattle.std.specs.Prelude.{◌≡◌, ◌-◌, ◌/◌, ◌≤◌, ◌<◌, length};
 ghost use Rattle.spec_trace.specs.Opened.{other_limits, opened};
 ghost use Rattle.stored_check.specs.Answer as stored;
@@ -11,7 +12,7 @@ use image_numbers::*;
 use stored_check::Stored;
 
 // Nothing is wrong; a word is, by refusal 11; or the image is none for the trace program, refusal 12.
-#[derive(Drop)]
+#[derive(Clone, Copy)]
 pub enum Judged {
     Right,
     Wrong(u32),

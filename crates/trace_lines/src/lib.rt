@@ -1,4 +1,5 @@
 // The lines of a trace as its bytes come: the first whole line among some bytes is answered.
+#![tactic(auto)]
 ghost use Rattle.std.specs.Prelude.{◌≡◌, ◌≤◌, length};
 ghost use Rattle.spec_tests.specs.Rules.{◌<?◌, ◌and◌};
 ghost use Rattle.trace_answer.specs.Settings.{Refuses};
@@ -6,7 +7,7 @@ ghost use Rattle.trace_answer.specs.Lines.{Underway};
 ghost use Rattle.trace_lines.specs.Answers.{LineEnd, Waits, Answered};
 
 // What became of some bytes: how many are used up, where the text ends, and whether it is the last.
-#[derive(Drop)]
+#[derive(Clone, Copy)]
 pub struct Progress {
     pub used: usize,
     pub at: usize,

@@ -1,4 +1,5 @@
 // The opening of a trace: the judgement of its netlist image by refusals 11 and 12, and the tables of the run.
+#![tactic(auto)]
 ghost use Rattle.std.specs.Prelude.{◌≡◌, ◌*◌, ◌≤◌, length, take, replicate};
 ghost use Rattle.spec_trace.specs.Opened.{words_of};
 ghost use Rattle.trace_image.specs.Whole.{image_words};
@@ -8,7 +9,7 @@ use trace_image::Judged;
 use trace_tables::Tables;
 
 // The tables of a run; a word is wrong, by refusal 11; or the image is none for the trace program, refusal 12.
-#[derive(Drop)]
+#[derive(Clone, Copy)]
 pub enum Opened {
     Run(Tables),
     Wrong(u32),

@@ -1,4 +1,5 @@
 // The lines among some bytes of a trace, taken one after the other while there is room for a line's text or a refusal's.
+#![tactic(auto)]
 ghost use Rattle.std.specs.Prelude.{◌≡◌, not, ◌+◌, ◌≤◌, length, take, drop};
 ghost use Rattle.spec_tests.specs.Rules.{◌<?◌};
 ghost use Rattle.trace_answer.specs.Lines.{Underway};
@@ -8,7 +9,7 @@ ghost use Rattle.trace_run.specs.Held.{end_text};
 
 // How many bytes are used up, where the text ends, the next line's number; whether the next line must still come, and whether the text is
 // the last.
-#[derive(Drop)]
+#[derive(Clone, Copy)]
 pub struct Run {
     pub used: usize,
     pub at: usize,

@@ -1,5 +1,6 @@
 // The trace program's text, stored runs: reads how many inputs there are, then of each its length and its bytes, and prints the text of each
 // and a line "--". oracle/compare/src/bin/make-traces.rs makes what is read and what must be printed.
+#![tactic(auto)]
 ghost use Rattle.std.specs.Prelude.{◌≡◌, length};
 
 // 131,072 bytes, for an input or a text.

@@ -1,4 +1,5 @@
 // The tables of a run: the plan of an accepted netlist, its ports' nets, the places of its registers and memories, in lent slices.
+#![tactic(auto)]
 ghost use Rattle.std.specs.Prelude.{◌≡◌, ◌≤◌, length};
 ghost use Rattle.spec_tests.specs.Rules.{Fine};
 ghost use Rattle.spec_netlist.specs.Accept.{nets, used, accepts};
@@ -6,7 +7,7 @@ ghost use Rattle.trace_pass.specs.Plan.{Plan};
 ghost use Rattle.trace_tables.specs.Ready.{Ready, Nets};
 
 // Whether the netlist is one for the trace program, and how many words, steps or nets each table has.
-#[derive(Drop)]
+#[derive(Clone, Copy)]
 pub struct Tables {
     pub fit: bool,
     pub steps: usize,

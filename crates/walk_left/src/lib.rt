@@ -1,5 +1,6 @@
 // What the walk asks of the tables between two calls: what is left to lower before an expression, whether it is there already; and what it
 // keeps for a driven bit. Outside of the recursion.
+#![tactic(auto)]
 ghost use Rattle.std.specs.Prelude.{◌≡◌, true, ◌+◌, ◌*◌, ◌≤◌, ◌<◌};
 ghost use Rattle.spec_rules.specs.Image.{count_at_of, signal_width, expr_width};
 ghost use Rattle.spec_model.specs.Words.{Netlist};
@@ -16,7 +17,7 @@ use walk_view::Lowered;
 
 // What is left to lower before an expression: a need, the turn after it, and where the part of a Concat that this turn takes begins; or
 // nothing.
-#[derive(Drop)]
+#[derive(Clone, Copy)]
 pub enum Left {
     Lower(Need, u32, u32),
     Build,

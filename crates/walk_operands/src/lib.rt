@@ -1,4 +1,5 @@
 // The operands of an expression, or of a range of it, read from the tables into two lists of nets by its kind, and what is to be made of them.
+#![tactic(auto)]
 ghost use Rattle.std.specs.Prelude.{◌≡◌, true, false, List, ℕ, ◌+◌, ◌≤◌, ◌<◌, ◌-◌, min, max, length, take};
 ghost use Rattle.std.proofs.Math.Option.{none};
 ghost use Rattle.spec_rules.specs.Image.{expr_width, count_at_of};
@@ -24,7 +25,7 @@ use image_records::{BinaryOp, ExprKind, OpClass, UnaryOp};
 
 // The operands are the first nets of two lists: the nets themselves; a constant's bits (list start, width, lowest bit); an operator and how
 // many nets it takes of each list; an addition (width of its operands) with a carry; a choice by a net.
-#[derive(Drop)]
+#[derive(Clone, Copy)]
 pub enum Task {
     Copied,
     Constant(u32, u32, u32),
@@ -35,7 +36,7 @@ pub enum Task {
 }
 
 // A task, and the width that an adder is narrowed to, 0 if it is not.
-#[derive(Drop)]
+#[derive(Clone, Copy)]
 pub struct Job {
     pub task: Task,
     pub narrow: u32,

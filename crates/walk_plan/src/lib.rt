@@ -1,4 +1,5 @@
 // What is lowered before an expression, or before a range of it, one by one: pure functions of the image.
+#![tactic(auto)]
 ghost use Rattle.std.specs.Prelude.{◌≡◌, List, ℕ, ◌+◌, ◌*◌, ◌≤◌, ◌<◌, min, max};
 ghost use Rattle.spec_rules.specs.Image.{count_at_of, expr_width};
 ghost use Rattle.spec_model.specs.Lowering as model;
@@ -12,7 +13,7 @@ use expr_fusion::{Carry, Operands};
 use image_records::{BinaryOp, ExprKind, OpClass, UnaryOp};
 
 // Something to lower: a signal's bit, an expression, a range of an expression (lsb, width), or nothing.
-#[derive(Drop)]
+#[derive(Clone, Copy)]
 pub enum Need {
     Bit(u32, u32),
     Whole(u32),
@@ -22,7 +23,7 @@ pub enum Need {
 
 // What turn k of a loop over what is lowered before an expression, or a range of it, takes: one need, and where the part of a Concat that
 // the next turn takes begins; the last need; of some bits of a signal (signal, first bit, how many) those from the k-th on; or nothing.
-#[derive(Drop)]
+#[derive(Clone, Copy)]
 pub enum Turn {
     Lower(Need, u32),
     Last(Need),

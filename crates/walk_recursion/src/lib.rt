@@ -1,6 +1,7 @@
 // The walk over a module: signal bits, expressions and ranges of expressions are lowered by need, each once. Follows `resolve_signal_bit`,
 // `lower_expression` and `lower_expression_range` of struo-synth, which call each other. A level of the recursion keeps few words on the
 // stack: what an expression does between two calls is a turn, outside of the recursion.
+#![tactic(auto)]
 ghost use Rattle.std.specs.Prelude.{◌+◌, ◌≤◌, ◌<◌};
 ghost use Rattle.spec_rules.specs.Image.{count_at_of, signal_width, expr_width};
 ghost use Rattle.spec_model.specs.Lowering as model;
@@ -14,14 +15,14 @@ use walk_plan::Need;
 use walk_view::Lowered;
 
 // An expression, or a range of it (lsb, width).
-#[derive(Drop)]
+#[derive(Clone, Copy)]
 pub enum Part {
     Whole(u32),
     Range(u32, u32, u32),
 }
 
 // What a turn answers: a need to lower, the turn after it, and where the part of a Concat that this turn takes begins; or the end.
-#[derive(Drop)]
+#[derive(Clone, Copy)]
 pub enum Next {
     Lower(Need, u32, u32),
     Over(Lowered),

@@ -1,0 +1,15 @@
+-- `check_header::field_sum` meets its contract. The loop's invariant: the sum is that of the fields below r, each below 2 ^ 32. Assumes nothing.
+use borrow.Author.Rules.{rules}
+use Prim.Native.Nat.{◌≤◌, ◌-◌, ◌*◌}
+use mathlib.Core.Path.{◌≡◌, sym, ap, ◌∙◌}
+use native.Mathlib.Omega.{arith}
+use Rattle.spec_tests.specs.Rules.{sum_to}
+use Rattle.spec_tests.specs.Laws.{sum_none, sum_more}
+use Rattle.check_header.specs.Header.{field_of}
+use Rattle.check_header.proofs.field_sum.Given as goal
+
+abbrev pub invariant-loop-r : goal.invariant-loop-r
+invariant-loop-r l = (l.r ≤ l.n) × (l.sum ≡ sum_to (field_of l.image l.k l.f) l.r) × (l.sum ≤ l.r * 4294967295)
+
+abbrev pub decreases-loop-r : goal.decreases-loop-r
+decreases-loop-r l = l.n - l.r

@@ -1,0 +1,8 @@
+-- `image_fields::name` meets its contract. Assumes nothing.
+use borrow.Author.Rules.{rules}
+use Rattle.spec_rules.specs.Image.{name_of}
+use Rattle.image_fields.proofs.name.Goals as goal
+
+pub returns : goal.returns
+unfolding name_of
+returns c = cc
