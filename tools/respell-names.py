@@ -74,7 +74,7 @@ def imports(text):
 
 
 def generated(path):
-    return os.path.basename(path) in ANSWERS
+    return os.path.basename(path) in ANSWERS and "/proofs/" in path
 
 
 def main():

@@ -1,6 +1,7 @@
 // The rules of the assignment records, and the first record that breaks one. For all bytes whose signals keep their rules; the bits that
 // the assignments drive are marked.
 #![tactic(auto)]
+
 ghost use Rattle.std.specs.Prelude.{false, ◌≡◌, ℕ, ◌+◌, ◌≤◌, length};
 ghost use Rattle.spec_tests.specs.Rules.{first};
 ghost use Rattle.spec_rules.specs.Image.{count_at_of};

@@ -1,6 +1,7 @@
 // Which bits of signals have a driver: assignments, register targets, read data of memories and inputs drive. The bits that the records
 // so far drive are marked in a table with a byte for each bit of a signal; a second table has each signal's first bit.
 #![tactic(auto)]
+
 ghost use Rattle.std.specs.Prelude.{◌≡◌, ℕ, ◌+◌, ◌≤◌, ◌<◌, length};
 ghost use Rattle.spec_tests.specs.Rules.{◌or◌, any, sum_to};
 ghost use Rattle.spec_rules.specs.Image.{count_at_of, signal_width};

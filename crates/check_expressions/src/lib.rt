@@ -1,5 +1,6 @@
 // The rules of the expression records, kind by kind, and the first record that breaks one. For all bytes: a reader past the end gives 0.
 #![tactic(auto)]
+
 ghost use Rattle.std.specs.Prelude.{◌≡◌, ◌+◌, ◌≤◌};
 ghost use Rattle.spec_tests.specs.Rules.{first, any, sum_to};
 ghost use Rattle.spec_rules.specs.Image.{count_at_of, expr_width};

@@ -1,5 +1,6 @@
 // The check of an image: refusals 1 to 5, in their order.
 #![tactic(auto)]
+
 ghost use Rattle.std.specs.Prelude.{◌≡◌, ◌≤◌, length};
 ghost use Rattle.spec_rules.specs.Image.{count_at_of};
 ghost use Rattle.spec_rules.specs.Checks as rule;

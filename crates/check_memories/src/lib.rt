@@ -1,6 +1,7 @@
 // The rules of the memory records, and the first record that breaks one. For all bytes whose signals keep their rules, where there are at most
 // 16 memories; the bits that assignments and registers drive are marked.
 #![tactic(auto)]
+
 ghost use Rattle.std.specs.Prelude.{false, ◌≡◌, ◌+◌, ◌≤◌};
 ghost use Rattle.spec_tests.specs.Rules.{first};
 ghost use Rattle.spec_rules.specs.Image.{count_at_of};

@@ -1,6 +1,7 @@
 // The rule of names: their bytes, and none equal within a section. Hashes tell unequal names apart, and a table of remainders of hashes
 // tells names that no earlier record can have.
 #![tactic(auto)]
+
 ghost use Rattle.std.specs.Prelude.{◌≡◌, ◌+◌, ◌≤◌, ◌<◌, length};
 ghost use Rattle.spec_tests.specs.Rules.{first, any, same_text};
 ghost use Rattle.spec_rules.specs.Image.{count_at_of};

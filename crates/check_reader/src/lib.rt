@@ -2,6 +2,7 @@
 // reader on the slice and a number; names are handed back as stretches of the caller's image. Functions with plain parameters stand
 // above it: who calls those has no struct in hand.
 #![tactic(auto)]
+
 ghost use Rattle.std.specs.Prelude.{◌≡◌};
 ghost use Rattle.spec_rules.specs.Image.{count_at_of, name_of, signal_width, signal_at, assign_at, register_at, memory_at};
 ghost use Rattle.spec_rules.specs.Checks.{checked};

@@ -1,6 +1,7 @@
 // The rules of the register records, and the first record that breaks one. For all bytes whose signals keep their rules, where there are at
 // most 256 registers; the bits that the assignments drive are marked, and then those of the targets.
 #![tactic(auto)]
+
 ghost use Rattle.std.specs.Prelude.{false, ◌≡◌, ◌+◌, ◌≤◌};
 ghost use Rattle.spec_tests.specs.Rules.{first};
 ghost use Rattle.spec_rules.specs.Image.{count_at_of};

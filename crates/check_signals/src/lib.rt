@@ -1,5 +1,6 @@
 // The checks of the signal records: the first that breaks a rule.
 #![tactic(auto)]
+
 ghost use Rattle.std.specs.Prelude.{◌≡◌, ◌≤◌};
 ghost use Rattle.spec_tests.specs.Rules.{first, sum_to};
 ghost use Rattle.spec_rules.specs.Image.{count_at_of, signal_width};

@@ -1,5 +1,6 @@
 // The records of the image as values: expressions, signals, assignments, registers and memories; operators by class.
 #![tactic(auto)]
+
 ghost use Rattle.std.specs.Prelude.{◌≡◌, ◌≤◌};
 ghost use Rattle.spec_rules.specs.Image.{direction, signal_at, assign_at, register_at, memory_at};
 ghost use Rattle.image_records.specs.Others.{direction_means, signal_means, assignment_means, control_means, enable_means, reset_means, register_means, port_means, second_means, memory_means, control_in, enable_in, reset_in, port_in, second_in};

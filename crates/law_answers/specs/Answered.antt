@@ -23,7 +23,7 @@ use Rattle.spec_call.specs.Call as Call
 use Rattle.spec_call.specs.Call.{outcome, numbers_of}
 use Rattle.spec_answers.specs.Limits.{limited}
 use Rattle.spec_answers.specs.Nets.{Is, ResetWhole, PortWhole, SecondWhole, Nets}
-use Rattle.spec_answers.specs.Answers.{Reason, undriven, looping, notConstant, moreNets, moreWords, Faultless, Answers}
+use Rattle.spec_answers.specs.Answers.{Reason, undriven, looping, not_constant, more_nets, more_words, Faultless, Answers}
 use Rattle.check_image.specs.Accepted.{accepted}
 use Rattle.law_nets.specs.Run.{Meets, later_refl, nets, list}
 use Rattle.law_nets.specs.Meaning.{is_output_port, not_output, meaning_of, net_value}
@@ -92,13 +92,13 @@ module _ (s : List ℕ) (N P : ℕ) (buffer scratch : List ℕ) (passed : checke
       strays : {k x y : ℕ} → stands.Strays m k x y → lower m N P ≡ refused k x y → Reason m N P k x y
       strays (stands.undriven u) e = undriven u
       strays (stands.looping u) e = looping u
-      strays (stands.room nets) e = moreNets (record { free = freely_lower m; more = (refused_nets (freely_lower m) N P 0 0 e).0 })
-      strays (stands.room list) e = moreWords (record { free = freely_lower m; more = (refused_words (freely_lower m) N P 0 0 e).0 })
+      strays (stands.room nets) e = more_nets (record { free = freely_lower m; more = (refused_nets (freely_lower m) N P 0 0 e).0 })
+      strays (stands.room list) e = more_words (record { free = freely_lower m; more = (refused_words (freely_lower m) N P 0 0 e).0 })
       strays (stands.spent {x} {y}) e = absurd (never_spent m good false N P absent x y (lower_refused m N P absent x y e) refl)
 
       go : {k x y : ℕ} → Faults m good inner (N, P) k x y → lower m N P ≡ refused k x y → Reason m N P k x y
       go (phases.stray f) e = strays f e
-      go (phases.other f) e = notConstant f
+      go (phases.other f) e = not_constant f
 
   -- ---- where it comes to its end ----
 
@@ -242,9 +242,9 @@ module _ (s : List ℕ) (N P : ℕ) (buffer scratch : List ℕ) where
     reason_number : {k x y : ℕ} → Reason (decode s) N P k x y → (6 ≤ k) × (k ≤ 10)
     reason_number (undriven u) = (omega arith, omega arith)
     reason_number (looping u) = (omega arith, omega arith)
-    reason_number (notConstant u) = (omega arith, omega arith)
-    reason_number (moreNets u) = (omega arith, omega arith)
-    reason_number (moreWords u) = (omega arith, omega arith)
+    reason_number (not_constant u) = (omega arith, omega arith)
+    reason_number (more_nets u) = (omega arith, omega arith)
+    reason_number (more_words u) = (omega arith, omega arith)
 
     named : get_or given 0 0 ≤ 10
     unfolding numbers_of
@@ -283,9 +283,9 @@ module _ (s : List ℕ) (N P : ℕ) (buffer scratch : List ℕ) where
     no_fault : {k x y : ℕ} → Reason (decode s) N P k x y → Faultless (decode s) N P → ⊥
     no_fault (undriven {p} {b} u) f = f.driven p b u
     no_fault (looping {p} {b} u) f = f.loopless p b u
-    no_fault (notConstant {k} {b} u) f = f.constant k b u
-    no_fault (moreNets u) f = f.few u
-    no_fault (moreWords u) f = f.short u
+    no_fault (not_constant {k} {b} u) f = f.constant k b u
+    no_fault (more_nets u) f = f.few u
+    no_fault (more_words u) f = f.short u
 
     others : checks ≡ Fine → Faultless (decode s) N P → given ≡ fine
     unfolding numbers_of

@@ -57,6 +57,7 @@ in_append x (y ∷ xs) ys (inl e) = inl (inl e)
 in_append x (y ∷ xs) ys (inr h) = ⊎_elim (λ a. inl (inr a)) (λ b. inr b) (in_append x xs ys h)
 
 pub in_left : (x : Place) (xs ys : List Place) → In x xs → In x (xs ++ ys)
+in_left x [] ys h = elim h [ ]
 in_left x (y ∷ xs) ys (inl e) = inl e
 in_left x (y ∷ xs) ys (inr h) = inr (in_left x xs ys h)
 

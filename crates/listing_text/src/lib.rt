@@ -1,5 +1,6 @@
 // Text into a lent buffer. What has no room is cut, so a caller shows only that its place is in the buffer.
 #![tactic(auto)]
+
 ghost use Rattle.std.specs.Prelude.{◌≤◌, [], ◌∷◌, length};
 ghost use Rattle.spec_rules.specs.Listing as listing;
 ghost use Rattle.listing_text.specs.Text.{Wrote, refusal_text};

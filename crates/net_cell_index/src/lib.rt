@@ -1,5 +1,6 @@
 // Equal word cells are made a single time: a hash index over the cells' keys, in the words behind the gates' index. A key is a record up to its outputs.
 #![tactic(auto)]
+
 ghost use Rattle.std.specs.Prelude.{◌≡◌, ◌+◌, ◌*◌, ◌≤◌, ◌<◌, length, get_or, drop};
 ghost use Rattle.spec_model.specs.WordCells.{begins};
 ghost use Rattle.net_index.specs.Index.{key_length, Key, first_output, hash_key, Held};

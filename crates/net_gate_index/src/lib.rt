@@ -1,5 +1,6 @@
 // Equal constants and gates are made a single time: a hash index in lent words, with chains.
 #![tactic(auto)]
+
 ghost use Rattle.std.specs.Prelude.{◌≡◌, ◌+◌, ◌*◌, ◌≤◌, ◌<◌, length, get_or};
 ghost use Rattle.spec_model.specs.Words.{absent, node};
 ghost use Rattle.spec_model.specs.Builder.{same, find, add_cached};

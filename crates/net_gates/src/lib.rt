@@ -1,5 +1,6 @@
 // Constants and gates, folded as struo-ir folds them.
 #![tactic(auto)]
+
 ghost use Rattle.std.specs.Prelude.{◌≡◌, ℕ, ◌<◌, min, max};
 ghost use Rattle.spec_model.specs.Words.{absent, gate};
 ghost use Rattle.spec_model.specs.Builder.{node_for_net, is_constant, add_cached, add_constant, add_not, add_and, add_or, add_xor, add_mux};

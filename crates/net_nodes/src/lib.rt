@@ -1,5 +1,6 @@
 // Nodes of a netlist image in lent words: 16 header words, then six words a node.
 #![tactic(auto)]
+
 ghost use Rattle.std.specs.Prelude.{◌≡◌, false, ℕ, ◌+◌, ◌*◌, ◌≤◌, ◌<◌, length, get_or, replicate};
 ghost use Rattle.spec_model.specs.Words.{absent, node};
 ghost use Rattle.spec_model.specs.Builder.{node_for_net, constant_value, add_node};

@@ -1,5 +1,6 @@
 // List records of a netlist image: the list stands behind n nodes; the header counts its words and the records of each kind.
 #![tactic(auto)]
+
 ghost use Rattle.std.specs.Prelude.{◌≡◌, ◌+◌, ◌≤◌, length};
 ghost use Rattle.std.proofs.lemmas.List.Edits.{sets};
 ghost use Rattle.net_view.specs.View.{Formed, Built};

@@ -1,5 +1,6 @@
 // Total readers of a netlist's words: past the end a word reads as 0.
 #![tactic(auto)]
+
 ghost use Rattle.std.specs.Prelude.{◌≡◌, ◌≤◌, take, drop, get_or};
 ghost use Rattle.spec_rules.specs.NetlistImage as image;
 ghost use Rattle.net_words.specs.Lengths.{second_length, memory_length};

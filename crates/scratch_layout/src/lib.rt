@@ -1,5 +1,6 @@
 // Lays the scratch out for a walk over an image, and clears it.
 #![tactic(auto)]
+
 ghost use Rattle.std.specs.Prelude.{◌≡◌, ℕ, ◌+◌, ◌*◌, ◌≤◌, ◌<◌, length, get_or, replicate};
 ghost use Rattle.std.proofs.Math.Seq.{paste};
 ghost use Rattle.spec_tests.specs.Rules.{sum_to, list_of};

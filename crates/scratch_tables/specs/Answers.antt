@@ -15,9 +15,9 @@ abbrev pub known_of : Known → Option ℕ
 known_of (Net n) = some n
 known_of Absent = none
 
-abbrev pub drivenBy : Driver → Option (ℕ × ℕ)
-drivenBy (Expr e b) = some (e, b)
-drivenBy Nothing = none
+abbrev pub driven_by : Driver → Option (ℕ × ℕ)
+driven_by (Expr e b) = some (e, b)
+driven_by Nothing = none
 
 -- where bit b of signal p, and of expression e, has its net; its stretch ends within the table
 pub record SignalPlace (s w : List ℕ) (p b r : ℕ) : Type 0 where

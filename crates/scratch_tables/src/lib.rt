@@ -1,6 +1,7 @@
 // The walk's tables in its scratch: nets, drivers and marks of signal bits, nets of expression bits. Each function reads or writes
 // one of them; the image is what the contracts speak of.
 #![tactic(auto)]
+
 ghost use Rattle.std.specs.Prelude.{◌≡◌, false, map, suc, ◌+◌, ◌≤◌, ◌<◌, length, get_or, set, take};
 ghost use Rattle.std.proofs.Math.Seq.{paste};
 ghost use Rattle.spec_tests.specs.Rules.{list_of};

@@ -28,9 +28,9 @@ pub record MoreWords (m : Module) (P : ℕ) : Type 0 where
 pub data Reason (m : Module) (N P : ℕ) : ℕ → ℕ → ℕ → Type 0 where
   undriven : {p b : ℕ} → Undriven m p b → Reason m N P 6 p b
   looping : {p b : ℕ} → Looping m p b → Reason m N P 7 p b
-  notConstant : {k b : ℕ} → NotConstant m k b → Reason m N P 8 k b
-  moreNets : MoreNets m N → Reason m N P 9 0 0
-  moreWords : MoreWords m P → Reason m N P 10 0 0
+  not_constant : {k b : ℕ} → NotConstant m k b → Reason m N P 8 k b
+  more_nets : MoreNets m N → Reason m N P 9 0 0
+  more_words : MoreWords m P → Reason m N P 10 0 0
 
 -- one of two statements holds if the other does
 pub record Exactly (A B : Type 0) : Type 0 where

@@ -16,15 +16,15 @@ use Rattle.spec_needs.specs.Closed.{needs_in}
 use Rattle.spec_needs.specs.Examples.{k9, k9_loop, loose, loose_needed, spare, spare_unneeded}
 use Rattle.spec_answers.specs.Refusals.{Undriven, Looping}
 use Rattle.spec_answers.specs.Limits.{Freely}
-use Rattle.spec_answers.specs.Answers.{Reason, undriven, looping, notConstant, moreNets, moreWords, Faultless}
+use Rattle.spec_answers.specs.Answers.{Reason, undriven, looping, not_constant, more_nets, more_words, Faultless}
 
 -- no fault, no reason to refuse
 pub no_reason : {x : Module} {N P n p b : ℕ} → Faultless x N P → Reason x N P n p b → ⊥
 no_reason f (undriven {p} {b} u) = f.driven p b u
 no_reason f (looping {p} {b} u) = f.loopless p b u
-no_reason f (notConstant {k} {b} u) = f.constant k b u
-no_reason f (moreNets u) = f.few u
-no_reason f (moreWords u) = f.short u
+no_reason f (not_constant {k} {b} u) = f.constant k b u
+no_reason f (more_nets u) = f.few u
+no_reason f (more_words u) = f.short u
 
 -- the definitions that needs and the model compute
 needing : ℕ
@@ -130,6 +130,6 @@ k9_driven (suc (suc p)) b u = let t = u.there in omega (arith, t)
 pub k9_place : {N P n p b : ℕ} → Reason k9 N P n p b → n ≤ 7 → (n ≡ 7) × (p ≡ 1) × (b ≡ 0)
 k9_place (undriven {p} {b} u) h = absurd (k9_driven p b u)
 k9_place (looping {p} {b} u) h = let t = k9_only p b u in (refl, omega (arith, t), omega (arith, t))
-k9_place (notConstant u) h = absurd (omega (arith, h))
-k9_place (moreNets u) h = absurd (omega (arith, h))
-k9_place (moreWords u) h = absurd (omega (arith, h))
+k9_place (not_constant u) h = absurd (omega (arith, h))
+k9_place (more_nets u) h = absurd (omega (arith, h))
+k9_place (more_words u) h = absurd (omega (arith, h))

@@ -25,10 +25,12 @@ both true b t = (tt, t)
 both false b t = absurd t
 
 has_in : (l k : List Place) (x : Place) → T (all l k) → In x k → T (has l x)
+has_in l [] x t i = elim i [ ]
 has_in l (y ∷ ys) x t (inl e) = subst (λ (z : Place). T (has l z)) (sym e) (both (has l y) (all l ys) t).0
 has_in l (y ∷ ys) x t (inr i) = has_in l ys x (both (has l y) (all l ys) t).1 i
 
 shut_at : (m : Module) (l k : List Place) (x : Place) → T (shut m l k) → T (has k x) → T (all l (bit_needs m x))
+shut_at m l [] x t h = elim h [ ]
 shut_at m l (y ∷ ys) x t h =
     let p = both (all l (bit_needs m y)) (shut m l ys) t in
     either (eqb y.0 x.0) (eqb y.1 x.1) (eqb→eq y.0 x.0) (eqb→eq y.1 x.1) p.0 (shut_at m l ys x p.1) h

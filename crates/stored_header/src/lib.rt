@@ -1,5 +1,6 @@
 // The header's words without its five record counts, and the slice's length.
 #![tactic(auto)]
+
 ghost use Rattle.std.specs.Prelude.{◌≡◌, min, length};
 ghost use Rattle.spec_tests.specs.Rules.{first};
 ghost use Rattle.spec_netlist.specs.Accept.{wrong_header};

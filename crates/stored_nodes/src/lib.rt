@@ -1,5 +1,6 @@
 // The nodes' words. A node with an earlier one's kind, owner and bit is found in a tree in a lent table, in at most 48 steps.
 #![tactic(auto)]
+
 ghost use Rattle.std.specs.Prelude.{◌≡◌, false, ◌+◌, ◌*◌, ◌-◌, ◌%◌, ◌≤◌, ◌<◌, length};
 ghost use Rattle.spec_tests.specs.Rules.{first, any};
 ghost use Rattle.spec_tests.specs.Laws.{from};

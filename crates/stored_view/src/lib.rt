@@ -1,6 +1,7 @@
 // Tests on a netlist's words that its records share: whether a word names a net, a control and its level, a record's own net; a lent table
 // cleared.
 #![tactic(auto)]
+
 ghost use Rattle.std.specs.Prelude.{◌≡◌, List, ℕ, ◌≤◌, ◌<◌, length, get_or};
 ghost use Rattle.spec_tests.specs.Laws.{from};
 ghost use Rattle.spec_netlist.specs.Accept.{nets, no_net, no_optional, wrong_level, not_own_of};

@@ -28,17 +28,17 @@ pub record Waits (k n inputs : ℕ) (out : List ℕ) (at : ℕ) (out' : List ℕ
   pub long : stop ≡ true → ((inputs < n) × (13 < n)) × Wrote out at (refusal_text 13 k 0) out' to
   pub short : stop ≡ false → (n ≤ inputs + 13) × ((out' ≡ out) × (to ≡ at))
 
-pub waits-long : {k n inputs at used to : ℕ} {out out' : List ℕ} {stop b : Bool} → b ≡ (inputs <? n and 13 <? n) → b ≡ true → (used ≡ 0) × Refuses 13 k 0 out at out' to stop → Waits k n inputs out at out' used to stop
-waits-long {n = n} {inputs = inputs} e t r = record {
+pub waits_long : {k n inputs at used to : ℕ} {out out' : List ℕ} {stop b : Bool} → b ≡ (inputs <? n and 13 <? n) → b ≡ true → (used ≡ 0) × Refuses 13 k 0 out at out' to stop → Waits k n inputs out at out' used to stop
+waits_long {n = n} {inputs = inputs} e t r = record {
   none = r.0;
   place = r.1.wrote.upto;
   long = λ y. (let a = and_yes (sym e ∙ t) in ((yes_lt inputs n a.0, yes_lt 13 n a.1), r.1.wrote));
   short = λ y. untrue (sym y ∙ r.1.last);
 }
 
-pub waits-short : {k n inputs at : ℕ} {out : List ℕ} {b : Bool} → b ≡ (inputs <? n and 13 <? n) → b ≡ false → at ≤ length out → Waits k n inputs out at out 0 at false
+pub waits_short : {k n inputs at : ℕ} {out : List ℕ} {b : Bool} → b ≡ (inputs <? n and 13 <? n) → b ≡ false → at ≤ length out → Waits k n inputs out at out 0 at false
 unfolding ◌and◌
-waits-short {n = n} {inputs = inputs} e t h = record { none = refl; place = h; long = λ y. untrue y; short = λ y. (few (inputs <? n) refl, (refl, refl)) }
+waits_short {n = n} {inputs = inputs} e t h = record { none = refl; place = h; long = λ y. untrue y; short = λ y. (few (inputs <? n) refl, (refl, refl)) }
   where
     few : (c : Bool) → (inputs <? n) ≡ c → n ≤ inputs + 13
     few true q = let z = no_lt 13 n (sym (ap (λ (x : Bool). x and 13 <? n) q) ∙ sym e ∙ t) in omega arith
@@ -51,8 +51,8 @@ split [] e h q = absurd (not-suc-le-zero h)
 split (b ∷ bs) zero h q = let z : 0 + 1 ≡ 1 = omega arith in ap (λ (x : ℕ). x ∷ bs) q ∙ ap (λ (n : ℕ). 10 ∷ drop n (b ∷ bs)) (sym z)
 split (b ∷ bs) (suc e) h q = let z : suc e + 1 ≡ suc (e + 1) = omega arith in ap (λ (x : List ℕ). b ∷ x) (split bs e (omega arith) q) ∙ ap (λ (n : ℕ). b ∷ (take e bs ++ (10 ∷ drop n (b ∷ bs)))) (sym z)
 
-free-line : (bytes : List ℕ) (e : ℕ) → LineEnd bytes e → Free (take e bytes)
-free-line bytes e r i h q = let n = length-take e bytes in r.free i (omega arith) (sym (get_or-take e bytes i 0 (omega arith)) ∙ q)
+free_line : (bytes : List ℕ) (e : ℕ) → LineEnd bytes e → Free (take e bytes)
+free_line bytes e r i h q = let n = length-take e bytes in r.free i (omega arith) (sym (get_or-take e bytes i 0 (omega arith)) ∙ q)
 
 pub free_all : {bytes : List ℕ} {e : ℕ} → LineEnd bytes e → e ≡ length bytes → Free bytes
 free_all r e i h q = r.free i (omega arith) q
@@ -102,7 +102,7 @@ module _ {ws steps : List ℕ} {count : ℕ} {inputs outputs registers : List �
       place = 0;
       small = (omega arith, omega arith);
       wrote = f.1.wrote;
-      says = λ p s g more. ap (text_from ws k s) (whole r h more) ∙ text_limit ws k s (take e bytes) (drop (e + 1) bytes ++ more) (free-line bytes e r) (omega arith) ∙ said_is 13 k 0;
+      says = λ p s g more. ap (text_from ws k s) (whole r h more) ∙ text_limit ws k s (take e bytes) (drop (e + 1) bytes ++ more) (free_line bytes e r) (omega arith) ∙ said_is 13 k 0;
     };
     waits = λ y u. untrue (sym y ∙ f.1.last);
     goes = λ y u. untrue (sym y ∙ f.1.last);
@@ -165,7 +165,7 @@ module _ {ws steps : List ℕ} {count : ℕ} {inputs outputs registers : List �
       line more = whole r h more ∙ ap (λ (z : List ℕ). z ++ (10 ∷ (drop (e + 1) bytes ++ more))) (sym el)
 
       free : Free l
-      free = subst Free (sym el) (free-line bytes e r)
+      free = subst Free (sym el) (free_line bytes e r)
 
 -- ---- searches ----
 
@@ -175,8 +175,8 @@ Passed bytes i = (i ≤ length bytes) × ((j : ℕ) → j < i → get_or bytes j
 pub passed_none : (bytes : List ℕ) → Passed bytes 0
 passed_none bytes = (omega arith, λ j h. absurd (not-suc-le-zero h))
 
-pub passed-more : (bytes : List ℕ) (i : ℕ) → Passed bytes i → i < length bytes → (get_or bytes i 0 ≡ 10 → ⊥) → Passed bytes (i + 1)
-passed-more bytes i p h n = (
+pub passed_more : (bytes : List ℕ) (i : ℕ) → Passed bytes i → i < length bytes → (get_or bytes i 0 ≡ 10 → ⊥) → Passed bytes (i + 1)
+passed_more bytes i p h n = (
   omega arith,
   λ j l. elim (dec_lt j i) [
     | yes b ↦ p.1 j b
@@ -187,11 +187,11 @@ passed-more bytes i p h n = (
 pub ends_at : (bytes : List ℕ) (i : ℕ) → Passed bytes i → get_or bytes i 0 ≡ 10 → i + 1 < 18446744073709551616 → LineEnd bytes i
 ends_at bytes i p e l = record { up_to = p.0; free = p.1; ends = λ h. e; small = λ h. l }
 
-pub ends-none : (bytes : List ℕ) (i : ℕ) → Passed bytes i → length bytes ≤ i → LineEnd bytes i
-ends-none bytes i p h = record { up_to = p.0; free = p.1; ends = λ l. absurd (omega arith); small = λ l. absurd (omega arith) }
+pub ends_none : (bytes : List ℕ) (i : ℕ) → Passed bytes i → length bytes ≤ i → LineEnd bytes i
+ends_none bytes i p h = record { up_to = p.0; free = p.1; ends = λ l. absurd (omega arith); small = λ l. absurd (omega arith) }
 
-pub line-there : {bytes : List ℕ} {e : ℕ} → LineEnd bytes e → (e ≡ length bytes → ⊥) → e < length bytes
-line-there {bytes} {e} r n = elim (dec_lt e (length bytes)) [
+pub line_there : {bytes : List ℕ} {e : ℕ} → LineEnd bytes e → (e ≡ length bytes → ⊥) → e < length bytes
+line_there {bytes} {e} r n = elim (dec_lt e (length bytes)) [
   | yes h ↦ h
   | no h ↦ absurd (n (let u = r.up_to in omega arith))
 ]

@@ -1,5 +1,6 @@
 // The names in a trace's keep and back lines: whether a line is one, the number of a name, and its place among those held.
 #![tactic(auto)]
+
 ghost use Rattle.std.specs.Prelude.{◌≡◌, ◌≤◌, length, get_or};
 ghost use Rattle.spec_tests.specs.Rules.{◌≡?◌, ◌or◌, outside, first};
 ghost use Rattle.spec_trace.specs.Opened.{having};

@@ -1,5 +1,6 @@
 // The places of a netlist's records, sort by sort, and the nets of its ports in order.
 #![tactic(auto)]
+
 ghost use Rattle.std.specs.Prelude.{◌≡◌, ◌+◌, ◌≤◌, ◌<◌, length, get_or, set};
 ghost use Rattle.spec_tests.specs.Rules.{◌≡?◌, pick, Fine};
 ghost use Rattle.spec_netlist.specs.Accept.{used, accepts};

@@ -4,7 +4,7 @@ use Rattle.trace_lines.proofs.line_end.Tie as tie
 use Prim.Native.Nat.{◌-◌}
 use native.Mathlib.Omega.{arith}
 use lib.ListN.{length}
-use Rattle.trace_lines.specs.Answers.{Passed, passed_none, passed-more, ends_at, ends-none}
+use Rattle.trace_lines.specs.Answers.{Passed, passed_none, passed_more, ends_at, ends_none}
 use borrow.Author.Rules.{rules}
 
 abbrev invariant-loop : tie.invariant-loop
@@ -20,10 +20,10 @@ returns : tie.Need-returns invariant-loop decreases-loop
 returns c = ends_at _ _ c.before.before.before.loop.invariant c.if1.true (omega (arith, c.before.before.loop-test.true))
 
 loop-again : tie.Need-loop-preserved invariant-loop decreases-loop
-loop-again c = passed-more c.before.before.before.before.args.bytes.now _ c.before.before.before.loop.invariant c.before.before.loop-test.true c.if1.false
+loop-again c = passed_more c.before.before.before.before.args.bytes.now _ c.before.before.before.loop.invariant c.before.before.loop-test.true c.if1.false
 
 returns-2 : tie.Need-returns-2 invariant-loop decreases-loop
-returns-2 c = ends-none _ _ c.before.loop.invariant c.loop-test.false
+returns-2 c = ends_none _ _ c.before.loop.invariant c.loop-test.false
 
 pub line-end-spec : {M : Type 1} → statement M
 line-end-spec =
