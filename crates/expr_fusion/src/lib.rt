@@ -1,5 +1,6 @@
 // Which operands an Add takes: an inner Add's with a carry, or its own. Follows `lower_add_with_carry` of struo-synth.
 #![tactic(auto)]
+
 ghost use Rattle.std.specs.Prelude.{◌≡◌, ◌+◌, ◌≤◌, ◌<◌};
 ghost use Rattle.spec_rtl.specs.Rtl as R;
 ghost use Rattle.spec_model.specs.Lowering as model;

@@ -1,6 +1,7 @@
 // The range of every expression of at most 64 bits, and the width that an Add of that range is narrowed to. Follows ranges.rs of struo-synth.
 // The table has eight words for each expression: 2 and 3 the least number, 4 and 5 the largest, 6 the width (0 for none).
 #![tactic(auto)]
+
 ghost use Rattle.std.specs.Prelude.{◌≡◌, ◌+◌, ◌*◌, ◌/◌, ◌%◌, ◌≤◌, ◌<◌, length};
 ghost use Rattle.spec_rtl.specs.Rtl.{Kind};
 ghost use Rattle.spec_rules.specs.Image.{count_at_of, expr_width};

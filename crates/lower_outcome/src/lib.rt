@@ -1,5 +1,6 @@
 // The answer of a call: accepted, or a refusal with its place, and its three numbers.
 #![tactic(auto)]
+
 ghost use Rattle.std.specs.Prelude.{◌≡◌};
 ghost use Rattle.spec_call.specs.Call.{numbers_of};
 ghost use Rattle.check_image.specs.Checked as checked;

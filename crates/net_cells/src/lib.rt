@@ -1,5 +1,6 @@
 // Word cells: equal ones are made a single time. Arithmetic on constants makes constants and no cell; a comparison of constants is a cell.
 #![tactic(auto)]
+
 ghost use Rattle.std.specs.Prelude.{◌≡◌, ◌+◌, ◌*◌, ◌≤◌, ◌<◌, length, take, drop};
 ghost use Rattle.spec_model.specs.Words.{source, comparison_key, count, arithmetic_key};
 ghost use Rattle.spec_model.specs.Builder.{or_made, add_nodes, add_recorded, comparison_word, arithmetic_word};

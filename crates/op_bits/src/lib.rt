@@ -1,5 +1,6 @@
 // Gates over the bits of words: the nets of a word stand in a lent slice, and the result takes the place of the first operand.
 #![tactic(auto)]
+
 ghost use Rattle.std.specs.Prelude.{◌≡◌, length};
 ghost use Rattle.spec_model.specs.Builder.{each, both, add_not, add_mux};
 ghost use Rattle.spec_model.specs.Lowering.{add_gate, add_equal};

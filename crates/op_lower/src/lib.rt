@@ -1,5 +1,6 @@
 // The operators of expressions on the nets of finished operands. The result takes the place of the first operand: its front, where it is one bit.
 #![tactic(auto)]
+
 ghost use Rattle.std.specs.Prelude.{◌≡◌, ◌≤◌, ◌<◌, length, take};
 ghost use Rattle.std.proofs.Math.Option.{none};
 ghost use Rattle.spec_model.specs.Lowering.{lower_unary, lower_binary};

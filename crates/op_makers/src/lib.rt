@@ -1,5 +1,6 @@
 // A binary operator by what makes it.
 #![tactic(auto)]
+
 ghost use Rattle.std.specs.Prelude.{◌≡◌};
 ghost use Rattle.op_makers.specs.Class.{class_of};
 

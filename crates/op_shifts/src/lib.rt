@@ -1,5 +1,6 @@
 // Shifts by a word: a stage of muxes for each bit of the amount.
 #![tactic(auto)]
+
 ghost use Rattle.std.specs.Prelude.{◌≡◌, ◌+◌, ◌*◌, ◌≤◌, ◌<◌, min, length, get_or};
 ghost use Rattle.spec_model.specs.Builder.{both, add_mux};
 ghost use Rattle.spec_model.specs.Lowering.{shifted, stages, shift};

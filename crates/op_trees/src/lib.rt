@@ -1,5 +1,6 @@
 // Trees of gates over a list of nets, level by level in place: the result is the list's first net.
 #![tactic(auto)]
+
 ghost use Rattle.std.specs.Prelude.{◌≡◌, Bool, ◌+◌, ◌/◌, ◌≤◌, ◌<◌, length, take};
 ghost use Rattle.spec_model.specs.Builder.{each, add_not};
 ghost use Rattle.spec_model.specs.Lowering.{level, reduce_tree, equal_words};

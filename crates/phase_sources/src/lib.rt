@@ -1,5 +1,6 @@
 // `reserve_sources` of struo-synth: nets for the bits of inputs, register outputs and memory outputs.
 #![tactic(auto)]
+
 ghost use Rattle.std.specs.Prelude.{◌≡◌, false, ℕ, ◌+◌, ◌≤◌, ◌<◌};
 ghost use Rattle.spec_rtl.specs.Rtl as R;
 ghost use Rattle.spec_rules.specs.Image.{count_at_of, signal_width, memory_at, decode};

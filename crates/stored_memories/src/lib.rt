@@ -1,5 +1,6 @@
 // The first wrong word of a memory's record; l is the list words used, from the record's first on.
 #![tactic(auto)]
+
 ghost use Rattle.std.specs.Prelude.{◌≡◌, List, ℕ, ◌+◌, ◌≤◌, length, get_or};
 ghost use Rattle.spec_tests.specs.Rules.{first};
 ghost use Rattle.spec_tests.specs.Laws.{from};

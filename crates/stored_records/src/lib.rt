@@ -1,5 +1,6 @@
 // The first wrong word of a port's, a register bit's and a cell's record; l is the list words used, from the record's first on.
 #![tactic(auto)]
+
 ghost use Rattle.std.specs.Prelude.{◌≡◌, List, ℕ, ◌+◌, ◌*◌, ◌-◌, ◌≤◌, length, take, drop, get_or};
 ghost use Rattle.spec_tests.specs.Laws.{from};
 ghost use Rattle.spec_netlist.specs.Accept.{nets, wrong_port, wrong_register, wrong_arithmetic, wrong_comparison, count_of};

@@ -1,5 +1,6 @@
 // Refusal 12 after 11: a clock or asynchronous reset that is no input net, or too many memory bits.
 #![tactic(auto)]
+
 ghost use Rattle.std.specs.Prelude.{◌≡◌, ◌*◌, ◌<◌, drop, get_or};
 ghost use Rattle.spec_tests.specs.Rules.{any, sum_to, Fine};
 ghost use Rattle.spec_rules.specs.NetlistImage.{memory_port_of, memory_of};

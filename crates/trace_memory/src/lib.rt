@@ -1,6 +1,7 @@
 // Memories over one step, on tables of words: old has the values of all nets before it; new gets those of read data, and has the new
 // inputs; memory has the memories' bits, a word each.
 #![tactic(auto)]
+
 ghost use Rattle.std.specs.Prelude.{◌≡◌, map, ◌+◌, ◌*◌, ◌≤◌, ◌<◌, length, get_or};
 ghost use Rattle.spec_rtl.specs.Word.{bit, value};
 ghost use Rattle.spec_rules.specs.NetlistImage.{memory_port_of};

@@ -1,5 +1,6 @@
 // The values of a netlist's nets, one word a net, by a plan of steps made once for the netlist.
 #![tactic(auto)]
+
 ghost use Rattle.std.specs.Prelude.{◌≡◌, ◌+◌, ◌*◌, ◌≤◌, ◌<◌, length, get_or, set, drop};
 ghost use Rattle.spec_rules.specs.Step.{Setting, Contents};
 ghost use Rattle.trace_cells.specs.Digits.{Bits};

@@ -1,5 +1,6 @@
 // The plan of an accepted netlist: a step for each constant, gate and output node, and one for each cell at the first of its outputs.
 #![tactic(auto)]
+
 ghost use Rattle.std.specs.Prelude.{◌≡◌, ◌+◌, ◌*◌, ◌≤◌, ◌<◌, length, set};
 ghost use Rattle.spec_tests.specs.Rules.{◌≡?◌, ◌or◌, Fine};
 ghost use Rattle.spec_rules.specs.NetlistImage.{node_word};

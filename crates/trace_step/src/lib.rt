@@ -1,6 +1,7 @@
 // Registers and memories over one step, on tables of words: old has the values of all nets before it; new gets those of register outputs
 // and read data, and has the new inputs.
 #![tactic(auto)]
+
 ghost use Rattle.std.specs.Prelude.{◌≡◌, true, false, ◌<◌, set};
 ghost use Rattle.spec_rtl.specs.Word.{bit};
 ghost use Rattle.spec_tests.specs.Rules.{◌≡?◌};

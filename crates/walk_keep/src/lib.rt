@@ -1,5 +1,6 @@
 // The nets that were made for an expression, or for a range of it, kept in the tables.
 #![tactic(auto)]
+
 ghost use Rattle.std.specs.Prelude.{◌≡◌, ◌+◌, ◌≤◌, ◌<◌, length, take};
 ghost use Rattle.spec_rules.specs.Image.{count_at_of, expr_width};
 ghost use Rattle.spec_model.specs.Lowering as model;

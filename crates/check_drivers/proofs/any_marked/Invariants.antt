@@ -1,0 +1,15 @@
+-- `check_drivers::any_marked` meets its contract. The loop's invariant: no bit before the i-th is marked. Assumes nothing.
+use mathlib.Core.Path.{◌≡◌, sym, ◌∙◌}
+use Prim.Native.Nat.{◌+◌, ◌-◌, ◌≤◌}
+use native.Mathlib.Omega.{arith}
+use Rattle.spec_tests.specs.Rules.{first}
+use Rattle.spec_tests.specs.Laws.{eq_yes, eq_no, from, begins, passed, any_yes, any_no}
+use Rattle.check_drivers.specs.Bits.{marked}
+use borrow.Author.Rules.{rules}
+use Rattle.check_drivers.proofs.any_marked.Given as goal
+
+abbrev pub invariant-loop-i : goal.invariant-loop-i
+invariant-loop-i l = (l.i ≤ l.n) × (first (λ k. marked l.taken (l.at + k)) l.n ≡ from (λ k. marked l.taken (l.at + k)) l.n l.i)
+
+abbrev pub decreases-loop-i : goal.decreases-loop-i
+decreases-loop-i l = l.n - l.i

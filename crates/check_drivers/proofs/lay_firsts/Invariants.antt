@@ -1,0 +1,18 @@
+-- `check_drivers::lay_firsts` meets its contract. The loop's invariant: the sum is that of the widths below p, and the words below p are in place. Assumes nothing.
+use mathlib.Core.Path.{◌≡◌, refl, sym, ap, ◌∙◌}
+use Prim.Native.Nat.{ℕ, ◌-◌, ◌≤◌, ◌<◌}
+use native.Mathlib.Omega.{arith}
+use lib.ListN.{length, get_or, length-set}
+use Rattle.spec_tests.specs.Rules.{sum_to}
+use Rattle.spec_tests.specs.Laws.{sum_none, sum_more}
+use Rattle.spec_rules.specs.Image.{count_at_of, signal_width}
+use Rattle.spec_rules.specs.Checks.{signal_bits}
+use Rattle.check_drivers.specs.Bits.{signal_ends, first_more}
+use borrow.Author.Rules.{rules}
+use Rattle.check_drivers.proofs.lay_firsts.Given as goal
+
+abbrev pub invariant-loop-p : goal.invariant-loop-p
+invariant-loop-p l = (l.p ≤ count_at_of l.image 0) × (l.sum ≡ sum_to (signal_width l.image) l.p) × (length l.firsts ≡ length l.initial.firsts) × ((q : ℕ) → q < l.p → get_or l.firsts q 0 ≡ sum_to (signal_width l.image) q)
+
+abbrev pub decreases-loop-p : goal.decreases-loop-p
+decreases-loop-p l = l.n - l.p

@@ -1,0 +1,12 @@
+-- `check_drivers::mark` meets its contract. The loop's invariant: i bits are marked. Assumes nothing.
+use Prim.Native.Nat.{◌-◌, ◌≤◌}
+use native.Mathlib.Omega.{arith}
+use Rattle.check_drivers.specs.Bits.{Marked, mark_none, mark_more, mark_end}
+use borrow.Author.Rules.{rules}
+use Rattle.check_drivers.proofs.mark.Given as goal
+
+abbrev pub invariant-loop-i : goal.invariant-loop-i
+invariant-loop-i l = (l.i ≤ l.n) × (Marked l.at l.i l.initial.taken l.taken)
+
+abbrev pub decreases-loop-i : goal.decreases-loop-i
+decreases-loop-i l = l.n - l.i

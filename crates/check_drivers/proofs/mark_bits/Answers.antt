@@ -1,0 +1,11 @@
+-- `check_drivers::mark_bits` meets its contract. Assumes nothing.
+use native.Mathlib.Omega.{arith}
+use Rattle.check_drivers.specs.Bits.{signal_ends}
+use borrow.Author.Rules.{rules}
+use Rattle.check_drivers.proofs.mark_bits.Goals as goal
+
+pub mark-requires : goal.mark-requires
+mark-requires c = omega (arith, signal_ends _ _ c.requires.2)
+
+pub returns : goal.returns
+returns c = rw c.place.ensures at c.mark.ensures

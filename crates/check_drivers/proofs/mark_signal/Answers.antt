@@ -1,0 +1,6 @@
+-- `check_drivers::mark_signal` meets its contract. Assumes nothing.
+use borrow.Author.Rules.{rules}
+use Rattle.check_drivers.proofs.mark_signal.Goals as goal
+
+pub returns : goal.returns
+returns c = rw c.signal_width.ensures at c.mark_bits.ensures

@@ -1,0 +1,14 @@
+-- `check_names::hash` meets its contract. The loop's invariant: the hash of what is left, begun at h, is that of the whole text. Assumes nothing.
+use borrow.Author.Rules.{rules}
+use Prim.Native.Nat.{◌≤◌, ◌-◌}
+use mathlib.Core.Path.{◌≡◌, refl, sym, ◌∙◌}
+use native.Mathlib.Omega.{arith}
+use lib.ListN.{length, drop}
+use Rattle.check_names.specs.Names.{hash_from, hash_end, hash_more}
+use Rattle.check_names.proofs.hash.Given as goal
+
+abbrev pub invariant-loop-i : goal.invariant-loop-i
+invariant-loop-i l = (l.i ≤ length l.t) × (hash_from l.h (drop l.i l.t) ≡ hash_from 0 l.t)
+
+abbrev pub decreases-loop-i : goal.decreases-loop-i
+decreases-loop-i l = length l.t - l.i

@@ -1,0 +1,6 @@
+-- `expr_range_rows::full` meets its contract. Assumes nothing.
+use Rattle.std.proofs.Common.{rules}
+use Rattle.expr_range_rows.proofs.full.Goals as goal
+
+pub returns : goal.returns
+returns c = rw c.mask.ensures

@@ -1,0 +1,6 @@
+-- `expr_range_rows::hull` meets its contract. Assumes nothing.
+use Rattle.std.proofs.Common.{rules}
+use Rattle.expr_range_rows.proofs.hull.Goals as goal
+
+pub returns : goal.returns
+returns c = rw (c.smaller_u64.ensures, c.larger_u64.ensures)

@@ -1,0 +1,6 @@
+-- `expr_range_rows::or_range` meets its contract. Assumes nothing.
+use Rattle.std.proofs.Common.{rules}
+use Rattle.expr_range_rows.proofs.or_range.Goals as goal
+
+pub returns : goal.returns
+returns c = rw (c.ones.ensures, c.larger_u64.ensures)

@@ -1,0 +1,15 @@
+-- `expr_ranges::adder_widths` meets its contract. Assumes nothing.
+use mathlib.Core.Path.{◌≡◌, refl, ◌∙◌}
+use native.Mathlib.Omega.{arith}
+use Prim.Native.Nat.{◌≤◌, ◌-◌}
+use Rattle.spec_rules.specs.Image.{count_at_of}
+use Rattle.expr_laws.specs.Exprs.{exprs_of}
+use Rattle.expr_ranges.specs.Steps.{rows_filled, filled_more}
+use Rattle.expr_ranges.specs.Table.{filled, length_filled}
+use Rattle.expr_ranges.proofs.adder_widths.Given as goal
+
+abbrev pub invariant-loop-e : goal.invariant-loop-e
+invariant-loop-e l = (l.e ≤ l.count) × (l.table ≡ filled (exprs_of l.image) l.e l.initial.table)
+
+abbrev pub decreases-loop-e : goal.decreases-loop-e
+decreases-loop-e l = l.count - l.e

@@ -1,0 +1,21 @@
+-- `expr_ranges::range_of_binary` meets its contract. Assumes nothing.
+use borrow.Author.Rules.{rules}
+use mathlib.Core.Path.{sym, ap, ◌∙◌}
+use Rattle.spec_model.specs.Ranges as model
+use Rattle.expr_laws.specs.Exprs.{exprs_of}
+use Rattle.image_records.specs.Expr.{binary_means}
+use Rattle.expr_ranges.specs.Steps.{two_none, two_second, two_both, ordered}
+use Rattle.expr_range_rows.specs.Rows.{shown, known}
+use Rattle.expr_ranges.proofs.range_of_binary.Goals as goal
+
+pub returns-in_default : goal.returns-in_default
+returns-in_default c = c.full.ensures ∙ two_none c.args.width (model.binary_range (model.class_of (binary_means c.args.op)) c.args.width) (model.range_at (exprs_of c.args.image.now) c.args.rhs) (sym c.known_range-left.ensures ∙ ap known c.in_default.is)
+
+pub returns-in_default-right : goal.returns-in_default-right
+returns-in_default-right c = c.full-in_default-right.ensures ∙ two_second c.args.width (model.binary_range (model.class_of (binary_means c.args.op)) c.args.width) (sym c.known_range-left.ensures ∙ ap known c.in-Of.is) (sym c.known_range-right.ensures ∙ ap known c.in_default-right.is)
+
+pub binary_range-requires : goal.binary_range-requires
+binary_range-requires c = record { least = c.requires.least; most = c.requires.most; left = ordered c.args.image.now c.args.table.now c.args.lhs c.requires.left (shown c.in-Of.l) (sym (sym c.known_range-left.ensures ∙ ap known c.in-Of.is)); right = ordered c.args.image.now c.args.table.now c.args.rhs c.requires.right (shown c.in-Of-right.r) (sym (sym c.known_range-right.ensures ∙ ap known c.in-Of-right.is)) }
+
+pub returns : goal.returns
+returns c = c.binary_range.ensures ∙ two_both c.args.width (model.binary_range (model.class_of (binary_means c.args.op)) c.args.width) (sym c.known_range-left.ensures ∙ ap known c.in-Of.is) (sym c.known_range-right.ensures ∙ ap known c.in-Of-right.is)

@@ -1,0 +1,13 @@
+-- `listing_text::put` meets its contract. Assumes nothing.
+use Prim.Native.Nat.{◌≤◌, ◌-◌}
+use native.Mathlib.Omega.{arith}
+use lib.ListN.{length, take}
+use Rattle.listing_text.specs.Text.{Wrote, wrote_none}
+use Rattle.listing_text.specs.Text.{wrote_step, wrote_all}
+use Rattle.listing_text.proofs.put.Given as goal
+
+abbrev pub invariant-loop-i : goal.invariant-loop-i
+invariant-loop-i l = (l.i ≤ length l.text) × Wrote l.initial.out l.at (take l.i l.text) l.out l.to
+
+abbrev pub decreases-loop-i : goal.decreases-loop-i
+decreases-loop-i l = length l.text - l.i

@@ -1,0 +1,13 @@
+-- `net_cell_index::begins_with` meets its contract. Assumes nothing.
+use mathlib.Core.Path.{sym}
+use Prim.Native.Nat.{◌-◌, ◌≤◌}
+use native.Mathlib.Omega.{arith}
+use lib.ListN.{length}
+use Rattle.net_cell_index.proofs.Laws.{Left, left_start, left_past, left_miss, left_turn, left_end}
+use Rattle.net_cell_index.proofs.begins_with.Given as goal
+
+abbrev pub invariant-loop-i : goal.invariant-loop-i
+invariant-loop-i l = (l.i ≤ length l.key) × Left l.net l.at l.key l.i
+
+abbrev pub decreases-loop-i : goal.decreases-loop-i
+decreases-loop-i l = length l.key - l.i

@@ -1,0 +1,19 @@
+-- `op_bits::mux_bits` meets its contract. Assumes nothing.
+use borrow.Author.Rules.{rules}
+use mathlib.Core.Path.{sym, ◌∙◌}
+use Prim.Native.Nat.{◌-◌}
+use native.Mathlib.Omega.{arith}
+use lib.ListN.{length, get_or}
+use Rattle.spec_model.specs.Builder.{both, add_mux}
+use Rattle.net_view.specs.View.{netlist_of}
+use Rattle.net_gates.specs.Nots.{PlainNots, kept_mux}
+use Rattle.net_ports.proofs.Laws.{not_net}
+use Rattle.op_bits.proofs.Laws.{Going, going_start, going_more, going_out, going_all, both_nets}
+use Rattle.op_bits.proofs.mux_bits.Given as goal
+
+abbrev pub invariant-loop-i : goal.invariant-loop-i
+invariant-loop-i l =
+    Going (λ j. add_mux l.condition (get_or l.initial.then_bits j 0) (get_or l.else_bits j 0)) (both (add_mux l.condition) l.initial.then_bits l.else_bits (netlist_of l.n l.initial.net)) l.n (length l.initial.then_bits) l.initial.net l.initial.then_bits l.net l.idx l.then_bits l.i × PlainNots (netlist_of l.n l.net)
+
+abbrev pub decreases-loop-i : goal.decreases-loop-i
+decreases-loop-i l = length l.initial.then_bits - l.i

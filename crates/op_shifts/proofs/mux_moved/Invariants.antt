@@ -1,0 +1,23 @@
+-- `op_shifts::mux_moved` meets its contract. Assumes nothing.
+use borrow.Author.Rules.{rules}
+use mathlib.Core.Path.{sym, ◌∙◌}
+use Prim.Native.Nat.{◌-◌}
+use native.Mathlib.Omega.{arith}
+use lib.ListN.{length, get_or}
+use Rattle.spec_model.specs.Builder.{both, add_mux}
+use Rattle.spec_model.specs.Lowering.{shifted}
+use Rattle.net_view.specs.View.{netlist_of}
+use Rattle.net_gates.specs.Nots.{PlainNots, kept_mux}
+use Rattle.net_ports.proofs.Laws.{not_net}
+use Rattle.op_shifts.specs.Kinds.{shift_of}
+use Rattle.op_bits.proofs.Laws.{Going, going_start, going_more, going_out, going_all}
+use Rattle.op_shifts.proofs.Laws.{stage_nets}
+use Rattle.op_shifts.proofs.mux_moved.Given as goal
+
+abbrev pub invariant-loop-i : goal.invariant-loop-i
+invariant-loop-i l =
+    Going (λ j. add_mux l.select (get_or (shifted (shift_of l.kind) l.z l.distance l.original) j 0) (get_or l.original j 0)) (both (add_mux l.select) (shifted (shift_of l.kind) l.z l.distance l.original) l.original (netlist_of l.n l.initial.net)) l.n (length l.original) l.initial.net l.initial.xs l.net l.idx l.xs l.i
+    × PlainNots (netlist_of l.n l.net)
+
+abbrev pub decreases-loop-i : goal.decreases-loop-i
+decreases-loop-i l = length l.original - l.i

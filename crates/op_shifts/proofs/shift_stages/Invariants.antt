@@ -1,0 +1,18 @@
+-- `op_shifts::shift_stages` meets its contract. Assumes nothing.
+use borrow.Author.Rules.{rules}
+use mathlib.Core.Path.{sym, ap, ◌∙◌}
+use Prim.Native.Nat.{ℕ, ◌-◌, ◌*◌, min}
+use native.Mathlib.Omega.{arith}
+use lib.ListN.{length}
+use Rattle.spec_model.specs.Lowering.{stages}
+use Rattle.net_view.specs.View.{netlist_of}
+use Rattle.op_shifts.specs.Kinds.{shift_of}
+use Rattle.op_bits.proofs.Laws.{not_done}
+use Rattle.op_shifts.proofs.Laws.{Staging, staging_start, staging_more, staging_out, staging_end}
+use Rattle.op_shifts.proofs.shift_stages.Given as goal
+
+abbrev pub invariant-loop-k : goal.invariant-loop-k
+invariant-loop-k l = Staging (stages (shift_of l.kind) l.z 0 l.amount l.initial.xs (netlist_of l.n l.initial.net)) (shift_of l.kind) l.z l.n l.initial.net l.initial.xs l.amount l.net l.idx l.xs l.distance l.k
+
+abbrev pub decreases-loop-k : goal.decreases-loop-k
+decreases-loop-k l = length l.amount - l.k

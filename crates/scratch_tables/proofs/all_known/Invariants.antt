@@ -1,0 +1,11 @@
+-- `scratch_tables::all_known` meets its contract: invariant: the words passed hold nets, and what is left decides. Assumes nothing.
+use Prim.Native.Nat.{◌-◌}
+use borrow.Author.Rules.{rules}
+use Rattle.scratch_tables.proofs.Ways.{KnownAt, known_begins, known_turn, known_stops, known_ends}
+use Rattle.scratch_tables.proofs.all_known.Given as goal
+
+abbrev pub invariant-loop-i : goal.invariant-loop-i
+invariant-loop-i l = KnownAt l.scr l.at l.n l.i
+
+abbrev pub decreases-loop-i : goal.decreases-loop-i
+decreases-loop-i l = l.n - l.i

@@ -1,0 +1,11 @@
+-- `scratch_tables::copy_signal` meets its contract: the words of the range. Assumes nothing.
+use borrow.Author.Rules.{rules}
+use Rattle.scratch_tables.proofs.Ways.{copy_signal_way}
+use Rattle.scratch_tables.proofs.copy_signal.Goals as goal
+
+pub returns : goal.returns
+returns c =
+    let a = c.args in
+    let at = c.signal_place-at in
+    let copied = c.copy_nets in
+    copy_signal_way a.image.now a.scr.now at.result a.lsb a.n a.out.now copied.new.out a.to copied.ensures a.p c.requires.1 c.requires.2 at.ensures

@@ -1,0 +1,15 @@
+-- `stored_header::first_word` meets its contract. The loop's invariant: no header word below i is wrong. Assumes nothing.
+use borrow.Author.Rules.{rules}
+use Prim.Native.Nat.{◌≤◌, ◌-◌}
+use mathlib.Core.Path.{◌≡◌, sym, ap, ◌∙◌}
+use native.Mathlib.Omega.{arith}
+use Rattle.spec_tests.specs.Rules.{first}
+use Rattle.spec_tests.specs.Laws.{from, begins, passed, found, ended}
+use Rattle.spec_netlist.specs.Accept.{wrong_header}
+use Rattle.stored_header.proofs.first_word.Given as goal
+
+abbrev pub invariant-loop-i : goal.invariant-loop-i
+invariant-loop-i l = (l.i ≤ l.n) × (first (wrong_header l.net) l.n ≡ from (wrong_header l.net) l.n l.i)
+
+abbrev pub decreases-loop-i : goal.decreases-loop-i
+decreases-loop-i l = l.n - l.i

@@ -1,0 +1,13 @@
+-- `stored_nodes::find` meets its contract. The loop's invariant: the search stands at slot `at`, `rest` is what is left of the key, and at most 47 nodes were passed.
+use borrow.Author.Rules.{rules}
+use Prim.Native.Nat.{◌-◌}
+use mathlib.Core.Path.{sym, ◌∙◌}
+use native.Mathlib.Omega.{arith}
+use Rattle.stored_nodes.specs.Lookup.{Searches, searches_start, searches_low, searches_free, searches_same, searches_more}
+use Rattle.stored_nodes.proofs.find.Given as goal
+
+abbrev pub invariant-loop-depth : goal.invariant-loop-depth
+invariant-loop-depth l = Searches l.net l.table l.n l.rest l.at l.depth
+
+abbrev pub decreases-loop-depth : goal.decreases-loop-depth
+decreases-loop-depth l = 48 - l.depth

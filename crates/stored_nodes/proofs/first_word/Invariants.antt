@@ -1,0 +1,21 @@
+-- `stored_nodes::first_word` meets its contract. The loop's invariant: no word of a node below n is wrong, the tree holds the nodes below n that belong to a record,
+use borrow.Author.Rules.{rules}
+use Prim.Native.Nat.{◌*◌, ◌≤◌, ◌-◌}
+use mathlib.Core.Path.{◌≡◌, refl, sym, ap₂, ◌∙◌}
+use native.Mathlib.Omega.{arith}
+use lib.ListN.{length}
+use Rattle.spec_tests.specs.Rules.{first}
+use Rattle.spec_tests.specs.Laws.{from, begins}
+use Rattle.spec_netlist.specs.Accept.{nets, limit}
+use Rattle.stored_nodes.specs.Tree.{slots, Tree}
+use Rattle.stored_nodes.specs.Words.{wrong_node, node_hit, node_skip}
+use Rattle.stored_nodes.specs.Lookup.{cleared}
+use Rattle.stored_nodes.proofs.first_word.Given as goal
+
+abbrev pub invariant-loop-n : goal.invariant-loop-n
+invariant-loop-n l =
+    (l.n ≤ nets l.net) × (first (wrong_node l.net) (6 * limit l.net) ≡ from (wrong_node l.net) (6 * limit l.net) (6 * l.n)) × (length l.table ≡ length l.initial.table)
+    × Tree l.net l.n (slots l.net l.table)
+
+abbrev pub decreases-loop-n : goal.decreases-loop-n
+decreases-loop-n l = l.count - l.n

@@ -1,0 +1,16 @@
+-- `stored_records::first_wrong_output` meets its contract. The loop's invariant: no word from a to i - 1 is wrong, whatever the earlier records that the marks stand for. Assumes nothing.
+use mathlib.Core.Path.{◌≡◌, refl, sym, ap, ◌∙◌}
+use mathlib.Core.List.{List}
+use Prim.Native.Nat.{ℕ, ◌-◌, ◌≤◌}
+use native.Mathlib.Omega.{arith}
+use borrow.Author.Rules.{rules}
+use Rattle.spec_tests.specs.Laws.{or_hit, or_skip, lt_yes, lt_no, from, here, passed, past}
+use Rattle.stored_view.specs.Opened.{Marked}
+use Rattle.stored_records.specs.Words.{wrong_output}
+use Rattle.stored_records.proofs.first_wrong_output.Given as goal
+
+abbrev pub invariant-loop-i : goal.invariant-loop-i
+invariant-loop-i l = (l.a ≤ l.i) × (l.i ≤ l.e) × ((earlier : List (List ℕ)) → Marked l.net earlier l.marks → from (wrong_output l.net earlier l.l l.number l.least l.a) l.e l.a ≡ from (wrong_output l.net earlier l.l l.number l.least l.a) l.e l.i)
+
+abbrev pub decreases-loop-i : goal.decreases-loop-i
+decreases-loop-i l = l.e - l.i

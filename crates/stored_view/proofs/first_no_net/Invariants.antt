@@ -1,0 +1,16 @@
+-- `stored_view::first_no_net` meets its contract. Assumes nothing.
+use Prim.Native.Nat.{◌≤◌, ◌-◌}
+use mathlib.Core.Path.{◌≡◌, refl, sym, ◌∙◌}
+use native.Mathlib.Omega.{arith}
+use borrow.Author.Rules.{rules}
+use lib.ListN.{get_or}
+use Rattle.spec_tests.specs.Laws.{from, passed}
+use Rattle.spec_netlist.specs.Accept.{no_net}
+use Rattle.stored_view.specs.Scan.{at_hit, at_last}
+use Rattle.stored_view.proofs.first_no_net.Given as goal
+
+abbrev pub invariant-loop-i : goal.invariant-loop-i
+invariant-loop-i l = (l.i ≤ l.e) × (from (λ j. no_net l.net (get_or l.l j 0)) l.e l.a ≡ from (λ j. no_net l.net (get_or l.l j 0)) l.e l.i)
+
+abbrev pub decreases-loop-i : goal.decreases-loop-i
+decreases-loop-i l = l.e - l.i

@@ -1,0 +1,15 @@
+-- `trace_fit::memory_bits` meets its contract. Assumes nothing.
+use Prim.Native.Nat.{◌*◌, ◌-◌, ◌≤◌}
+use mathlib.Core.Path.{◌≡◌, sym, ◌∙◌}
+use native.Mathlib.Omega.{arith}
+use Rattle.spec_tests.specs.Rules.{sum_to}
+use Rattle.spec_tests.specs.Laws.{sum_none, sum_more}
+use Rattle.trace_fit.specs.Fit.{bits_at, bits_read, sum_all}
+use borrow.Author.Rules.{rules}
+use Rattle.trace_fit.proofs.memory_bits.Given as goal
+
+abbrev pub invariant-loop-i : goal.invariant-loop-i
+invariant-loop-i l = (l.i ≤ l.count) × ((l.sum ≡ sum_to (bits_at l.net l.places) l.i) × (l.sum ≤ l.i * 67108864))
+
+abbrev pub decreases-loop-i : goal.decreases-loop-i
+decreases-loop-i l = l.count - l.i

@@ -1,0 +1,15 @@
+-- `trace_memory::read_memories` meets its contract. Assumes nothing.
+use Prim.Native.Nat.{◌-◌, ◌≤◌}
+use mathlib.Core.Path.{◌≡◌, refl, sym, ◌∙◌}
+use native.Mathlib.Omega.{arith}
+use lib.ListN.{length}
+use Rattle.trace_step.specs.Words.{base_at, memories_read}
+use Rattle.trace_memory.specs.Ports.{fits_it, base_room, base_none, base_more, reads_none, reads_more, reads_all}
+use borrow.Author.Rules.{rules}
+use Rattle.trace_memory.proofs.read_memories.Given as goal
+
+abbrev pub invariant-loop-i : goal.invariant-loop-i
+invariant-loop-i l = (length l.initial.new ≡ length l.new) × ((l.i ≤ l.count) × ((l.base ≡ base_at l.net l.places l.i) × (l.new ≡ memories_read l.net l.memory l.old l.places l.i l.initial.new)))
+
+abbrev pub decreases-loop-i : goal.decreases-loop-i
+decreases-loop-i l = l.count - l.i

@@ -1,0 +1,14 @@
+-- `trace_memory::spread_words` meets its contract. Assumes nothing.
+use Prim.Native.Nat.{◌-◌}
+use mathlib.Core.Path.{◌≡◌, refl, sym, ◌∙◌}
+use lib.ListN.{length}
+use Rattle.trace_step.specs.Words.{identity}
+use Rattle.trace_memory.specs.Spread.{Spreading, spread_start, spread_more, spread_end}
+use borrow.Author.Rules.{rules}
+use Rattle.trace_memory.proofs.spread_words.Given as goal
+
+abbrev pub invariant-loop-i : goal.invariant-loop-i
+invariant-loop-i l = (length l.initial.values ≡ length l.values) × Spreading identity l.initial.values l.nets l.words l.values l.i
+
+abbrev pub decreases-loop-i : goal.decreases-loop-i
+decreases-loop-i l = length l.nets - l.i

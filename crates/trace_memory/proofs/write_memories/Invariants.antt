@@ -1,0 +1,15 @@
+-- `trace_memory::write_memories` meets its contract. Assumes nothing.
+use Prim.Native.Nat.{◌-◌, ◌≤◌}
+use mathlib.Core.Path.{◌≡◌, refl, sym, ◌∙◌}
+use native.Mathlib.Omega.{arith}
+use lib.ListN.{length}
+use Rattle.trace_step.specs.Words.{base_at, memories_written}
+use Rattle.trace_memory.specs.Ports.{fits_it, base_room, base_none, base_more, writes_none, writes_more, writes_all}
+use borrow.Author.Rules.{rules}
+use Rattle.trace_memory.proofs.write_memories.Given as goal
+
+abbrev pub invariant-loop-i : goal.invariant-loop-i
+invariant-loop-i l = (length l.initial.memory ≡ length l.memory) × ((l.i ≤ l.count) × ((l.base ≡ base_at l.net l.places l.i) × (l.memory ≡ memories_written l.net l.old l.new l.places l.i l.initial.memory)))
+
+abbrev pub decreases-loop-i : goal.decreases-loop-i
+decreases-loop-i l = l.count - l.i

@@ -1,0 +1,15 @@
+-- `trace_names::place_of` meets its contract. Assumes nothing.
+use Prim.Native.Nat.{◌≤◌, ◌-◌}
+use mathlib.Core.Path.{◌≡◌, sym, ◌∙◌}
+use native.Mathlib.Omega.{arith}
+use lib.ListN.{length, get_or}
+use Rattle.spec_tests.specs.Rules.{◌≡?◌, ◌or◌, first}
+use Rattle.spec_tests.specs.Laws.{from, begins, passed, found, ended, or_left, or_right, or_skip, eq_yes, eq_no}
+use borrow.Author.Rules.{rules}
+use Rattle.trace_names.proofs.place_of.Given as goal
+
+abbrev pub invariant-loop-i : goal.invariant-loop-i
+invariant-loop-i l = (l.i ≤ length l.held) × (first (λ j. get_or l.held j 0 ≡? l.n or get_or l.held j 0 ≡? 0) (length l.held) ≡ from (λ j. get_or l.held j 0 ≡? l.n or get_or l.held j 0 ≡? 0) (length l.held) l.i)
+
+abbrev pub decreases-loop-i : goal.decreases-loop-i
+decreases-loop-i l = length l.held - l.i

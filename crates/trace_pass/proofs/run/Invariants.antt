@@ -1,0 +1,12 @@
+-- `trace_pass::run` meets its contract. Assumes nothing.
+use borrow.Author.Rules.{rules}
+use native.Mathlib.Omega.{arith}
+use Prim.Native.Nat.{◌-◌}
+use Rattle.trace_pass.specs.Plan.{Running, running_start, running_ready, running_more, running_end}
+use Rattle.trace_pass.proofs.run.Given as goal
+
+abbrev pub invariant-loop-i : goal.invariant-loop-i
+invariant-loop-i l = Running l.net l.steps l.count l.initial.values l.values l.i
+
+abbrev pub decreases-loop-i : goal.decreases-loop-i
+decreases-loop-i l = l.count - l.i

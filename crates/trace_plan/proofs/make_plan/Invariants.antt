@@ -1,0 +1,15 @@
+-- `trace_plan::make_plan` meets its contract. Assumes nothing.
+use Prim.Native.Nat.{◌-◌, ◌≤◌}
+use mathlib.Core.Path.{◌≡◌, refl, sym, ◌∙◌}
+use native.Mathlib.Omega.{arith}
+use lib.ListN.{length}
+use Rattle.trace_plan.specs.Building.{Building}
+use Rattle.trace_plan.specs.Meeting.{cleared_start, next_end}
+use borrow.Author.Rules.{rules}
+use Rattle.trace_plan.proofs.make_plan.Given as goal
+
+abbrev pub invariant-loop-k : goal.invariant-loop-k
+invariant-loop-k l = (length l.initial.due ≡ length l.due) × ((length l.initial.steps ≡ length l.steps) × ((l.k ≤ l.count) × Building l.net l.steps l.due l.n l.k))
+
+abbrev pub decreases-loop-k : goal.decreases-loop-k
+decreases-loop-k l = l.count - l.k

@@ -1,0 +1,14 @@
+-- `trace_plan::mark_all` meets its contract. Assumes nothing.
+use Prim.Native.Nat.{◌-◌, ◌≤◌}
+use mathlib.Core.Path.{◌≡◌, refl, sym, ◌∙◌}
+use native.Mathlib.Omega.{arith}
+use lib.ListN.{length}
+use Rattle.trace_plan.specs.Marked.{Marked, mark_start, mark_more, mark_end}
+use borrow.Author.Rules.{rules}
+use Rattle.trace_plan.proofs.mark_all.Given as goal
+
+abbrev pub invariant-loop-i : goal.invariant-loop-i
+invariant-loop-i l = (length l.initial.due ≡ length l.due) × ((l.i ≤ length l.outs) × Marked l.outs l.initial.due l.due l.n l.i)
+
+abbrev pub decreases-loop-i : goal.decreases-loop-i
+decreases-loop-i l = length l.outs - l.i

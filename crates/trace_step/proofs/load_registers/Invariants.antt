@@ -1,0 +1,15 @@
+-- `trace_step::load_registers` meets its contract. Assumes nothing.
+use Prim.Native.Nat.{◌-◌, ◌≤◌}
+use mathlib.Core.Path.{◌≡◌, refl, sym, ◌∙◌}
+use native.Mathlib.Omega.{arith}
+use lib.ListN.{length}
+use Rattle.trace_step.specs.Words.{registers_done}
+use Rattle.trace_step.specs.Chains.{registers_none, registers_more, registers_all}
+use borrow.Author.Rules.{rules}
+use Rattle.trace_step.proofs.load_registers.Given as goal
+
+abbrev pub invariant-loop-i : goal.invariant-loop-i
+invariant-loop-i l = (length l.initial.new ≡ length l.new) × ((l.i ≤ l.count) × (l.new ≡ registers_done l.net l.old l.places l.i l.initial.new))
+
+abbrev pub decreases-loop-i : goal.decreases-loop-i
+decreases-loop-i l = l.count - l.i
