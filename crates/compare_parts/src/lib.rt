@@ -1,5 +1,6 @@
 // Parts of the port exported for comparison by running only; nothing rests on them. The contracts say that each call is safe and ends, not what it answers.
 #![tactic(auto)]
+
 ghost use Rattle.std.specs.Prelude.{◌≡◌, ◌+◌, ◌*◌, ◌≤◌, ◌<◌, length, get_or};
 ghost use Rattle.expr_fusion.specs.Fusion.{Inside};
 ghost use Rattle.net_view.specs.View.{netlist_of};

@@ -1,5 +1,6 @@
 // The first line and the net lines of the listing, as text in a lent buffer: number, kind, name, value or cell and bit, inputs.
 #![tactic(auto)]
+
 ghost use Rattle.std.specs.Prelude.{◌≡◌, [], ◌∷◌, ◌≤◌, ◌<◌, length, get_or};
 ghost use Rattle.spec_tests.specs.Rules.{◌≡?◌, ◌or◌, list_of};
 ghost use Rattle.spec_rules.specs.Listing as listing;

@@ -1,5 +1,6 @@
 // The text of the listing for an answer of the lowering call, at the start of a lent buffer.
 #![tactic(auto)]
+
 ghost use Rattle.std.specs.Prelude.{ℕ, ◌≤◌, List, length};
 ghost use Rattle.spec_tests.specs.Rules.{Fine, Refused};
 ghost use Rattle.spec_rules.specs.Listing as text;

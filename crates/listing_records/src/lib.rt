@@ -1,5 +1,6 @@
 // The record lines of the listing, as text in a lent buffer: a port's name and nets; else the record's kind and its words after the first.
 #![tactic(auto)]
+
 ghost use Rattle.std.specs.Prelude.{map, ◌≤◌, ◌<◌, length, drop};
 ghost use Rattle.spec_rules.specs.NetlistImage.{records_of};
 ghost use Rattle.spec_rules.specs.Listing as listing;

@@ -1,5 +1,6 @@
 // The listing of an accepted image's netlist, or of a refusal, as text at the start of a lent buffer.
 #![tactic(auto)]
+
 ghost use Rattle.std.specs.Prelude.{ℕ, List};
 ghost use Rattle.spec_tests.specs.Rules.{Fine, Refused};
 ghost use Rattle.spec_rules.specs.Listing as text;

@@ -1,6 +1,7 @@
 // The record of a memory: its words, read from the tables once its addresses and data are lowered, and pushed. Follows `connect_memories` of
 // struo-synth.
 #![tactic(auto)]
+
 ghost use Rattle.std.specs.Prelude.{◌≡◌, true, ◌+◌, ◌≤◌, ◌<◌, length};
 ghost use Rattle.spec_rules.specs.Image.{count_at_of, signal_width, expr_width, decode};
 ghost use Rattle.spec_model.specs.Words.{Netlist};

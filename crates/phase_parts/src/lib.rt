@@ -1,5 +1,6 @@
 // What connecting memories, registers and outputs of struo-synth has in common: words of a list record, and the record pushed.
 #![tactic(auto)]
+
 ghost use Rattle.std.specs.Prelude.{◌≡◌, ◌<◌, get_or};
 ghost use Rattle.spec_rules.specs.Image.{count_at_of, signal_width};
 ghost use Rattle.spec_model.specs.Words.{Netlist, low_word, bit_word};

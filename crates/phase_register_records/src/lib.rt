@@ -1,6 +1,7 @@
 // The records of a register, one a bit: their words, read from the tables once its parts are lowered, and pushed. A reset value's bit that is no
 // constant is refused. Follows `connect_registers` of struo-synth.
 #![tactic(auto)]
+
 ghost use Rattle.std.proofs.Math.Option.{some};
 ghost use Rattle.std.specs.Prelude.{◌<◌};
 ghost use Rattle.spec_rules.specs.Image.{signal_width, expr_width};

@@ -1,5 +1,6 @@
 // A netlist image taken back in: header, length, nodes, list, nodes left without a record, record counts, in this order.
 #![tactic(auto)]
+
 ghost use Rattle.std.specs.Prelude.{◌≡◌, ℕ, ◌*◌, ◌≤◌, ◌<◌, length, get_or};
 ghost use Rattle.spec_tests.specs.Rules.{first};
 ghost use Rattle.spec_rules.specs.NetlistImage.{records_of};

@@ -1,5 +1,6 @@
 // What the reader of a netlist image gives: its nodes and records, one by one.
 #![tactic(auto)]
+
 ghost use Rattle.std.specs.Prelude.{◌≡◌};
 ghost use Rattle.spec_tests.specs.Rules.{pick};
 ghost use Rattle.spec_netlist.specs.Given.{list_from, is_node, node_given, is_record, record_given};

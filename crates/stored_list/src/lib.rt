@@ -1,5 +1,6 @@
 // The list's records in turn: each is judged, its own nets are marked, and it is counted.
 #![tactic(auto)]
+
 ghost use Rattle.std.specs.Prelude.{◌≡◌, List, ℕ, ◌+◌, ◌≤◌, ◌<◌, length, get_or};
 ghost use Rattle.spec_tests.specs.Rules.{◌<?◌, pick, first, Fine, Refused};
 ghost use Rattle.spec_rules.specs.NetlistImage.{record_length, records_of};

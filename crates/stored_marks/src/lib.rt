@@ -1,5 +1,6 @@
 // Whether a list record fits; marks of the nets that records list as their own, and counts of records.
 #![tactic(auto)]
+
 ghost use Rattle.std.specs.Prelude.{◌≡◌, not, List, [], ◌∷◌, ◌++◌, ℕ, ◌+◌, ◌≤◌, ◌<◌, length, drop, get_or};
 ghost use Rattle.spec_tests.specs.Rules.{◌<?◌, ◌≡?◌, ◌≢?◌, ◌or◌};
 ghost use Rattle.spec_rules.specs.NetlistImage.{memory_port_of};

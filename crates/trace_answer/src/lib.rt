@@ -1,5 +1,6 @@
 // One line of a trace answered: settings are judged, taken and printed; a keep or a back prints nothing.
 #![tactic(auto)]
+
 ghost use Rattle.std.specs.Prelude.{◌≡◌, true, false, ◌≤◌, length};
 ghost use Rattle.spec_tests.specs.Rules.{◌≢?◌, ◌or◌, ◌and◌};
 ghost use Rattle.spec_trace.specs.Opened.{having};

@@ -1,5 +1,6 @@
 // A write clash, both ports of a memory writing one word in a step, on tables of words: old has the values of all nets before it, new the new inputs.
 #![tactic(auto)]
+
 ghost use Rattle.std.specs.Prelude.{◌≡◌};
 ghost use Rattle.spec_rules.specs.NetlistImage.{memory_of};
 ghost use Rattle.spec_rules.specs.Step.{clashes, net_accesses};

@@ -1,5 +1,6 @@
 // The netlist image at the front of the trace program's input: its words, its end by its header, and its judgement.
 #![tactic(auto)]
+
 ghost use Rattle.std.specs.Prelude.{◌≡◌, ◌-◌, ◌/◌, ◌≤◌, ◌<◌, length};
 ghost use Rattle.spec_trace.specs.Opened.{other_limits, opened};
 ghost use Rattle.stored_check.specs.Answer as stored;

@@ -1,5 +1,6 @@
 // Moments of a run kept by name, and restored: the values of all nets, those of inputs, registers and read data among them, and the memories' bits.
 #![tactic(auto)]
+
 ghost use Rattle.std.specs.Prelude.{◌≡◌, ◌+◌, ◌≤◌, ◌<◌, length};
 ghost use Rattle.trace_names.specs.Numbers.{Name};
 ghost use Rattle.trace_keep.specs.Copies.{Copied};

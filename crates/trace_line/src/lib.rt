@@ -1,5 +1,6 @@
 // One line of a trace on the tables of a run: values has the values of all nets, memory the memories' bits, a word each; old is lent.
 #![tactic(auto)]
+
 ghost use Rattle.std.specs.Prelude.{◌≡◌, ◌∷◌, [], ◌++◌, map, ◌+◌, ◌≤◌, ◌<◌, length, get_or};
 ghost use Rattle.spec_trace.specs.Trace.{digit};
 ghost use Rattle.listing_text.specs.Text.{Wrote};

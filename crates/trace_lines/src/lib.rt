@@ -1,5 +1,6 @@
 // The lines of a trace as its bytes come: the first whole line among some bytes is answered.
 #![tactic(auto)]
+
 ghost use Rattle.std.specs.Prelude.{◌≡◌, ◌≤◌, length};
 ghost use Rattle.spec_tests.specs.Rules.{◌<?◌, ◌and◌};
 ghost use Rattle.trace_answer.specs.Settings.{Refuses};

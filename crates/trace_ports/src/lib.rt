@@ -1,5 +1,6 @@
 // The nets of a netlist's input ports or of its output ports, ports in list order, bit 0 first.
 #![tactic(auto)]
+
 ghost use Rattle.std.specs.Prelude.{[], ◌∷◌, ◌≤◌, length};
 ghost use Rattle.listing_text.specs.Text.{Wrote};
 ghost use Rattle.trace_ports.specs.Ports.{port_nets, joined};

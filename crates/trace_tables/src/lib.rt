@@ -1,5 +1,6 @@
 // The tables of a run: the plan of an accepted netlist, its ports' nets, the places of its registers and memories, in lent slices.
 #![tactic(auto)]
+
 ghost use Rattle.std.specs.Prelude.{◌≡◌, ◌≤◌, length};
 ghost use Rattle.spec_tests.specs.Rules.{Fine};
 ghost use Rattle.spec_netlist.specs.Accept.{nets, used, accepts};

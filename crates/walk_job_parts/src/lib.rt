@@ -1,5 +1,6 @@
 // Parts of a job that no operator makes: the bits of a constant, and the rest of a narrowed result.
 #![tactic(auto)]
+
 ghost use Rattle.std.specs.Prelude.{◌≡◌, ◌++◌, ℕ, ◌+◌, ◌-◌, ◌/◌, ◌%◌, ◌^◌, ◌≤◌, min, length, take, drop, replicate};
 ghost use Rattle.spec_rtl.specs.Word.{bits};
 ghost use Rattle.spec_rules.specs.Image.{list_word, constant_of};

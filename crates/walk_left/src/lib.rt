@@ -1,6 +1,7 @@
 // What the walk asks of the tables between two calls: what is left to lower before an expression, whether it is there already; and what it
 // keeps for a driven bit. Outside of the recursion.
 #![tactic(auto)]
+
 ghost use Rattle.std.specs.Prelude.{◌≡◌, true, ◌+◌, ◌*◌, ◌≤◌, ◌<◌};
 ghost use Rattle.spec_rules.specs.Image.{count_at_of, signal_width, expr_width};
 ghost use Rattle.spec_model.specs.Words.{Netlist};

@@ -1,5 +1,6 @@
 // The operands of an expression, or of a range of it, read from the tables into two lists of nets by its kind, and what is to be made of them.
 #![tactic(auto)]
+
 ghost use Rattle.std.specs.Prelude.{◌≡◌, true, false, List, ℕ, ◌+◌, ◌≤◌, ◌<◌, ◌-◌, min, max, length, take};
 ghost use Rattle.std.proofs.Math.Option.{none};
 ghost use Rattle.spec_rules.specs.Image.{expr_width, count_at_of};

@@ -1,5 +1,6 @@
 // What is lowered before an expression, or before a range of it, one by one: pure functions of the image.
 #![tactic(auto)]
+
 ghost use Rattle.std.specs.Prelude.{◌≡◌, List, ℕ, ◌+◌, ◌*◌, ◌≤◌, ◌<◌, min, max};
 ghost use Rattle.spec_rules.specs.Image.{count_at_of, expr_width};
 ghost use Rattle.spec_model.specs.Lowering as model;

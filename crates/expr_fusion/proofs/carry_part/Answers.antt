@@ -18,10 +18,10 @@ pub is_zero_expression-requires : goal.is_zero_expression-requires
 is_zero_expression-requires c = record { readable = c.requires.readable; inside = let y = c.requires.inside c.loop-i.i (omega arith) in omega (arith, c.list_word.ensures) }
 
 pub returns-then-not-is_zero_expression : goal.returns-then-not-is_zero_expression
-returns-then-not-is_zero_expression c = carry_stops c.args.image.now c.args.start c.args.count c.loop-i.i (omega arith) c.loop-i.invariant.1 (rw (← c.list_word.ensures) (sym c.is_zero_expression.ensures ∙ not_true c.is_zero_expression.result c.if-not-is_zero_expression.true))
+returns-then-not-is_zero_expression c = carry_stops c.args.image.now c.args.start c.args.count c.loop-i.i (omega arith) c.loop-i.invariant.1 (rw (← c.list_word.ensures) (sym c.is_zero_expression.ensures ∙ c.if-not-is_zero_expression.true))
 
 pub loop-i-preserved : goal.loop-i-preserved
-loop-i-preserved c = (omega arith, carry_passes c.args.image.now c.args.start c.args.count c.loop-i.i (omega arith) c.loop-i.invariant.1 (rw (← c.list_word.ensures) (sym c.is_zero_expression.ensures ∙ not_false c.is_zero_expression.result c.if-not-is_zero_expression.false)))
+loop-i-preserved c = (omega arith, carry_passes c.args.image.now c.args.start c.args.count c.loop-i.i (omega arith) c.loop-i.invariant.1 (rw (← c.list_word.ensures) (sym c.is_zero_expression.ensures ∙ c.if-not-is_zero_expression.false)))
 
 pub overflow_add-start-2 : goal.overflow_add-start-2
 overflow_add-start-2 c = omega (arith, c.requires.room)

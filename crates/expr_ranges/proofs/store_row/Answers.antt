@@ -19,4 +19,4 @@ bounds-table-at-5 c = simp length-set (omega arith)
 
 pub returns : goal.returns
 unfolding put_row
-returns c = rw (c.low_half_lem.ensures, c.high_half_lem.ensures, c.low_half-2.ensures, c.high_half-2.ensures)
+returns c = rw (c.low_half.ensures, c.high_half.ensures, c.low_half-2.ensures, c.high_half-2.ensures)

@@ -1,0 +1,12 @@
+-- `compare_parts::compare_fusion` meets its contract. Assumes nothing.
+use borrow.Author.Rules.{rules}
+use native.Mathlib.Omega.{arith}
+use Rattle.compare_parts.proofs.Laws.{fine_readable}
+use Rattle.compare_parts.proofs.compare_fusion.Goals as goal
+
+pub fusion_row-requires : goal.fusion_row-requires
+fusion_row-requires c = record {
+  readable = fine_readable _ _ c.check-checked.ensures c.in-Fine.is;
+  left = omega (arith, c.count-count.ensures);
+  right = omega (arith, c.count-count.ensures);
+}

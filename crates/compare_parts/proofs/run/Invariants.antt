@@ -1,0 +1,16 @@
+-- `compare_parts::run` meets its contract. Assumes nothing.
+use borrow.Author.Rules.{rules}
+use mathlib.Core.Path.{◌≡◌}
+use Prim.Native.Nat.{◌-◌}
+use lib.ListN.{length}
+use Rattle.net_view.specs.View.{netlist_of}
+use Rattle.net_index.specs.Index.{Held}
+use Rattle.net_gates.specs.Nots.{PlainNots}
+use Rattle.compare_parts.proofs.run.Given as goal
+
+abbrev pub invariant-loop-at : goal.invariant-loop-at
+invariant-loop-at l =
+    (Held l.n l.net l.idx) × (PlainNots (netlist_of l.n l.net)) × (length l.net ≡ length l.initial.net) × (length l.idx ≡ length l.initial.idx) × (length l.results ≡ length l.initial.results)
+
+abbrev pub decreases-loop-at : goal.decreases-loop-at
+decreases-loop-at l = l.turns - l.at

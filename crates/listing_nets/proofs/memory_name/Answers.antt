@@ -1,0 +1,12 @@
+-- `listing_nets::memory_name` meets its contract. Assumes nothing.
+use borrow.Author.Rules.{rules}
+use Rattle.listing_nets.specs.Pieces.{memory_wrote, second_wrote}
+use Rattle.listing_nets.proofs.memory_name.Goals as goal
+
+pub returns-then-bit-w : goal.returns-then-bit-w
+returns-then-bit-w c =
+    memory_wrote _ _ _ c.name-name.ensures c.record_field.ensures c.signal_width-w.ensures c.if-bit-w.true c.bit_name.ensures
+
+pub returns : goal.returns
+returns c =
+    second_wrote _ _ _ c.name-name.ensures c.record_field.ensures c.signal_width-w.ensures c.if-bit-w.false c.second_name.ensures

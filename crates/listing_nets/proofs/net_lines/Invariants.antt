@@ -1,0 +1,14 @@
+-- `listing_nets::net_lines` meets its contract. Assumes nothing.
+use Prim.Native.Nat.{◌-◌}
+use native.Mathlib.Omega.{arith}
+use borrow.Author.Rules.{rules}
+use Rattle.listing_nets.specs.Pieces.{Lines, lines_start, lines_more, lines_end}
+use Rattle.spec_rules.specs.Listing.{net_line}
+use Rattle.spec_rules.specs.Step.{net}
+use Rattle.listing_nets.proofs.net_lines.Given as goal
+
+abbrev pub invariant-loop-n : goal.invariant-loop-n
+invariant-loop-n l = Lines (net_line l.image l.net) l.count l.initial.out l.at l.out l.to l.n
+
+abbrev pub decreases-loop-n : goal.decreases-loop-n
+decreases-loop-n l = l.count - l.n

@@ -1,0 +1,9 @@
+-- `listing_records::cell_line` meets its contract. Assumes nothing.
+use borrow.Author.Rules.{rules}
+use Rattle.listing_records.specs.Pieces.{cell_wrote}
+use Rattle.listing_text.specs.Text.{wrote_more}
+use Rattle.listing_records.proofs.cell_line.Goals as goal
+
+pub returns : goal.returns
+returns c =
+    cell_wrote _ c.word_at.ensures c.part.ensures (wrote_more c.record_word-p.ensures (wrote_more c.put_numbers-q.ensures c.put_byte.ensures))

@@ -1,0 +1,12 @@
+-- `listing_records::put_numbers` meets its contract. Assumes nothing.
+use Prim.Native.Nat.{◌-◌}
+use native.Mathlib.Omega.{arith}
+use lib.ListN.{length}
+use Rattle.listing_records.specs.Pieces.{Numbers, numbers_start, numbers_more, numbers_end}
+use Rattle.listing_records.proofs.put_numbers.Given as goal
+
+abbrev pub invariant-loop-i : goal.invariant-loop-i
+invariant-loop-i l = Numbers l.words l.initial.out l.at l.out l.to l.i
+
+abbrev pub decreases-loop-i : goal.decreases-loop-i
+decreases-loop-i l = length l.words - l.i

@@ -1,0 +1,24 @@
+-- `phase_parts::control_words` meets its contract. Assumes nothing.
+use borrow.Author.Rules.{rules}
+use native.Mathlib.Omega.{arith}
+use Rattle.scratch_view.specs.View.{state_of}
+use Rattle.phase_parts.specs.Parts.{there_present}
+use Rattle.phase_parts.proofs.Laws.{control_absent, control_present}
+use Rattle.phase_parts.proofs.control_words.Goals as goal
+
+pub bit_net-requires : goal.bit_net-requires
+bit_net-requires c =
+    let pre = c.requires in
+    let a = c.args in
+    let h = there_present a.e a.image.now c.in-Present.c c.in-Present.is pre.1 in
+    (pre.0, h.there, omega (arith, h.one))
+
+pub returns-in-Absent : goal.returns-in-Absent
+returns-in-Absent c =
+    let a = c.args in
+    λ l. control_absent (state_of a.image.now l a.scr.now) a.e c.in-Absent.is
+
+pub returns-in-Present : goal.returns-in-Present
+returns-in-Present c =
+    let a = c.args in
+    λ l. control_present (state_of a.image.now l a.scr.now) a.e c.in-Present.c _ _ c.in-Present.is (c.bit_net.ensures l) c.low_word.ensures

@@ -1,0 +1,23 @@
+-- `phase_register_records::push_bits` meets its contract. Assumes nothing.
+use borrow.Author.Rules.{rules}
+use mathlib.Core.Path.{sym, ◌∙◌}
+use Prim.Native.Nat.{◌-◌}
+use native.Mathlib.Omega.{arith}
+use Rattle.spec_model.specs.Lowering.{register_bit}
+use Rattle.image_records.specs.Others.{register_means}
+use Rattle.scratch_view.specs.Bounds.{signal_width_law}
+use Rattle.walk_view.specs.View.{Sure, walk_state}
+use Rattle.walk_view.proofs.Answers.{not-done-tag}
+use Rattle.walk_view.specs.Answers.{not_done}
+use Rattle.walk_view.specs.Turns.{Turning, turning_start, turning_more, turning_out, turning_end}
+use Rattle.phase_parts.specs.Ran.{ran_phase, phase_ran}
+use Rattle.phase_register_records.specs.Registers.{bits_turn}
+use Rattle.phase_register_records.proofs.Laws.{bits_turns}
+use Rattle.phase_register_records.proofs.push_bits.Given as goal
+
+abbrev pub invariant-loop-b : goal.invariant-loop-b
+invariant-loop-b l =
+    (Turning (bits_turn l.image l.k (register_means l.x) (walk_state l.image l.initial.net l.scr)) (register_bit (register_means l.x).reset l.k (register_means l.x)) l.n l.image l.initial.net l.scr l.net l.scr l.b) × (Sure l.image l.net l.scr)
+
+abbrev pub decreases-loop-b : goal.decreases-loop-b
+decreases-loop-b l = l.n - l.b

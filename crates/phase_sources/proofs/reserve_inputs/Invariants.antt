@@ -1,0 +1,18 @@
+-- `phase_sources::reserve_inputs` meets its contract. Assumes nothing.
+use borrow.Author.Rules.{rules}
+use mathlib.Core.Path.{◌∙◌}
+use Prim.Native.Nat.{◌-◌}
+use native.Mathlib.Omega.{arith}
+use Rattle.spec_rules.specs.Image.{decode}
+use Rattle.spec_model.specs.Lowering.{reserve_inputs}
+use Rattle.walk_view.specs.View.{walk_state}
+use Rattle.walk_view.proofs.Answers.{not-done-tag}
+use Rattle.walk_view.specs.Turns.{Turning, turning_start, turning_more, turning_out, turning_end}
+use Rattle.phase_sources.specs.Reserves.{input_at, inputs_turn}
+use Rattle.phase_sources.proofs.reserve_inputs.Given as goal
+
+abbrev pub invariant-loop-p : goal.invariant-loop-p
+invariant-loop-p l = Turning (reserve_inputs 0 (decode l.image).signals (walk_state l.image l.initial.net l.initial.scr)) (input_at l.image) l.count l.image l.initial.net l.initial.scr l.net l.scr l.p
+
+abbrev pub decreases-loop-p : goal.decreases-loop-p
+decreases-loop-p l = l.count - l.p

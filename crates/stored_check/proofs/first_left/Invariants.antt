@@ -1,0 +1,15 @@
+-- `stored_check::first_left` meets its contract. Assumes nothing.
+use Prim.Native.Nat.{◌≤◌, ◌-◌}
+use mathlib.Core.Path.{◌≡◌, sym, ◌∙◌}
+use native.Mathlib.Omega.{arith}
+use borrow.Author.Rules.{rules}
+use Rattle.spec_tests.specs.Rules.{first}
+use Rattle.spec_tests.specs.Laws.{from, begins, passed, found, ended}
+use Rattle.spec_netlist.specs.Accept.{nets, alone}
+use Rattle.stored_check.proofs.first_left.Given as goal
+
+abbrev pub invariant-loop-n : goal.invariant-loop-n
+invariant-loop-n l = (l.n ≤ nets l.net) × (first (alone l.net) (nets l.net) ≡ from (alone l.net) (nets l.net) l.n)
+
+abbrev pub decreases-loop-n : goal.decreases-loop-n
+decreases-loop-n l = l.count - l.n

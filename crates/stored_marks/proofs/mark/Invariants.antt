@@ -1,0 +1,18 @@
+-- `stored_marks::mark` meets its contract. Assumes nothing.
+use Prim.Native.Nat.{ℕ, ◌≤◌, ◌<◌, ◌-◌}
+use mathlib.Core.Path.{◌≡◌, refl, sym, ap, ◌∙◌}
+use native.Mathlib.Omega.{arith}
+use borrow.Author.Rules.{rules}
+use lib.ListN.{length, take, get_or}
+use lib.Seq.{take_all}
+use Rattle.spec_tests.specs.Rules.{◌≢?◌, ◌or◌}
+use Rattle.spec_netlist.specs.Accept.{member}
+use Rattle.stored_marks.specs.Keep.{mark_start, mark_step}
+use mathlib.Core.List.{List}
+use Rattle.stored_marks.proofs.mark.Given as goal
+
+abbrev pub invariant-loop-i : goal.invariant-loop-i
+invariant-loop-i l = (l.i ≤ length l.own) × (length l.initial.marks ≡ length l.marks) × ((x : ℕ) → x < length l.initial.marks → (get_or l.marks x 0 ≢? 0) ≡ ((get_or l.initial.marks x 0 ≢? 0) or member x (take l.i l.own)))
+
+abbrev pub decreases-loop-i : goal.decreases-loop-i
+decreases-loop-i l = length l.own - l.i

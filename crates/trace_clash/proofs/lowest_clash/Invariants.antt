@@ -1,0 +1,13 @@
+-- `trace_clash::lowest_clash` meets its contract. Assumes nothing.
+use Prim.Native.Nat.{◌-◌, ◌≤◌}
+use mathlib.Core.Path.{◌≡◌}
+use native.Mathlib.Omega.{arith}
+use Rattle.trace_clash.specs.Words.{lowest_clash, lowest_none, addressed_it, lowest_more, lowest_all}
+use borrow.Author.Rules.{rules}
+use Rattle.trace_clash.proofs.lowest_clash.Given as goal
+
+abbrev pub invariant-loop-i : goal.invariant-loop-i
+invariant-loop-i l = (l.i ≤ l.count) × (l.k ≡ lowest_clash l.net l.old l.new l.places l.i)
+
+abbrev pub decreases-loop-i : goal.decreases-loop-i
+decreases-loop-i l = l.count - l.i

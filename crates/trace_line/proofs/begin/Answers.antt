@@ -1,0 +1,11 @@
+-- `trace_line::begin` meets its contract. Assumes nothing.
+use mathlib.Core.Path.{refl}
+use Rattle.trace_line.specs.Standing.{begin_ready, begin_after}
+use borrow.Author.Rules.{rules}
+use Rattle.trace_line.proofs.begin.Goals as goal
+
+pub run-requires : goal.run-requires
+run-requires c = begin_ready c.requires c.args.line.now refl c.load_line.ensures
+
+pub returns : goal.returns
+returns c = begin_after c.requires c.args.line.now refl c.load_line.ensures c.run.ensures c.run.auto.values

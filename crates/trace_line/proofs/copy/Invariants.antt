@@ -1,0 +1,14 @@
+-- `trace_line::copy` meets its contract. Assumes nothing.
+use Prim.Native.Nat.{◌-◌}
+use mathlib.Core.Path.{◌≡◌, sym, ◌∙◌}
+use native.Mathlib.Omega.{arith}
+use lib.ListN.{length}
+use Rattle.trace_line.specs.Text.{Copied, copied_start, copied_more, copied_end}
+use borrow.Author.Rules.{rules}
+use Rattle.trace_line.proofs.copy.Given as goal
+
+abbrev pub invariant-loop-i : goal.invariant-loop-i
+invariant-loop-i l = (length l.initial.old ≡ length l.values) × Copied l.values l.old l.i
+
+abbrev pub decreases-loop-i : goal.decreases-loop-i
+decreases-loop-i l = length l.values - l.i

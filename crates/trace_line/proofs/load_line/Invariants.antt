@@ -1,0 +1,14 @@
+-- `trace_line::load_line` meets its contract. Assumes nothing.
+use Prim.Native.Nat.{◌-◌}
+use mathlib.Core.Path.{◌≡◌, refl, sym, ◌∙◌}
+use lib.ListN.{length}
+use Rattle.trace_memory.specs.Spread.{Spreading, spread_start, spread_more, spread_end}
+use Rattle.trace_line.specs.Step.{char}
+use borrow.Author.Rules.{rules}
+use Rattle.trace_line.proofs.load_line.Given as goal
+
+abbrev pub invariant-loop-i : goal.invariant-loop-i
+invariant-loop-i l = (length l.initial.values ≡ length l.values) × Spreading char l.initial.values l.inputs l.line l.values l.i
+
+abbrev pub decreases-loop-i : goal.decreases-loop-i
+decreases-loop-i l = length l.inputs - l.i

@@ -1,0 +1,17 @@
+-- `trace_line::print_nets` meets its contract. Assumes nothing.
+use Prim.Native.Nat.{◌-◌}
+use mathlib.Core.Path.{◌∙◌, ap}
+use mathlib.Core.List.{map}
+use lib.ListN.{length, take}
+use Rattle.spec_trace.specs.Trace.{digit}
+use Rattle.listing_text.specs.Text.{Wrote}
+use Rattle.trace_step.specs.Words.{on}
+use Rattle.trace_line.specs.Text.{print_start, print_more, print_end}
+use borrow.Author.Rules.{rules}
+use Rattle.trace_line.proofs.print_nets.Given as goal
+
+abbrev pub invariant-loop-i : goal.invariant-loop-i
+invariant-loop-i l = Wrote l.initial.out l.at (map (λ n. digit (on l.values n)) (take l.i l.nets)) l.out l.to
+
+abbrev pub decreases-loop-i : goal.decreases-loop-i
+decreases-loop-i l = length l.nets - l.i

@@ -1,0 +1,13 @@
+-- `trace_ports::put_all` meets its contract. Assumes nothing.
+use Prim.Native.Nat.{◌≤◌, ◌-◌}
+use native.Mathlib.Omega.{arith}
+use lib.ListN.{length, take}
+use Rattle.listing_text.specs.Text.{Wrote, wrote_none, wrote_step, wrote_all}
+use borrow.Author.Rules.{rules}
+use Rattle.trace_ports.proofs.put_all.Given as goal
+
+abbrev pub invariant-loop-i : goal.invariant-loop-i
+invariant-loop-i l = (l.i ≤ length l.list) × Wrote l.initial.out l.at (take l.i l.list) l.out l.to
+
+abbrev pub decreases-loop-i : goal.decreases-loop-i
+decreases-loop-i l = length l.list - l.i

@@ -1,0 +1,11 @@
+-- `walk_operands::copy_parts` meets its contract. Assumes nothing.
+use borrow.Author.Rules.{rules}
+use native.Mathlib.Omega.{arith}
+use Rattle.walk_operands.proofs.Ways.{PartsAt, parts_begin, parts_turn, parts_room, parts_end}
+use Rattle.walk_operands.proofs.copy_parts.Given as goal
+
+abbrev pub invariant-loop-i : goal.invariant-loop-i
+invariant-loop-i l = PartsAt l.image l.scr l.start l.count l.initial.out l.out l.at l.i
+
+abbrev pub decreases-loop-i : goal.decreases-loop-i
+decreases-loop-i l = l.i
