@@ -1,7 +1,7 @@
 // Reads an image from standard input and judges it by refusals 1 to 5, with the listing program's limits: 1,024 nets, 2,048 list words
 // and 8,192 words of scratch. Only the first 32,768 bytes are judged.
-
 #![tactic(auto)]
+
 fn print_answer(answer: [u32; 3]) {
     if answer[0] == 0 {
         io::write_all(1, b"checks 1 to 5 pass\n");

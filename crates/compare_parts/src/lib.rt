@@ -18,8 +18,7 @@ use net_nodes::Added;
 // ---- expressions of an image that passes the checks, under limits and buffers that refuse none ----
 
 // Ranges and narrowed adders, eight words for each expression; false if the image is refused or the table short.
-#[unsafe(no_mangle)]
-pub extern "C" fn compare_adder_widths(image: &[u8], table: &mut [u32]) -> bool {
+pub fn compare_adder_widths(image: &[u8], table: &mut [u32]) -> bool {
     let checked = check_image::check(image, 1, 0, 22, 98372);
     let Checked::Fine = checked else {
         return false;
@@ -60,8 +59,7 @@ fn fusion_row(image: &[u8], a: u32, b: u32) -> [u32; 8]
 }
 
 // Fusion answers for a pair of expressions; false if the image is refused or has no such expressions.
-#[unsafe(no_mangle)]
-pub extern "C" fn compare_fusion(image: &[u8], a: u32, b: u32, row: &mut [u32; 8]) -> bool {
+pub fn compare_fusion(image: &[u8], a: u32, b: u32, row: &mut [u32; 8]) -> bool {
     let checked = check_image::check(image, 1, 0, 22, 98372);
     let Checked::Fine = checked else {
         return false;
@@ -313,8 +311,7 @@ fn build(
 }
 
 // An empty netlist of n nets, then the first so many operations, of five words each. The answer: 0, 9 or 10, and where; 1 if what is lent does not fit.
-#[unsafe(no_mangle)]
-pub extern "C" fn compare_build(
+pub fn compare_build(
     n: u32,
     ops: &[u32],
     turns: usize,

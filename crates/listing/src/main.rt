@@ -1,5 +1,6 @@
 // The listing program: reads at most 32,768 bytes of a module image from standard input, and prints the listing of its netlist or the refusal.
 #![tactic(auto)]
+
 ghost use Rattle.std.specs.Prelude.{◌≡◌, ◌≤◌, length};
 
 // As many bytes as are read.

@@ -1,6 +1,7 @@
 // The listing program's stored runs: reads how many inputs there are, then of each its length and its bytes, and prints the listing of each.
 // oracle/compare/src/bin/make-listings.rs makes what is read and what must be printed.
 #![tactic(auto)]
+
 ghost use Rattle.std.specs.Prelude.{◌≤◌, length};
 
 fn read_word() -> u32 {
@@ -25,10 +26,8 @@ fn list_next(input: &mut [u8], out: &mut [u8])
 fn list_all(n: u32, input: &mut [u8], out: &mut [u8])
     requires { 327680 ≤ length out.old }
 {
-    let mut k: u32 = 0;
-    while k < n {
+    for _ in 0..n {
         list_next(input, out);
-        k += 1;
     }
 }
 

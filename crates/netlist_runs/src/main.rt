@@ -1,6 +1,7 @@
 // Netlists taken back in, stored runs: reads how many slices there are, then of each the number of its words and the words, low byte first,
 // and prints the answer of each, three numbers. oracle/compare/src/bin/make-netlists.rs makes what is read and what must be printed.
 #![tactic(auto)]
+
 ghost use Rattle.std.specs.Prelude.{◌≡◌, length};
 
 // What each word of an answer holds before a call.
@@ -20,10 +21,8 @@ fn read_word() -> u32 {
 }
 
 fn read_words(words: &mut [u32]) {
-    let mut i = 0;
-    while i < words.len() {
-        words[i] = read_word();
-        i += 1;
+    for word in words.iter_mut() {
+        *word = read_word();
     }
 }
 
@@ -49,10 +48,8 @@ fn check_next(buffer: &mut [u32]) {
 }
 
 fn check_all(n: u32, buffer: &mut [u32]) {
-    let mut k: u32 = 0;
-    while k < n {
+    for _ in 0..n {
         check_next(buffer);
-        k += 1;
     }
 }
 

@@ -1,5 +1,6 @@
 // What the phases ask of the walk for signals: a control's bit, where it is there, and the bits of an output.
 #![tactic(auto)]
+
 ghost use Rattle.std.specs.Prelude.{◌≤◌, ◌<◌};
 ghost use Rattle.spec_rules.specs.Image.{count_at_of, signal_width};
 ghost use Rattle.spec_model.specs.Lowering as model;

@@ -1,6 +1,7 @@
 // Replays the calls of the oracle's list (oracle/replay/README.md) from standard input: each must be answered as listed, and the lowering
 // call must leave both buffers as listed.
 #![tactic(auto)]
+
 ghost use Rattle.std.specs.Prelude.{◌≡◌, ◌≤◌, length};
 
 use image_fields::word;
@@ -36,21 +37,17 @@ fn read_word() -> u32 {
 }
 
 fn fill(words: &mut [u32], value: u32) {
-    let mut i = 0;
-    while i < words.len() {
-        words[i] = value;
-        i += 1;
+    for each in words.iter_mut() {
+        *each = value;
     }
 }
 
 // Whether all words are equal to a value.
 fn all_are(words: &[u32], value: u32) -> bool {
-    let mut i = 0;
-    while i < words.len() {
-        if words[i] != value {
+    for each in words {
+        if *each != value {
             return false;
         }
-        i += 1;
     }
     true
 }
@@ -76,10 +73,8 @@ fn hash_word(hash: u32, x: u32) -> u32 {
 
 fn checksum(words: &[u32]) -> u32 {
     let mut hash: u32 = 2166136261;
-    let mut i = 0;
-    while i < words.len() {
-        hash = hash_word(hash, words[i]);
-        i += 1;
+    for each in words {
+        hash = hash_word(hash, *each);
     }
     hash
 }
@@ -253,12 +248,10 @@ fn one_if(yes: bool) -> u32
 fn replay(n: u32, image: &mut [u8], netlist: &mut [u32], scratch: &mut [u32]) -> Agreements {
     let mut checks: u32 = 0;
     let mut lowering: u32 = 0;
-    let mut k: u32 = 0;
-    while k < n {
+    for _ in 0..n {
         let agreed = entry_agrees(image, netlist, scratch);
         checks += one_if(agreed.checks);
         lowering += one_if(agreed.lowering);
-        k += 1;
     }
     Agreements { checks, lowering }
 }

@@ -1,5 +1,6 @@
 // The library's public calls.
 #![tactic(auto)]
+
 ghost use Rattle.std.specs.Prelude.{◌≡◌};
 ghost use Rattle.spec_rules.specs.Checks.{checked};
 ghost use Rattle.spec_tests.specs.Rules.{pick};
@@ -12,8 +13,7 @@ use image_numbers::*;
 
 // Checks a module image: refusals 1 to 5, for net limit n, list limit p and the words that the netlist buffer and the scratch will have.
 // The answer is the refusal's number and its two places, 0 0 0 where nothing is refused.
-#[unsafe(no_mangle)]
-pub extern "C" fn struo_check(
+pub fn struo_check(
     image: &[u8],
     n: u32,
     p: u32,
@@ -31,8 +31,7 @@ pub extern "C" fn struo_check(
 // Lowers a module image into the netlist image that the model gives, for net limit n and list limit p. The answer is the refusal's
 // number and its two places, 0 0 0 where the image is accepted. A refusal 1 to 5 touches no buffer; after 6 to 10 the netlist buffer's
 // required words are 0; after these and acceptance the scratch's are; words beyond are untouched.
-#[unsafe(no_mangle)]
-pub extern "C" fn struo_lower(
+pub fn struo_lower(
     image: &[u8],
     n: u32,
     p: u32,
@@ -48,8 +47,7 @@ pub extern "C" fn struo_lower(
 // Takes a netlist image back in: the answer is 0 0 0 where the words are one, else 11, the number of the first wrong word, 0. Words past the
 // list words used are not read: a longer slice is answered as it is when it is cut there. The call calls itself for that, once at most, so
 // that the compiler keeps the large tables out of its own frame (docs/DECISIONS.md, 120).
-#[unsafe(no_mangle)]
-pub extern "C" fn struo_netlist_check(netlist: &[u32], answer: &mut [u32; 3])
+pub fn struo_netlist_check(netlist: &[u32], answer: &mut [u32; 3])
     ensures { answer.new ≡ numbers_of (accepts netlist.now) }
 {
     let end = stored_check::list_end(netlist);
@@ -74,8 +72,7 @@ pub extern "C" fn struo_netlist_check(netlist: &[u32], answer: &mut [u32; 3])
 }
 
 // The six words of a node, and 1; six times 0, and 0 where there is no such node.
-#[unsafe(no_mangle)]
-pub extern "C" fn struo_netlist_node(netlist: &[u32], net: u32, node: &mut [u32; 6]) -> u32
+pub fn struo_netlist_node(netlist: &[u32], net: u32, node: &mut [u32; 6]) -> u32
     ensures { (result ≡ pick (is_node netlist.now net) 1 0) × (node.new ≡ node_given netlist.now net) }
 {
     *node = stored_given::node(netlist, net);
@@ -84,8 +81,7 @@ pub extern "C" fn struo_netlist_node(netlist: &[u32], net: u32, node: &mut [u32;
 
 // The sort and the length of the record that begins at a list word, the list word after it, and 1; three times 0, and 0 where the list
 // words used from there on cannot be read as a record that fits.
-#[unsafe(no_mangle)]
-pub extern "C" fn struo_netlist_record(netlist: &[u32], at: u32, found: &mut [u32; 3]) -> u32
+pub fn struo_netlist_record(netlist: &[u32], at: u32, found: &mut [u32; 3]) -> u32
     ensures { (result ≡ pick (is_record netlist.now at) 1 0) × (found.new ≡ record_given netlist.now at) }
 {
     *found = stored_given::record(netlist, at);

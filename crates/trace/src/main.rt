@@ -2,13 +2,15 @@
 // prints is made by proved functions, and a turn of its loop is one of the calls that write the text (`Turned`); that the bytes are those of standard
 // input, and that the text goes to standard output, is said here alone.
 #![tactic(auto)]
+
 ghost use Rattle.std.specs.Prelude.{◌≡◌, true, not, ◌+◌, ◌-◌, ◌≤◌, ◌<◌, length, take};
 ghost use Rattle.spec_tests.specs.Rules.{◌and◌};
 ghost use Rattle.trace_answer.specs.Lines.{Underway};
 ghost use Rattle.trace_open.specs.Begins.{Fresh};
 ghost use Rattle.trace.specs.Turn.{held, Came, Turned};
 
-use libc::{STDIN_FILENO, STDOUT_FILENO};
+use std::io::Read;
+use std::rt::Stdin;
 use trace_open::Opened;
 use trace_tables::Tables;
 
@@ -32,7 +34,7 @@ fn image_bytes() -> [u8; 32832]
 fn refuse(number: u32, place: u32) {
     let mut out = io::buffer();
     let end = listing_text::put_refusal(&mut out, 0, number, place, 0);
-    io::write_all(STDOUT_FILENO, image_fields::stretch(&out, 0, end));
+    io::write_all(1, image_fields::stretch(&out, 0, end));
 }
 
 // Reads up to a place into the bytes from another on; where those that are there then end.
@@ -42,7 +44,7 @@ fn read_up_to(bytes: &mut [u8], from: usize, to: usize) -> usize
     if to <= from {
         return from;
     }
-    from + io::read_full(STDIN_FILENO, &mut bytes[from..to])
+    from + io::read_full(0, &mut bytes[from..to])
 }
 
 // Reads the image: sixteen words, and as many more as these say. How many there are.
@@ -59,18 +61,27 @@ fn read_image(bytes: &mut [u8], net: &mut [u32]) -> usize
 fn end(left: usize, line: u32) {
     let mut out = io::buffer();
     let to = trace_run::put_end(&mut out, 0, left, line);
-    io::write_all(STDOUT_FILENO, image_fields::stretch(&out, 0, to));
+    io::write_all(1, image_fields::stretch(&out, 0, to));
+}
+
+// Reads what standard input gives now, into lent bytes; how many came, 0 at its end or where it fails.
+fn read_some(mut stdin: Stdin, bytes: &mut [u8]) -> usize
+    ensures { result ≤ length bytes.new }
+{
+    match stdin.read(bytes) {
+        Ok(came) => came,
+        Err(_) => 0,
+    }
 }
 
 // The bytes held move to the front, and more are read behind them.
-fn read_more(h: Held, bytes: &mut [u8]) -> Held
+fn read_more(stdin: Stdin, h: Held, bytes: &mut [u8]) -> Held
     requires { (h.from ≤ h.end) × (h.end ≤ length bytes.old) × (h.end - h.from < length bytes.old) }
     ensures { (result.line ≡ h.line) × (result.from ≤ result.end) × (result.end ≤ length bytes.new) × Came (held bytes.old h.from h.end) (held bytes.new result.from result.end) }
 {
     let n = h.end - h.from;
     trace_run::move_down(bytes, h.from, n);
-    let got = libc::read(STDIN_FILENO, &mut bytes[n..]);
-    let more = io::count(got, &bytes[n..]);
+    let more = read_some(stdin, &mut bytes[n..]);
     if more == 0 {
         end(n, h.line);
     }
@@ -94,6 +105,7 @@ fn goes_on(written: bool, stop: bool) -> bool
 
 // Takes the lines among the bytes held and prints their text; reads on where the next line must still come.
 fn turn(
+    stdin: Stdin,
     net: &[u32],
     steps: &[u32],
     count: usize,
@@ -136,7 +148,7 @@ fn turn(
         kept,
         out,
     );
-    let written = io::write_all(STDOUT_FILENO, image_fields::stretch(out, 0, r.at));
+    let written = io::write_all(1, image_fields::stretch(out, 0, r.at));
     let next = Held {
         from: from + r.used,
         end,
@@ -144,7 +156,7 @@ fn turn(
         go: goes_on(written, r.stop),
     };
     if next.go && r.wait {
-        return read_more(next, bytes);
+        return read_more(stdin, next, bytes);
     }
     next
 }
@@ -152,6 +164,7 @@ fn turn(
 // The lines of a trace. A proved loop has to end, and nothing says that a trace does: so it counts its turns down, from a number that no run
 // uses up.
 fn run(
+    stdin: Stdin,
     net: &[u32],
     steps: &[u32],
     count: usize,
@@ -180,8 +193,8 @@ fn run(
     let mut turns = u64::MAX;
     while turns > 0 && h.go {
         h = turn(
-            net, steps, count, inputs, outputs, registers, nr, memories, nm, h, bytes, values, old,
-            memory, names, kept, out,
+            stdin, net, steps, count, inputs, outputs, registers, nr, memories, nm, h, bytes,
+            values, old, memory, names, kept, out,
         );
         turns -= 1;
     }
@@ -189,6 +202,7 @@ fn run(
 
 // A trace, by the tables of an image.
 fn take_trace(
+    stdin: Stdin,
     net: &[u32],
     t: Tables,
     steps: &[u32],
@@ -207,6 +221,7 @@ fn take_trace(
     let mut bytes = io::large_buffer();
     let mut out = io::large_buffer();
     run(
+        stdin,
         net,
         steps,
         t.steps,
@@ -227,7 +242,7 @@ fn take_trace(
 }
 
 // Refuses an image, or takes its trace.
-fn start(net: &[u32]) {
+fn start(stdin: Stdin, net: &[u32]) {
     let mut steps = trace_open::step_table();
     let mut inputs = trace_open::list_table();
     let mut outputs = trace_open::list_table();
@@ -241,15 +256,17 @@ fn start(net: &[u32]) {
         &mut registers,
         &mut memories,
     ) {
-        Opened::Run(t) => take_trace(net, t, &steps, &inputs, &outputs, &registers, &memories),
+        Opened::Run(t) => take_trace(
+            stdin, net, t, &steps, &inputs, &outputs, &registers, &memories,
+        ),
         Opened::Wrong(p) => refuse(11, p),
         Opened::Unfit => refuse(12, 0),
     }
 }
 
-fn main() {
+fn main(rt: HostRuntime) {
     let mut bytes = image_bytes();
     let mut net = trace_open::image_table();
     let n = read_image(&mut bytes, &mut net);
-    start(net_words::stretch(&net, 0, n));
+    start(rt.stdin(), net_words::stretch(&net, 0, n));
 }

@@ -1,5 +1,6 @@
 // The opening of a trace: the judgement of its netlist image by refusals 11 and 12, and the tables of the run.
 #![tactic(auto)]
+
 ghost use Rattle.std.specs.Prelude.{◌≡◌, ◌*◌, ◌≤◌, length, take, replicate};
 ghost use Rattle.spec_trace.specs.Opened.{words_of};
 ghost use Rattle.trace_image.specs.Whole.{image_words};

@@ -1,5 +1,6 @@
 // The lines among some bytes of a trace, taken one after the other while there is room for a line's text or a refusal's.
 #![tactic(auto)]
+
 ghost use Rattle.std.specs.Prelude.{◌≡◌, not, ◌+◌, ◌≤◌, length, take, drop};
 ghost use Rattle.spec_tests.specs.Rules.{◌<?◌};
 ghost use Rattle.trace_answer.specs.Lines.{Underway};

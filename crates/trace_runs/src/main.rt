@@ -1,6 +1,7 @@
 // The trace program's text, stored runs: reads how many inputs there are, then of each its length and its bytes, and prints the text of each
 // and a line "--". oracle/compare/src/bin/make-traces.rs makes what is read and what must be printed.
 #![tactic(auto)]
+
 ghost use Rattle.std.specs.Prelude.{◌≡◌, length};
 
 // 131,072 bytes, for an input or a text.
@@ -29,10 +30,8 @@ fn trace_next(input: &mut [u8], out: &mut [u8]) {
 }
 
 fn trace_all(n: u32, input: &mut [u8], out: &mut [u8]) {
-    let mut k: u32 = 0;
-    while k < n {
+    for _ in 0..n {
         trace_next(input, out);
-        k += 1;
     }
 }
 

@@ -1,5 +1,6 @@
 // The trace program's text for an input in memory, in a lent buffer. It is whole where the buffer has 2,090 bytes to spare; else its start.
 #![tactic(auto)]
+
 ghost use Rattle.std.specs.Prelude.{◌+◌, length};
 ghost use Rattle.spec_trace.specs.Named.{begun, text_from, program};
 ghost use Rattle.trace_open.specs.Begins.{Fresh};

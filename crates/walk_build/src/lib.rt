@@ -1,6 +1,7 @@
 // What an expression, or a range of it, is made of once its operands are lowered: they are read from the tables, the nets are made, and
 // the tables keep them. Follows the ends of `lower_expression` and `lower_expression_range` of struo-synth.
 #![tactic(auto)]
+
 ghost use Rattle.std.specs.Prelude.{◌≡◌, ◌+◌, ◌≤◌, ◌<◌, length, take};
 ghost use Rattle.spec_rules.specs.Image.{count_at_of, expr_width};
 ghost use Rattle.net_view.specs.View.{netlist_of};

@@ -1,5 +1,6 @@
 // What a job stands for, made of the nets that were read: the result takes the place of the first list.
 #![tactic(auto)]
+
 ghost use Rattle.std.specs.Prelude.{◌≡◌, ◌≤◌, ◌<◌, length, take};
 ghost use Rattle.std.proofs.Math.Option.{some};
 ghost use Rattle.spec_model.specs.Words.{absent};

@@ -2,6 +2,7 @@
 // `lower_expression` and `lower_expression_range` of struo-synth, which call each other. A level of the recursion keeps few words on the
 // stack: what an expression does between two calls is a turn, outside of the recursion.
 #![tactic(auto)]
+
 ghost use Rattle.std.specs.Prelude.{◌+◌, ◌≤◌, ◌<◌};
 ghost use Rattle.spec_rules.specs.Image.{count_at_of, signal_width, expr_width};
 ghost use Rattle.spec_model.specs.Lowering as model;
@@ -79,7 +80,7 @@ fn turn(image: &[u8], net: &mut [u32], scr: &mut [u32], part: Part, k: u32, at: 
 
 // ---- the recursion ----
 
-#[cycle(lower_bit_lower_expression_lower_expression_range_lower_need_lower_whole_resolve_signal_bit)]
+#[cycle(walk)]
 pub fn resolve_signal_bit(image: &[u8], net: &mut [u32], scr: &mut [u32], p: u32, b: u32) -> Lowered
     requires { (Ready image.now net.old scr.old) × (Sure image.now net.old scr.old) × (p < count_at_of image.now 0) × (b < signal_width image.now p) }
     ensures { Gives image.now net.old scr.old (model.Bit p b) result net.new scr.new }
@@ -100,7 +101,7 @@ pub fn resolve_signal_bit(image: &[u8], net: &mut [u32], scr: &mut [u32], p: u32
     }
 }
 
-#[cycle(lower_bit_lower_expression_lower_expression_range_lower_need_lower_whole_resolve_signal_bit)]
+#[cycle(walk)]
 pub fn lower_expression(image: &[u8], net: &mut [u32], scr: &mut [u32], e: u32) -> Lowered
     requires { (Ready image.now net.old scr.old) × (Sure image.now net.old scr.old) × (e < count_at_of image.now 1) }
     ensures { Gives image.now net.old scr.old (model.Whole e) result net.new scr.new }
@@ -121,7 +122,7 @@ pub fn lower_expression(image: &[u8], net: &mut [u32], scr: &mut [u32], e: u32) 
     }
 }
 
-#[cycle(lower_bit_lower_expression_lower_expression_range_lower_need_lower_whole_resolve_signal_bit)]
+#[cycle(walk)]
 pub fn lower_expression_range(
     image: &[u8],
     net: &mut [u32],
@@ -152,7 +153,7 @@ pub fn lower_expression_range(
 }
 
 // `lower_need` calls these two, so that what their calls lend takes no room in its own frame.
-#[cycle(lower_bit_lower_expression_lower_expression_range_lower_need_lower_whole_resolve_signal_bit)]
+#[cycle(walk)]
 fn lower_bit(image: &[u8], net: &mut [u32], scr: &mut [u32], p: u32, b: u32) -> Lowered
     requires { (Ready image.now net.old scr.old) × (Sure image.now net.old scr.old) × (p < count_at_of image.now 0) × (b < signal_width image.now p) }
     ensures { Gives image.now net.old scr.old (model.Bit p b) result net.new scr.new }
@@ -160,7 +161,7 @@ fn lower_bit(image: &[u8], net: &mut [u32], scr: &mut [u32], p: u32, b: u32) -> 
     resolve_signal_bit(image, net, scr, p, b)
 }
 
-#[cycle(lower_bit_lower_expression_lower_expression_range_lower_need_lower_whole_resolve_signal_bit)]
+#[cycle(walk)]
 fn lower_whole(image: &[u8], net: &mut [u32], scr: &mut [u32], e: u32) -> Lowered
     requires { (Ready image.now net.old scr.old) × (Sure image.now net.old scr.old) × (e < count_at_of image.now 1) }
     ensures { Gives image.now net.old scr.old (model.Whole e) result net.new scr.new }
@@ -169,7 +170,7 @@ fn lower_whole(image: &[u8], net: &mut [u32], scr: &mut [u32], e: u32) -> Lowere
 }
 
 // What a need names.
-#[cycle(lower_bit_lower_expression_lower_expression_range_lower_need_lower_whole_resolve_signal_bit)]
+#[cycle(walk)]
 fn lower_need(image: &[u8], net: &mut [u32], scr: &mut [u32], need: Need) -> Lowered
     requires { (Ready image.now net.old scr.old) × (Sure image.now net.old scr.old) × (ThereNeed image.now need) }
     ensures { GivesNeed image.now net.old scr.old need result net.new scr.new }

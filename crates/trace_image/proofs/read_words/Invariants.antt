@@ -1,0 +1,15 @@
+-- `trace_image::read_words` meets its contract. Assumes nothing.
+use Prim.Native.Nat.{◌-◌, ◌/◌, ◌≤◌}
+use mathlib.Core.Path.{◌≡◌, refl, ◌∙◌}
+use native.Mathlib.Omega.{arith}
+use lib.ListN.{length, length-set}
+use Rattle.trace_image.specs.Words.{Reading, reading_start, reading_more, reading_end}
+use borrow.Author.Rules.{rules}
+use borrow.Author.Rules.{rules}
+use Rattle.trace_image.proofs.read_words.Given as goal
+
+abbrev pub invariant-loop-i : goal.invariant-loop-i
+invariant-loop-i l = (l.n ≡ length l.bytes / 4) × (l.n ≤ length l.initial.net) × (length l.net ≡ length l.initial.net) × Reading l.bytes l.net l.i
+
+abbrev pub decreases-loop-i : goal.decreases-loop-i
+decreases-loop-i l = l.n - l.i

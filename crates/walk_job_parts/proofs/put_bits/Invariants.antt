@@ -1,0 +1,12 @@
+-- `walk_job_parts::put_bits` meets its contract. Assumes nothing.
+use Prim.Native.Nat.{◌-◌}
+use native.Mathlib.Omega.{arith}
+use lib.ListN.{length}
+use Rattle.walk_job_parts.proofs.Bits.{Put, put_start, put_more, put_all}
+use Rattle.walk_job_parts.proofs.put_bits.Given as goal
+
+abbrev pub invariant-loop-i : goal.invariant-loop-i
+invariant-loop-i l = Put l.image l.start l.lsb l.initial.out l.out l.i
+
+abbrev pub decreases-loop-i : goal.decreases-loop-i
+decreases-loop-i l = length l.initial.out - l.i

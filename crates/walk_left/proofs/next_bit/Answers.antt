@@ -1,0 +1,53 @@
+-- `walk_left::next_bit` meets its contract. Assumes nothing.
+use Prim.Native.Nat.{◌-◌, ◌≤◌}
+use lib.ListN.{drop}
+use native.Mathlib.Omega.{arith}
+use borrow.Author.Rules.{rules}
+use Rattle.walk_plan.specs.Plan.{bits_needs}
+use Rattle.walk_left.specs.Left.{Skips}
+use Rattle.walk_left.proofs.Lefts.{bits_begin, bits_on, bits_found, bits_over, bit_met}
+use Rattle.walk_left.proofs.next_bit.Goals as goal
+
+pub loop-k-init : goal.loop-k-init
+loop-k-init c =
+    let a = c.args in
+    (bits_begin a.image.now a.scr.now a.p a.first a.n a.from, omega arith)
+
+pub overflow_add-first : goal.overflow_add-first
+overflow_add-first c = let pre = c.requires in omega (arith, pre.1.most, c.loop-k-test.true)
+
+pub signal_net-requires : goal.signal_net-requires
+signal_net-requires c =
+    let pre = c.requires in
+    (pre.0, pre.1.signal, omega (arith, pre.1.room, c.loop-k-test.true))
+
+pub overflow_add-result : goal.overflow_add-result
+overflow_add-result c = let pre = c.requires in omega (arith, pre.1.most, c.loop-k-test.true)
+
+pub overflow_add-result-in_default : goal.overflow_add-result-in_default
+overflow_add-result-in_default c = let pre = c.requires in omega (arith, pre.1.most, c.loop-k-test.true)
+
+pub returns-in_default : goal.returns-in_default
+returns-in_default c =
+    let a = c.args in
+    let q = c.loop-k in
+    bits_found a.image.now a.scr.now a.p a.first a.n a.from q.k q.invariant.0 q.invariant.1 c.loop-k-test.true (omega (arith, c.requires.1.most))
+
+pub overflow_add-k : goal.overflow_add-k
+overflow_add-k c = let pre = c.requires in omega (arith, pre.1.most, c.loop-k-test.true)
+
+pub loop-k-preserved : goal.loop-k-preserved
+loop-k-preserved c =
+    let a = c.args in
+    let q = c.loop-k in
+    let net = c.signal_net in (
+      bits_on a.image.now a.scr.now a.p a.first a.n a.from q.k q.invariant.0 c.loop-k-test.true
+          (bit_met a.image.now a.scr.now a.p _ net.result _ net.ensures c.in-Net.is),
+      omega (arith, q.invariant.1),
+    )
+
+pub returns : goal.returns
+returns c =
+    let a = c.args in
+    let q = c.loop-k in
+    bits_over a.image.now a.scr.now a.p a.first a.n a.from q.k q.invariant.0 (omega (arith, c.loop-k-test.false))

@@ -1,0 +1,15 @@
+-- `walk_left::next_bit` meets its contract. Assumes nothing.
+use Prim.Native.Nat.{◌-◌, ◌≤◌}
+use lib.ListN.{drop}
+use native.Mathlib.Omega.{arith}
+use borrow.Author.Rules.{rules}
+use Rattle.walk_plan.specs.Plan.{bits_needs}
+use Rattle.walk_left.specs.Left.{Skips}
+use Rattle.walk_left.proofs.Lefts.{bits_begin, bits_on, bits_found, bits_over, bit_met}
+use Rattle.walk_left.proofs.next_bit.Given as goal
+
+abbrev pub invariant-loop-k : goal.invariant-loop-k
+invariant-loop-k l = Skips l.image l.scr (drop l.from (bits_needs l.p l.first l.n)) (drop l.k (bits_needs l.p l.first l.n)) × (l.from ≤ l.k)
+
+abbrev pub decreases-loop-k : goal.decreases-loop-k
+decreases-loop-k l = l.n - l.k

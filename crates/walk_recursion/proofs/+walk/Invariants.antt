@@ -1,0 +1,49 @@
+-- The walk: each of its functions gives what the model says, for all fuel above the cost. Assumes nothing.
+use Prim.Native.Nat.{ℕ, ◌+◌, ◌*◌, ◌-◌, ◌<◌}
+use mathlib.Core.Path.{◌≡◌, refl, sym, ap, ◌∙◌}
+use mathlib.Core.Bool.{false}
+use mathlib.Core.Option.{none, some}
+use native.Mathlib.Omega.{arith}
+use borrow.Author.Rules.{rules}
+use Rattle.spec_rules.specs.Image.{decode}
+use Rattle.spec_model.specs.Lowering as M
+use Rattle.spec_model.specs.Lowering.{signal_bit, cell, driver_of}
+use Rattle.net_view.specs.View.{netlist_of}
+use Rattle.scratch_view.specs.View.{limit_of}
+use Rattle.scratch_tables.specs.Answers.{known_of, driven_by}
+use Rattle.walk_view.specs.View.{walk_state, cost_of, There}
+use Rattle.walk_view.proofs.Answers.{not-done-tag}
+use Rattle.walk_recursion.specs.declared.Part.TheVariants as P
+use Rattle.walk_recursion.specs.Walk.{cost_need, At}
+use Rattle.walk_recursion.proofs.Ways.{turn_start, turn_next, whole_at_law, met_whole, bit_known, bit_none, bit_marked, driver_there, marked_ready, marked_sure, marked_less, bit_lowered}
+use Rattle.walk_recursion.proofs.+walk.Given as goal
+
+abbrev pub decreases-lower_bit : goal.decreases-lower_bit
+decreases-lower_bit l = 3 * cost_of l.image.now l.scr.now (M.Bit l.p l.b) + 1
+
+abbrev pub decreases-lower_expression : goal.decreases-lower_expression
+decreases-lower_expression l = 3 * cost_of l.image.now l.scr.now (M.Whole l.e)
+
+abbrev pub decreases-lower_expression_range : goal.decreases-lower_expression_range
+decreases-lower_expression_range l = 3 * cost_of l.image.now l.scr.now (M.Range l.e l.lsb l.w)
+
+abbrev pub decreases-lower_need : goal.decreases-lower_need
+decreases-lower_need l = 3 * cost_need l.image.now l.scr.now l.need + 2
+
+abbrev pub decreases-lower_whole : goal.decreases-lower_whole
+decreases-lower_whole l = 3 * cost_of l.image.now l.scr.now (M.Whole l.e) + 1
+
+abbrev pub decreases-resolve_signal_bit : goal.decreases-resolve_signal_bit
+decreases-resolve_signal_bit l = 3 * cost_of l.image.now l.scr.now (M.Bit l.p l.b)
+
+abbrev pub invariant-lower_expression-loop-x : goal.invariant-lower_expression-loop-x
+invariant-lower_expression-loop-x l = At l.image l.initial.net l.initial.scr (P.Whole l.e) l.k 0 l.net l.scr
+
+abbrev pub decreases-lower_expression-loop-x : goal.decreases-lower_expression-loop-x
+decreases-lower_expression-loop-x l = 4294967295 - l.k
+
+abbrev pub invariant-lower_expression_range-loop-x : goal.invariant-lower_expression_range-loop-x
+invariant-lower_expression_range-loop-x l = At l.image l.initial.net l.initial.scr (P.Range l.e l.lsb l.w) l.k l.at l.net l.scr
+
+abbrev pub decreases-lower_expression_range-loop-x : goal.decreases-lower_expression_range-loop-x
+decreases-lower_expression_range-loop-x l = 4294967295 - l.k
