@@ -1,10 +1,10 @@
 /* libstruo: checks a module image (bytes) and lowers it into a netlist image (32-bit words) in lent buffers; checks a stored netlist image,
  * and gives its nodes and records one by one.
  *
- * `rt staticlib struo` writes target/staticlib/libstruo.a, for x86-64 Linux. The functions ask for no memory and keep nothing between
+ * `oracle/build-library` writes target/staticlib/libstruo.a, for x86-64 Linux. The functions ask for no memory and keep nothing between
  * calls, so threads may call them at the same time; of the C library the compiler uses memcpy and memset. Each is proved to end, and to
- * keep its contract, for all bytes, limits and buffer lengths. The contracts stand in crates/struo/src/lib.rt and
- * crates/spec_rules/specs/Promise.antt; here they are in words. The formats: docs/FORMATS.md. The rules: docs/RULES.md.
+ * keep its contract, for all bytes, limits and buffer lengths. The contracts stand in crates/struo_c/src/lib.rt, which exports the functions
+ * of crates/struo, and in crates/spec_rules/specs/Promise.antt; here they are in words. The formats: docs/FORMATS.md. The rules: docs/RULES.md.
  *
  * Nothing is asked of the bytes of a module image and of the words of a stored netlist: any are answered.
  *

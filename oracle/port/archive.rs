@@ -10,7 +10,7 @@ pub fn link(name: &str, functions: &[&str]) {
     let archive = archive_path(name);
     println!("cargo::rerun-if-changed={}", archive.display());
     if let Err(problem) = exports(&archive, functions) {
-        eprintln!("{problem}; `rt staticlib {name}` builds the library");
+        eprintln!("{problem}; `oracle/build-library {name}` builds the library");
         std::process::exit(1);
     }
     let folder = archive.parent().unwrap_or(Path::new("."));

@@ -2,7 +2,8 @@
 use Rattle.std.specs.Prelude.{ℕ, List, refl}
 use Rattle.spec_tests.specs.Rules.{Fine}
 use Rattle.spec_rules.specs.Examples as example
+use Rattle.spec_rules.proofs.Examples.{fails}
 use Rattle.spec_call.specs.Call.{Lowered}
 
 pub wrong_refused : (buffer scratch scratch' : List ℕ) → Lowered example.image 3 8 buffer scratch Fine example.wrong scratch' → ⊥
-wrong_refused buffer scratch scratch' w = example.fails (w.demand3 refl)
+wrong_refused buffer scratch scratch' w = fails (w.demand3 refl)

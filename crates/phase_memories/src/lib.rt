@@ -1,5 +1,6 @@
 // `connect_memories` of struo-synth: each memory's addresses, data, clocks and enables are lowered, then its record is pushed.
 #![tactic(auto)]
+
 ghost use Rattle.std.specs.Prelude.{false, ◌<◌};
 ghost use Rattle.spec_rules.specs.Image.{count_at_of, decode};
 ghost use Rattle.spec_model.specs.Lowering as model;

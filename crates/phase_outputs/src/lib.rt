@@ -1,5 +1,6 @@
 // `connect_outputs` of struo-synth: for each output signal its bits are resolved, then its port is made of their nets.
 #![tactic(auto)]
+
 ghost use Rattle.std.specs.Prelude.{◌≡◌, false, ◌≤◌, ◌<◌};
 ghost use Rattle.spec_rtl.specs.Rtl as R;
 ghost use Rattle.spec_rules.specs.Image.{count_at_of, signal_width, decode};

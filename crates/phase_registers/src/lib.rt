@@ -1,5 +1,6 @@
 // `connect_registers` of struo-synth: each register's next value, clock, enable and reset are lowered, then each bit gets its record.
 #![tactic(auto)]
+
 ghost use Rattle.std.specs.Prelude.{false, ◌<◌};
 ghost use Rattle.std.proofs.Math.Option.{some};
 ghost use Rattle.spec_rules.specs.Image.{count_at_of, decode};

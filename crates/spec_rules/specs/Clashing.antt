@@ -10,7 +10,7 @@ use Rattle.spec_rules.specs.NetlistImage.{node_word, node_of, node_at_of, port_l
 use Rattle.spec_rules.specs.Step.{Setting, Contents, Access, Accesses, Reads, clashes, clashing, no_end, run, of_module, of_netlist, IsInput, Ported, Demand3}
 
 -- all that is computed
-computing : ℕ
+unfoldable pub computing : ℕ
 unfolding no_end clashing ◌<?◌ ◌≡?◌ ◌≢?◌ ◌or◌ ◌and◌ pick outside up_to first any sum_to each list_of only same_text and_then word_at size_of most_of count_at_of offset_at bytes_of start_of part field list_word name_of signal_width expr_width direction unary_of binary_of constant_words constant_of kind_of control_of optional signal_at expr_at assign_at register_of register_at port_of memory_at decode node_word node_of node_at_of port_lists port_length record_length split records_of records_with register_bit_of memory_port_of memory_of arithmetic_of comparison_of out_port_of not_output is_output_port netlist
 computing = zero
 
@@ -20,7 +20,7 @@ computing = zero
 access : Bool → Bool → ℕ → Access
 access ticks writes at = record { ticks = ticks; reads = false; read_at_of = 0; writes = writes; write_at = at; written = λ i. true }
 
-two : ℕ → Access → Access → Accesses
+pub two : ℕ → Access → Access → Accesses
 two depth a b = record { depth = depth; first = a; second = some b }
 
 writes_3 : Access
@@ -48,7 +48,7 @@ no_memory = refl
 -- ---- an image ----
 
 -- inputs clk, wa, wb, x[2]; a memory of 2 words of 2 bits with two ports: the first writes x at x[0] if wa, the second ~x at x[1] if wb
-abbrev image : List ℕ
+abbrev pub image : List ℕ
 image =
     2 ∷ 0 ∷ 0 ∷ 0 ∷ 103 ∷ 1 ∷ 0 ∷ 0 ∷ 6 ∷ 0 ∷ 0 ∷ 0 ∷ 64 ∷ 0 ∷ 0 ∷ 0 ∷ 4 ∷ 0 ∷ 0 ∷ 0 ∷ 160 ∷ 0 ∷ 0 ∷ 0 ∷ 0 ∷ 0 ∷ 0 ∷ 0 ∷ 240 ∷ 0 ∷ 0 ∷ 0 ∷ 0 ∷ 0 ∷ 0 ∷
     0 ∷ 240 ∷ 0 ∷ 0 ∷ 0 ∷ 0 ∷ 0 ∷ 0 ∷ 0 ∷ 240 ∷ 0 ∷ 0 ∷ 0 ∷ 1 ∷ 0 ∷ 0 ∷ 0 ∷ 240 ∷ 0 ∷ 0 ∷ 0 ∷ 11 ∷ 0 ∷ 0 ∷ 0 ∷ 92 ∷ 1 ∷ 0 ∷ 0 ∷ 0 ∷ 0 ∷ 0 ∷ 0 ∷ 3 ∷
@@ -79,61 +79,15 @@ abbrev given : Bool → Bool → Bool → Bool → Bool → Setting
 given clk wa wb x₀ x₁ p i = get_or (get_or ((clk ∷ []) ∷ (wa ∷ []) ∷ (wb ∷ []) ∷ (x₀ ∷ x₁ ∷ []) ∷ []) p []) i false
 
 -- a start and four steps: a rising edge without a write, a falling one, a rising one with these inputs before it, a falling one
-abbrev settings : Bool → Bool → List Setting
+abbrev pub settings : Bool → Bool → List Setting
 settings wb x₁ = given false false false true true ∷ given true false false true true ∷ given false true wb true x₁ ∷ given true true wb true x₁ ∷ given false true wb true x₁ ∷ []
 
-zeros : Contents
+unfoldable pub zeros : Contents
 zeros = record { reg = λ k i. false; dat = λ k second i. false; mem = λ k at i. false }
 
-abbrev lengths : List ℕ → List Setting → List ℕ
+abbrev pub lengths : List ℕ → List Setting → List ℕ
 lengths words ts = length (run (of_module (decode image) (λ p i. false)) zeros ts) ∷ length (run (of_netlist (netlist words)) zeros ts) ∷ []
 
--- both ports write word 1 in the third step: it has no defined end, and the start and two steps are seen of either
-meet : lengths memory (settings true true) ≡ 3 ∷ 3 ∷ []
-unfolding zeros computing
-meet = refl
-
--- words 1 and 0, or one port alone: all five settings are seen
-go_on : lengths memory (settings true false) ≡ 5 ∷ 5 ∷ []
-unfolding zeros computing
-go_on = refl
-
-one_port : lengths memory (settings false true) ≡ 5 ∷ 5 ∷ []
-unfolding zeros computing
-one_port = refl
-
 -- a netlist that runs on, the second port's write address being ~x[0]: it shows the same where the module does, and fails demand 3
-abbrev other : List ℕ
+abbrev pub other : List ℕ
 other = set memory 152 9
-
-runs_on : lengths other (settings true true) ≡ 3 ∷ 5 ∷ []
-unfolding zeros computing
-runs_on = refl
-
-ported : Ported (decode image)
-unfolding computing
-ported = record {
-  registers = λ k x e. absurd (none-ne-some x e);
-  resets = λ k x y e f g. absurd (none-ne-some x e);
-  memories = first_clock;
-  seconds = second_clock;
-}
-  where
-    clk : (x : R.Memory) → get_elem? (decode image).memories 0 ≡ some x → IsInput (decode image) x.first.clock
-    clk x e = ap (λ (y : R.Memory). R.dir_of (decode image) y.first.clock) (sym (some-injective _ x e))
-
-    first_clock : (k : ℕ) (x : R.Memory) → get_elem? (decode image).memories k ≡ some x → IsInput (decode image) x.first.clock
-    first_clock zero x e = clk x e
-    first_clock (suc k) x e = absurd (none-ne-some x e)
-
-    second_clock : (k : ℕ) (x : R.Memory) (p : R.Port) → get_elem? (decode image).memories k ≡ some x → x.second ≡ some p → IsInput (decode image) p.clock
-    second_clock zero x p e f =
-        ap (λ (y : R.Port). R.dir_of (decode image) y.clock) (sym (some-injective _ p (ap (λ (y : R.Memory). y.second) (some-injective _ x e) ∙ f)))
-    second_clock (suc k) x p e f = absurd (none-ne-some x e)
-
-runs_on_fails : Demand3 (decode image) (netlist other) → ⊥
-runs_on_fails d =
-    let a = ap length (d ported (λ p i. false) zeros (settings true true)) in
-    let b = ap (λ (l : List ℕ). get_or l 0 0) runs_on in
-    let c = ap (λ (l : List ℕ). get_or l 1 0) runs_on in
-    absurd (omega arith)

@@ -47,7 +47,7 @@ listed : listing image Fine right ≡ text "nets 3 list 8\n0 input a\n1 not 0\n2
 unfolding ◌<?◌ ◌≡?◌ ◌or◌ pick each list_of word_at size_of offset_at part field name_of signal_width node_word port_lists port_length record_length split records_of digits decimal line together kind_word bit_name signal_name register_name memory_name owned inputs net_line record_line listing
 listed = refl
 
-m : R.Module
+unfoldable pub m : R.Module
 m = record {
   signals = record { width = 1; dir = R.Input } ∷ record { width = 1; dir = R.Output } ∷ [];
   exprs = record { width = 1; kind = R.Signal 0 0 } ∷ record { width = 1; kind = R.Un R.BitNot 0 } ∷ [];
@@ -57,7 +57,7 @@ m = record {
 }
 
 -- the netlist whose output reads net o
-n : ℕ → N.Netlist
+unfoldable pub n : ℕ → N.Netlist
 n o = record {
   nodes = N.Input 0 0 ∷ N.Not 0 ∷ N.Output o ∷ [];
   outputs = record { signal = 1; nets = 2 ∷ [] } ∷ [];
@@ -67,15 +67,15 @@ n o = record {
   comparisons = [];
 }
 
-the_module : decode image ≡ m
+pub the_module : decode image ≡ m
 unfolding m ◌≡?◌ pick sum_to each list_of word_at size_of most_of count_at_of offset_at bytes_of start_of part field list_word name_of signal_width expr_width direction unary_of binary_of constant_words constant_of kind_of control_of optional signal_at expr_at assign_at register_of register_at port_of memory_at decode
 the_module = refl
 
-the_netlist : netlist right ≡ n 1
+pub the_netlist : netlist right ≡ n 1
 unfolding n ◌<?◌ ◌≡?◌ ◌≢?◌ ◌or◌ ◌and◌ pick up_to first any each list_of only optional control_of register_of node_word node_of node_at_of port_lists port_length record_length split records_of records_with register_bit_of memory_port_of memory_of arithmetic_of comparison_of out_port_of not_output is_output_port netlist
 the_netlist = refl
 
-the_other : netlist wrong ≡ n 0
+pub the_other : netlist wrong ≡ n 0
 unfolding n ◌<?◌ ◌≡?◌ ◌≢?◌ ◌or◌ ◌and◌ pick up_to first any each list_of only optional control_of register_of node_word node_of node_at_of port_lists port_length record_length split records_of records_with register_bit_of memory_port_of memory_of arithmetic_of comparison_of out_port_of not_output is_output_port netlist
 the_other = refl
 
@@ -91,52 +91,24 @@ run_alike a b o r c (s ∷ ts) = go s c ts
     go s c [] = rw (o s c)
     go s c (t ∷ ts) = rw (o s c, r s c t, go t (act (b.reads s c t) c) ts)
 
-holds_here : Demand3 m (n 1)
-unfolding m n
-holds_here ported u c l = run_alike (of_module m u) (of_netlist (n 1)) (λ s c. fun_ext (λ p. fun_ext (λ i. at s c p i))) (λ s c t. refl) c l
-  where
-    at : (s : Setting) (c : Contents) (p i : ℕ) → (of_module m u).outputs s c p i ≡ (of_netlist (n 1)).outputs s c p i
-    at s c zero i = refl
-    at s c (suc zero) zero = refl
-    at s c (suc zero) (suc i) = let f : ltb (suc i) 1 ≡ false = leb-suc-suc (suc i) 0 ∙ leb-suc-zero i in rw f
-    at s c (suc (suc p)) i = let f : eqb 1 (suc (suc p)) ≡ false = eqb-suc-suc 0 (suc p) ∙ eqb-zero-suc p in rw f
-
-pub holds : Demand3 (decode image) (netlist right)
-holds = subst (λ x. Demand3 x (netlist right)) (sym the_module) (subst (λ x. Demand3 m x) (sym the_netlist) holds_here)
-
 -- output bit 0 of signal p after setting k
-shown : ℕ → ℕ → List Seen → Option Bool
+unfoldable pub shown : ℕ → ℕ → List Seen → Option Bool
 shown p k [] = none
 shown p zero (x ∷ xs) = x.outputs p 0
 shown p (suc k) (x ∷ xs) = shown p k xs
 
-differ : some true ≡ some false → ⊥
+pub differ : some true ≡ some false → ⊥
 differ e = let z : ◌≡◌ {A = ℕ} 0 1 = cc in absurd (omega arith)
 
-empty : Contents
+unfoldable pub empty : Contents
 empty = record { reg = λ k i. false; dat = λ k second i. false; mem = λ k at i. false }
-
-fails_here : Demand3 m (n 0) → ⊥
-unfolding m n shown empty
-fails_here d = differ (ap (shown 1 0) (d ported (λ p i. false) empty ((λ p i. false) ∷ [])))
-  where
-    ported : Ported m
-    ported = record {
-      registers = λ k r e. absurd (none-ne-some r e);
-      resets = λ k r x e. absurd (none-ne-some r e);
-      memories = λ k x e. absurd (none-ne-some x e);
-      seconds = λ k x p e. absurd (none-ne-some x e);
-    }
-
-pub fails : Demand3 (decode image) (netlist wrong) → ⊥
-fails d = fails_here (subst (λ x. Demand3 m x) the_other (subst (λ x. Demand3 x (netlist wrong)) the_module d))
 
 -- ---- signals clock, d, q; at the clock's rising edge q takes d ----
 
-r : R.Register
+unfoldable pub r : R.Register
 r = record { target = 2; next = 0; clock = 0; rising = true; enable = none; reset = none }
 
-q : R.Module
+unfoldable pub q : R.Module
 q = record {
   signals = record { width = 1; dir = R.Input } ∷ record { width = 1; dir = R.Input } ∷ record { width = 1; dir = R.Output } ∷ [];
   exprs = record { width = 1; kind = R.Signal 1 0 } ∷ [];
@@ -146,7 +118,7 @@ q = record {
 }
 
 -- a register that takes its own output: it holds
-held : N.Netlist
+unfoldable pub held : N.Netlist
 held = record {
   nodes = N.Input 0 0 ∷ N.Input 1 0 ∷ N.RegisterOutput 0 0 ∷ N.Output 2 ∷ [];
   outputs = record { signal = 2; nets = 3 ∷ [] } ∷ [];
@@ -155,28 +127,3 @@ held = record {
   arithmetic = [];
   comparisons = [];
 }
-
--- at every start it shows what the module shows
-start_alike : (u : R.Valuation) (c : Contents) (s : Setting) → shown 2 0 (run (of_module q u) c (s ∷ [])) ≡ shown 2 0 (run (of_netlist held) c (s ∷ []))
-unfolding q r held shown
-start_alike u c s = refl
-
-held_fails : Demand3 q held → ⊥
-unfolding q r held shown empty no_end clashing first up_to pick ◌<?◌
-held_fails d = differ (ap (shown 2 1) (d ported (λ p i. false) empty ((λ p i. eqb p 1) ∷ (λ p i. true) ∷ [])))
-  where
-    clocked : (k : ℕ) (x : R.Register) → get_elem? q.registers k ≡ some x → IsInput q x.clock
-    clocked zero x e = ap (λ (y : R.Register). R.dir_of q y.clock) (sym (some-injective r x e))
-    clocked (suc k) x e = absurd (none-ne-some x e)
-
-    unreset : (k : ℕ) (x : R.Register) (y : R.Reset) → get_elem? q.registers k ≡ some x → x.reset ≡ some y → ⊥
-    unreset zero x y e f = none-ne-some y (ap (λ (z : R.Register). z.reset) (some-injective r x e) ∙ f)
-    unreset (suc k) x y e f = none-ne-some x e
-
-    ported : Ported q
-    ported = record {
-      registers = clocked;
-      resets = λ k x y e f g. absurd (unreset k x y e f);
-      memories = λ k x e. absurd (none-ne-some x e);
-      seconds = λ k x p e f. absurd (none-ne-some x e);
-    }

@@ -161,8 +161,7 @@ fn turn(
     next
 }
 
-// The lines of a trace. A proved loop has to end, and nothing says that a trace does: so it counts its turns down, from a number that no run
-// uses up.
+// The lines of a trace. A proved loop has to end, and nothing says that a trace does: so it takes as many turns as no run uses up.
 fn run(
     stdin: Stdin,
     net: &[u32],
@@ -190,13 +189,14 @@ fn run(
         line: 0,
         go: true,
     };
-    let mut turns = u64::MAX;
-    while turns > 0 && h.go {
+    for _ in 0..u64::MAX {
+        if !h.go {
+            break;
+        }
         h = turn(
             stdin, net, steps, count, inputs, outputs, registers, nr, memories, nm, h, bytes,
             values, old, memory, names, kept, out,
         );
-        turns -= 1;
     }
 }
 

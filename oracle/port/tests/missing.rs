@@ -85,7 +85,7 @@ fn a_build_without_the_library_fails() {
         let output = build(&folder, &archive);
         let told = String::from_utf8_lossy(&output.stderr);
         assert!(!output.status.success(), "built with {}", archive.display());
-        assert!(told.contains(reason) && told.contains("`rt staticlib struo` builds the library"), "{told}");
+        assert!(told.contains(reason) && told.contains("`oracle/build-library struo` builds the library"), "{told}");
     }
     let output = build(&folder, &library());
     assert!(output.status.success(), "{}", String::from_utf8_lossy(&output.stderr));

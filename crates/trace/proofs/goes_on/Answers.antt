@@ -1,4 +1,4 @@
--- `trace::goes_on` meets its contract. Assumes nothing.
+-- The two cases of whether the text was printed. Assumes nothing.
 use Rattle.trace.specs.Turn.{goes_written, goes_not}
 use Rattle.trace.proofs.goes_on.Goals as goal
 

@@ -1,12 +1,13 @@
--- `trace::read_more` meets its contract. Assumes nothing.
-use Prim.Native.Nat.{◌-◌}
-use mathlib.Core.Path.{refl, ◌∙◌}
-use native.Mathlib.Omega.{arith}
-use lib.ListN.{length}
+-- The bytes held stand at the front after the move, and what is read comes behind them.
+use Rattle.std.proofs.Common.{◌-◌, refl, ◌∙◌, arith, length}
+use borrow.Author.Rules.{rules}
 use borrow.Rule.Slice.PartMut.{take_put}
 use Rattle.trace.specs.Turn.{came}
-use borrow.Author.Rules.{rules}
 use Rattle.trace.proofs.read_more.Goals as goal
 
 pub returns : goal.returns
-returns c = (refl, omega arith, search rules, came _ (c.args.h.end - c.args.h.from) c.count.result (take_put (c.args.h.end - c.args.h.from) (length c.move_down.new.bytes - (c.args.h.end - c.args.h.from)) c.move_down.new.bytes c.read.new.1.0 (omega (arith, c.requires.1, c.move_down.auto.bytes)) ∙ c.move_down.ensures.0))
+returns c =
+    let n = c.args.h.end - c.args.h.from in
+    let there = c.move_down.new.bytes in
+    let kept = take_put n (length there - n) there c.read_some-more.new.bytes (omega arith) in
+    (refl, omega arith, search rules, came _ n c.read_some-more.result (kept ∙ c.move_down.ensures.0))
