@@ -1,10 +1,10 @@
 #!/usr/bin/env python3
-# fill.py CRATE FN < answers: each answer starts with a line 'NEED[ binders] = term' (further lines indented); replaces that need's clause
+# fill.py CRATE FN < answers: in crates/CRATE/proofs/FN/Answers.antt, else Proof.antt, each answer starts with a line 'NEED[ binders] = term' (further lines indented); replaces that need's clause
 # (its signature stays). Lines before the first answer that start with 'use ' are added to the imports; a block between '<<<' and '>>>' is
 # put before the first need; 'UNFOLD need: a b' puts an 'unfolding' line under the signature.
-import sys, re
+import os, sys, re
 crate, fn = sys.argv[1], sys.argv[2]
-path = f"crates/{crate}/proofs/{fn}/Proof.antt"
+path = next(p for p in (f"crates/{crate}/proofs/{fn}/{n}.antt" for n in ("Answers", "Proof")) if os.path.exists(p))
 src = open(path).read().split("\n")
 inp = sys.stdin.read().split("\n")
 uses, answers, block, unf = [], {}, [], {}
@@ -19,9 +19,9 @@ for l in inp:
     if l and not l.startswith(" "):
         cur = l.split()[0]; answers[cur] = [l]
     elif cur and l.strip(): answers[cur].append(l)
-# '@thing' in an answer is the path into c of that thing, from proof-tools/paths.py
+# '@thing' in an answer to a need of Proof.antt is the path into c of that thing, from proof-tools/paths.py
 if any("@" in l for a in answers.values() for l in a):
-    import subprocess, os
+    import subprocess
     for need, a in answers.items():
         if not any("@" in l for l in a): continue
         target, n = fn, need
@@ -38,7 +38,7 @@ if any("@" in l for a in answers.values() for l in a):
 out, i = [], 0
 while i < len(src):
     l = src[i]
-    name = l.split()[0] if l.strip() and not l.startswith((" ", "-", "use", "abbrev", "pub")) else None
+    name = l.split()[0] if l.strip() and not l.startswith((" ", "-", "use", "abbrev", "pub")) else None  # (its signature has pub in Answers.antt)
     if name in answers and re.match(re.escape(name) + r"( \S+)* =", l):
         if name in unf:
             if out[-1].startswith("unfolding"): out.pop()

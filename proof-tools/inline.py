@@ -1,5 +1,5 @@
 #!/usr/bin/env python3
-"""Puts answers that say nothing of their own, `search needs` and `omega arith`, into the call of `tie.spec`.
+"""Puts answers that say nothing of their own, `search rules` and `omega arith`, into the call of `tie.spec`.
 
 inline.py FILE..    files proofs/FN/Proof.antt; prints those that it changed, with their lines before and after
 """
@@ -8,7 +8,7 @@ import sys
 
 WIDTH = 150
 CLOSE = re.compile(r"^(pub [\w-]+-spec : .*\n)([\w-]+-spec =)\s*tie\.close\s*\(tie\.spec([^()]*)\)\s*\Z", re.M)
-PLAIN = re.compile(r"^([\w-]+) : tie\.Need-[^\n]*\n\1 c( κs)? = (search needs|omega arith)\n\n", re.M)
+PLAIN = re.compile(r"^([\w-]+) : tie\.Need-[^\n]*\n\1 c( κs)? = (search rules|omega arith)\n\n", re.M)
 
 
 def laid_out(name, words):

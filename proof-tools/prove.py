@@ -3,29 +3,27 @@
 import sys, re, subprocess, os
 crate, f = sys.argv[1], sys.argv[2]
 if not os.environ.get("KEEP"):
-    subprocess.run(["rt", "dev", crate, "--generated", f"target/gen-{crate}"], capture_output=True)
+    subprocess.run(["proof-tools/seeds.sh", crate], capture_output=True)
 env = {**os.environ, "KEEP": "1"}
 IMP = {}
 def add(mod, names):
     for n in names.split(): IMP[n] = mod
-add("mathlib.Core.Path", "_≡_ refl sym ap ap₂ _∙_ subst")
+add("mathlib.Core.Path", "◌≡◌ refl sym ap ap₂ ◌∙◌ subst")
 add("mathlib.Core.Bool", "Bool true false not true≢false")
-add("mathlib.Core.List", "List [] _∷_")
+add("mathlib.Core.List", "List [] ◌∷◌")
 add("mathlib.Core.Logic", "⊎-elim")
-add("Prim.Native.Nat", "ℕ suc zero _+_ _*_ _-_ _≤_ _<_")
+add("Prim.Native.Nat", "ℕ suc zero ◌+◌ ◌*◌ ◌-◌ ◌≤◌ ◌<◌")
 add("native.Mathlib.Omega", "arith")
-add("borrow.Author.Needs", "needs")
-add("borrow.Author.Tests", "ne-eqb eq-eqb lt-ltb le-ltb eqb-true eqb-false ltb-true ltb-false leb-true leb-false")
-add("denote.Ref", "now")
-add("lib.ListN", "length getD set length-set")
-add("lib.Seq", "getD-set-same getD-set-other")
+add("borrow.Author.Rules", "rules")
+add("borrow.Author.Tests", "ne_eqb eq-eqb lt-ltb le-ltb eqb-true eqb-false ltb-true ltb-false leb-true leb-false")
+add("lib.ListN", "length get_or set length-set")
 import glob
 # the definitions first, then the crate's own specs, then those of the others
 FIRST = ["crates/spec_tests/specs/Rules.antt", "crates/spec_tests/specs/Laws.antt", "crates/spec_rules/specs/Image.antt", "crates/spec_rules/specs/Checks.antt"]
 others = [q for q in sorted(glob.glob("crates/*/specs/*.antt"), key=lambda q: q.split("/")[1] != crate) if not q.split("/")[1].startswith("spec_")]
 for path in FIRST + others:
     c, m = path.split("/")[1], path.split("/")[-1][:-5]
-    mod = f"Rattle·{c}·specs.specs.{m}" if c == crate else f"Rattle·{c}.specs.{m}"
+    mod = f"Rattle.{c}.specs.{m}"
     for n in re.findall(r"^(?:unfoldable |abbrev )?pub (?:record |data )?(\S+)", open(path).read(), re.M):
         if n != "mod": IMP.setdefault(n, mod)
 def chain(unf, tests):
@@ -36,29 +34,29 @@ def chain(unf, tests):
         if k == "call": e = f"sym (@{rest} .ensures) ∙ @if{n}"; yes.append(e + " .taken"); no.append(e + " .left")
         elif k == "with":
             a, b = rest.split(); e = f"sym (rw (@{a} .ensures) at (@{b} .ensures)) ∙ @if{n}"; yes.append(e + " .taken"); no.append(e + " .left")
-        elif k == "ne": yes.append(f"ne-yes _ _ (λ e. @if{n} .taken (@{rest} .ensures ∙ e))"); no.append(f"ne-no _ _ (sym (@{rest} .ensures) ∙ @if{n} .left)")
-        elif k == "neq": yes.append(f"ne-yes _ _ (@if{n} .taken)"); no.append(f"ne-no _ _ (@if{n} .left)")
-        elif k == "eq": yes.append(f"eq-yes _ _ (@if{n} .taken)"); no.append(f"eq-no _ _ (@if{n} .left)")
-        elif k == "ltf": yes.append(f"lt-yes _ _ (rw (@{rest} .ensures) at (@if{n} .taken))"); no.append(f"lt-no _ _ (rw (@{rest} .ensures) at (@if{n} .left))")
-        elif k == "lt": yes.append(f"lt-yes _ _ (@if{n} .taken)"); no.append(f"lt-no _ _ (@if{n} .left)")
-        elif k == "ltc": yes.append(f"lt-yes _ _ (omega arith)"); no.append(f"lt-no _ _ (omega arith)")
+        elif k == "ne": yes.append(f"ne_yes _ _ (λ e. @if{n} .taken (@{rest} .ensures ∙ e))"); no.append(f"ne_no _ _ (sym (@{rest} .ensures) ∙ @if{n} .left)")
+        elif k == "neq": yes.append(f"ne_yes _ _ (@if{n} .taken)"); no.append(f"ne_no _ _ (@if{n} .left)")
+        elif k == "eq": yes.append(f"eq_yes _ _ (@if{n} .taken)"); no.append(f"eq_no _ _ (@if{n} .left)")
+        elif k == "ltf": yes.append(f"lt_yes _ _ (rw (@{rest} .ensures) at (@if{n} .taken))"); no.append(f"lt_no _ _ (rw (@{rest} .ensures) at (@if{n} .left))")
+        elif k == "lt": yes.append(f"lt_yes _ _ (@if{n} .taken)"); no.append(f"lt_no _ _ (@if{n} .left)")
+        elif k == "ltc": yes.append(f"lt_yes _ _ (omega arith)"); no.append(f"lt_no _ _ (omega arith)")
         elif k == "raw":
             a, b = rest.split("|||"); yes.append(a.strip().replace("@if ", f"@if{n} ")); no.append(b.strip().replace("@if ", f"@if{n} "))
         elif k == "tail": tail = rest
     out = []
     for i in range(len(yes) + 1):
         nm = "returns" if i == 0 else f"returns-{i+1}"
-        t = f"or-hit _ ({yes[i]})" if i < len(yes) else tail
+        t = f"or_hit _ ({yes[i]})" if i < len(yes) else tail
         if not i: out += [f"UNFOLD {nm}: {unf}", f"{nm} c = {t}"]
-        else: out += [f"UNFOLD {nm}: {unf}", f"{nm} c ="] + [f"    {'(' if j else ''}or-skip ({e})" for j, e in enumerate(no[:i])] + [f"    ({t}" + ")" * i]
+        else: out += [f"UNFOLD {nm}: {unf}", f"{nm} c ="] + [f"    {'(' if j else ''}or_skip ({e})" for j, e in enumerate(no[:i])] + [f"    ({t}" + ")" * i]
     return out
 blocks, cur = [], None
 for l in open(f).read().split("\n"):
     if l.startswith("== "): cur = (l[3:].strip(), []); blocks.append(cur)
     elif cur is not None: cur[1].append(l)
 for fn, ls in blocks:
-    path = f"crates/{crate}/proofs/{fn}/Proof.antt"
-    if not os.path.exists(path): print("no", path); continue
+    path = next((p for p in (f"crates/{crate}/proofs/{fn}/{n}.antt" for n in ("Answers", "Proof")) if os.path.exists(p)), "")
+    if not path: print("no proof file of", fn); continue
     ans, i = [], 0
     while i < len(ls):
         if ls[i].startswith("CHAIN"):
@@ -79,7 +77,7 @@ for fn, ls in blocks:
     mods = {}
     for n, m in IMP.items():
         hit = False
-        if n.startswith("_") and n.endswith("_") and len(n) > 2: hit = n in words or n.strip("_") in words
+        if n.startswith("◌") and n.endswith("◌") and len(n) > 2: hit = n in words or n.strip("◌") in words
         else: hit = n in words
         if hit: mods.setdefault(m, []).append(n)
     uses = [f"use {m}." + "{" + ", ".join(ns) + "}" for m, ns in mods.items()]

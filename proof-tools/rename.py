@@ -4,7 +4,7 @@
 Changes the files under each PATH in place, and moves folders crates/FORMER. LIST has a line `former present` for each name; lines that begin
 with # are comments. A name may stand on both sides, so translate a draft once.
 
-  everywhere            `Rattle·NAME`, `NAME::`, crates/NAME, NAME/specs, NAME/File, `rt check NAME..`, calls-NAME·f
+  everywhere            `Rattle.NAME`, `NAME::`, crates/NAME, NAME/specs, NAME/File, `rt ci NAME..`
   lists crates.txt*     every word of the lines that are no comments
   pages and scripts     also `NAME`, `NAME.law` and `NAME/edit` in backticks; each such line is printed, since a field or a function may have
                         the same name as a crate
@@ -15,8 +15,7 @@ import sys
 
 CODE = (".rt", ".antt", ".edit", ".patch", ".diff")
 WORD = re.compile(r"[A-Za-z0-9_]+")
-CALLED = re.compile(r"(?<=\bcalls-)[a-z0-9-]+(?=·)")
-COMMAND = re.compile(r"(?<=\brt )(check|dev|staticlib)((?: [a-z0-9_]+)+)")
+COMMAND = re.compile(r"(?<=\brt )(ci|must-fail)((?: [a-z0-9_]+)+)")
 
 
 def read_names(path):
@@ -29,8 +28,8 @@ class Names:
         self.names = names
         one = "(?:" + "|".join(sorted(map(re.escape, names), key=len, reverse=True)) + ")"
         code = [
-            rf"(?<=Rattle·){one}(?![A-Za-z0-9_])",
-            rf"(?<![A-Za-z0-9_:.·]){one}(?=::)",
+            rf"(?<=Rattle\.){one}(?![A-Za-z0-9_])",
+            rf"(?<![A-Za-z0-9_:.]){one}(?=::)",
             rf"(?<=crates/){one}(?![A-Za-z0-9_])",
             rf"(?<![\w/.-]){one}(?=/(?:(?:specs|src|proofs|must-fail)\b|[A-Z]))",
         ]
@@ -47,7 +46,6 @@ class Names:
     def line(self, pattern, line):
         """A line in which each name is read once."""
         line = pattern.sub(lambda match: self.names[match.group()], line)
-        line = CALLED.sub(lambda match: self.words(match.group().replace("-", "_")).replace("_", "-"), line)
         return COMMAND.sub(lambda match: match.group(1) + self.words(match.group(2)), line)
 
     def translated(self, path, text):

@@ -11,8 +11,8 @@ for crate in sys.argv[1:]:
         toks = set(re.split(r"[\s(){},;]+", body))
         def used(n):
             if n in toks: return True
-            if "_" in n:
-                parts = [p for p in n.split("_") if p]
+            if "◌" in n:
+                parts = [p for p in n.split("◌") if p]
                 return all(p in toks for p in parts)
             return any(t == n or t.startswith(n + ".") for t in toks)
         for l in L:

@@ -8,8 +8,8 @@ for p in sys.argv[1:]:
     for m in re.finditer(r'^use ([^\n{]+)\.\{([^}]*)\}',t,re.M):
         for n in [x.strip() for x in m.group(2).split(',')]:
             if n in('arith',) and 'omega' in body: pass
-            parts=[q for q in n.split('_') if q]
-            if n.startswith('_') or n.endswith('_') or (n.count('_')>0):
+            parts=[q for q in n.split('◌') if q]
+            if '◌' in n:
                 ok=all(q in body for q in parts)
             else:
                 ok=re.search(r'(?<![^\s(){}\[\],;.λ])'+re.escape(n)+r'(?![^\s(){}\[\],;.])',body) is not None

@@ -3,7 +3,7 @@ use Rattle.std.specs.Prelude.{ℕ, List}
 use Rattle.spec_call.specs.Call as Call
 use Rattle.struo.specs.Answers.{Answers}
 use Rattle.bench.specs.Row.{Row, RowHolds, Promised}
-use Rattle.bench.specs.Table.{table, Each, each, every_row}
+use Rattle.bench.specs.Table.{table, Each, each}
 
 -- `struo_lower` on a row's image with its limits
 abbrev pub Lowers : Row → List ℕ → List ℕ → List ℕ → List ℕ → List ℕ → Type 0
@@ -12,12 +12,9 @@ Lowers r buffer scratch answer buffer' scratch' = Answers r.image r.limits.0 r.l
 promised : (r : Row) (buffer scratch answer buffer' scratch' : List ℕ) → Lowers r buffer scratch answer buffer' scratch' → Promised r buffer scratch answer buffer' scratch'
 promised r buffer scratch answer buffer' scratch' p = record { given = Call.answer r.image r.limits.0 r.limits.1 buffer scratch; numbers = p.numbers; kept = p.lowered }
 
-exported : (r : Row) → RowHolds r (Promised r) → RowHolds r (Lowers r)
+pub exported : (r : Row) → RowHolds r (Promised r) → RowHolds r (Lowers r)
 exported r h = record {
   long = λ b s a b' s' x y p. h.long b s a b' s' x y (promised r b s a b' s' p);
   short_buffer = λ b s a b' s' x p. h.short_buffer b s a b' s' x (promised r b s a b' s' p);
   short_scratch = λ b s a b' s' x y p. h.short_scratch b s a b' s' x y (promised r b s a b' s' p);
 }
-
-pub every_call : Each (λ r. RowHolds r (Lowers r)) table
-every_call = each exported table every_row

@@ -49,10 +49,6 @@ k2 = record {
   header = counts 22 44 22 3 0 0 1 0;
 }
 
-pub k2_seen : seen k2 ≡ said k2
-unfolding computing
-k2_seen = refl
-
 abbrev pub k3 : Row
 k3 = record {
   name = "K3";

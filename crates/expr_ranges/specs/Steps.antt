@@ -17,7 +17,8 @@ use Rattle.image_records.specs.declared.ExprKind.TheVariants as K
 use Rattle.word_laws.specs.Shift.{T_true, T_false}
 use Rattle.word_laws.specs.Widths.{sum_of}
 use Rattle.word_ranges.specs.Rows.{Sound}
-use Rattle.word_ranges.specs.Sound.{SoundO, range_is, range_sound}
+use Rattle.word_ranges.specs.Sound.{SoundO}
+use Rattle.word_ranges.proofs.Sound.{range_is, range_sound}
 use Rattle.expr_range_rows.specs.Rows.{and_range, narrow_word}
 use Rattle.image_records.specs.OpClass.{op_class_of, class_range, range_class}
 use Rattle.image_records.specs.declared.OpClass.{OpClass}

@@ -25,27 +25,30 @@ use Rattle.spec_answers.specs.Limits.{limited}
 use Rattle.spec_answers.specs.Nets.{Is, ResetWhole, PortWhole, SecondWhole, Nets}
 use Rattle.spec_answers.specs.Answers.{Reason, undriven, looping, not_constant, more_nets, more_words, Faultless, Answers}
 use Rattle.check_image.specs.Accepted.{accepted}
-use Rattle.law_nets.specs.Run.{Meets, later_refl, nets, list}
+use Rattle.law_nets.specs.Run.{Meets, nets, list}
+use Rattle.law_nets.proofs.Run.{later_refl}
 use Rattle.law_nets.specs.Meaning.{is_output_port, not_output, meaning_of, net_value}
-use Rattle.law_nets.specs.Image.{words_netlist}
+use Rattle.law_nets.proofs.Image.{words_netlist}
 use Rattle.law_walk.specs.Tables.{Has}
 use Rattle.law_walk.specs.Good.{Good}
 use Rattle.law_walk.specs.Kept.{Any, Inv, Agrees}
 use Rattle.law_needs.specs.Inside as inside
-use Rattle.law_phases.specs.Outputs as outputs
-use Rattle.law_fuel.specs.Spent.{never_spent}
+use Rattle.law_phases.proofs.Outputs as outputs
+use Rattle.law_fuel.proofs.Spent.{never_spent}
 use Rattle.law_limits.specs.Bounds.{states, limited_state}
 use Rattle.law_limits.specs.Larger as grown
 use Rattle.law_limits.specs.Larger.{not_done, refused_is}
-use Rattle.law_limits.specs.Phases.{limits}
-use Rattle.law_limits.specs.Limits.{freely_lower, accepted_only, refused_nets, refused_words}
+use Rattle.law_limits.proofs.Phases.{limits}
+use Rattle.law_limits.proofs.Limits.{accepted_only, refused_nets, refused_words}
+use Rattle.law_limits.proofs.Limits.{freely_lower}
 use Rattle.law_refused.specs.Stands as stands
 use Rattle.law_refused.specs.Stands.{AllGot, got_split}
 use Rattle.law_refused.specs.Phases as phases
-use Rattle.law_refused.specs.Phases.{Faults}
-use Rattle.law_refused.specs.Lowered.{Accepts, told, accepts, needed_served, none_undriven, none_looping}
-use Rattle.law_refused.specs.Constants.{none_other}
-use Rattle.law_call.specs.Calls as call
+use Rattle.law_refused.proofs.Phases.{Faults}
+use Rattle.law_refused.proofs.Lowered.{accepts, needed_served, none_undriven, none_looping}
+use Rattle.law_refused.proofs.Lowered.{Accepts, told}
+use Rattle.law_refused.proofs.Constants.{none_other}
+use Rattle.law_call.proofs.Calls as call
 use Rattle.law_call.specs.Calls.{ends}
 use Rattle.law_answers.specs.Within.{within}
 use Rattle.law_answers.specs.Numbers.{Numbered, checked_within}

@@ -72,13 +72,3 @@ module _ (ws : List ℕ) (whole : Whole ws) (rest : List ℕ) where
   netlist_same =
       let p : is_output_port (ws ++ rest) ≡ is_output_port ws = fun_ext port_same in
       rw (header_same 1 (omega arith), list_of_agree (get_or ws 1 0) (node_at_of (ws ++ rest)) (node_at_of ws) node_same, p, records_same)
-
--- the words of a netlist within its limits are whole
-words_whole : (n p : ℕ) (l : Netlist) → Fit n p l → Whole (words n p l)
-unfolding words
-words_whole n p l f =
-    let e = length_words n p l f in
-    record { header = omega arith; nodes = omega (arith, f.few); list = omega (arith, f.short) }
-
-pub words_further : (n p : ℕ) (l : Netlist) → Fit n p l → (rest : List ℕ) → netlist (words n p l ++ rest) ≡ netlist (words n p l)
-words_further n p l f rest = netlist_same (words n p l) (words_whole n p l f) rest

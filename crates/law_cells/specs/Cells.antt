@@ -21,7 +21,8 @@ use Rattle.word_laws.specs.Widths.{AllBelow}
 use Rattle.law_nets.specs.Meaning.{decode, node_at_of, records_with, meaning_of, net_value}
 use Rattle.law_nets.specs.Sound.{count, PortNets, width_word, arithmetic_record, comparison_record, arithmetic_outputs, comparison_output, ArithmeticCell, ComparisonCell, Wired, Sound, Grew, Later, Cells, Stands, StandsAll}
 use Rattle.law_nets.specs.Run.{grew_trans}
-use Rattle.law_nets.specs.Nodes.{at_grew, count_grew, wired_grew, with_old, with_more, with_new, with_same, with_after, later_net, cell_is, compare_is, get_or_map_in}
+use Rattle.law_nets.specs.Nodes.{at_grew, count_grew, with_old, with_more, with_new, with_same, with_after, get_or_map_in}
+use Rattle.law_nets.proofs.Nodes.{wired_grew, later_net, cell_is, compare_is}
 use Rattle.law_gates.specs.Nodes.{no_node}
 use Rattle.law_gates.specs.Added.{with_nodes, grew_nodes, count_nodes, nodes_limits, node_added, grew_record}
 

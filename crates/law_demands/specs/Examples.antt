@@ -17,7 +17,6 @@ use Rattle.spec_model.specs.Lowering.{State, lower_state, signal_width}
 use Rattle.word_laws.specs.Widths.{BelowE, WidthOk, Formed}
 use Rattle.law_walk.specs.Tables.{none_some, some_eq}
 use Rattle.law_walk.specs.Good.{Good, GoodAssign}
-use Rattle.law_demands.specs.Demands.{demand3}
 
 abbrev pub inverter : Module
 inverter = record {
@@ -55,7 +54,7 @@ assigned = record {
   };
 }
 
-good : Good inverter
+pub good : Good inverter
 good = record {
   exprs = formed;
   signals = two (λ p. 1 ≤ signal_width inverter p) (omega arith) (omega arith);
@@ -76,9 +75,6 @@ ended (done st') st = st'
 abbrev pub end : State
 end = ended (lower_state false inverter 3 8) (Lowering.start inverter 3 8)
 
-succeeds : lower_state false inverter 3 8 ≡ done end
+pub succeeds : lower_state false inverter 3 8 ≡ done end
 unfolding Lowering.lower_state Lowering.start Lowering.reserve_sources Lowering.reserve_inputs Lowering.reserve_registers Lowering.reserve_memories Lowering.connect_memories Lowering.connect_registers Lowering.connect_outputs Lowering.lower_all Lowering.plenty Lowering.lower_need Lowering.resolve_signal_bit Lowering.signal_bit Lowering.driver_of Lowering.drive Lowering.lower_steps Lowering.lower_expression Lowering.whole Lowering.whole_steps Lowering.signal_steps Lowering.build_whole Lowering.keep_whole Lowering.set_whole Lowering.set_signal Lowering.set_signal_bit Lowering.mark Lowering.signal_net Lowering.signal_nets Lowering.whole_nets Lowering.whole_net Lowering.lower_unary Builder.add_node Builder.push Builder.node_for_net Builder.constant_value Builder.same Builder.find Builder.add_cached Builder.add_not Builder.each Builder.both Builder.from Builder.add_nodes Builder.add_recorded Builder.add_input_port Builder.add_output_port Builder.add_constant Words.used
 succeeds = refl
-
-pub agrees : Demand3 inverter (netlist (words 3 8 end.netlist))
-agrees = demand3 inverter good false 3 8 (omega arith) end succeeds

@@ -14,8 +14,9 @@ use Rattle.spec_model.specs.Words.{absent, Node, node, gate, Netlist}
 use Rattle.spec_model.specs.Builder.{Made, done, node_for_net, constant_of, constant_value, is_value, is_constant, add_cached, add_constant, not_by, add_not, add_and, add_or, add_xor, mux_by, add_mux}
 use Rattle.law_nets.specs.Meaning.{decode, meaning_of, net_value}
 use Rattle.law_nets.specs.Sound.{count, Plain, Wired, Sound, Stands}
-use Rattle.law_nets.specs.Run.{later_trans, stands_as, Run, run_here, run_map}
-use Rattle.law_nets.specs.Nodes.{later_net}
+use Rattle.law_nets.specs.Run.{Run}
+use Rattle.law_nets.proofs.Run.{later_trans, stands_as, run_here, run_map}
+use Rattle.law_nets.proofs.Nodes.{later_net}
 use Rattle.law_gates.specs.Nodes.{run_if, Is, Bitless, cached_run}
 
 -- ---- what a node is ----
@@ -47,13 +48,13 @@ constant_later l k b h e = record {
   is = λ g a s c. later_net a k h s c ∙ ap (node_value (meaning_of g) s c (net_value g s c)) (constant_node (node_for_net l k) b e);
 }
 
-not_later : (l : Netlist) (k : ℕ) → k < count l → eqb (node_for_net l k).kind 5 ≡ true → Stands l k (λ h s c. not (net_value h s c (node_for_net l k).in0))
+pub not_later : (l : Netlist) (k : ℕ) → k < count l → eqb (node_for_net l k).kind 5 ≡ true → Stands l k (λ h s c. not (net_value h s c (node_for_net l k).in0))
 not_later l k h e = record {
   there = h;
   is = λ g a s c. later_net a k h s c ∙ ap (node_value (meaning_of g) s c (net_value g s c)) (not_node (node_for_net l k) e);
 }
 
-not_below : (l : Netlist) → Sound l → (k : ℕ) → k < count l → eqb (node_for_net l k).kind 5 ≡ true → (node_for_net l k).in0 < k
+pub not_below : (l : Netlist) → Sound l → (k : ℕ) → k < count l → eqb (node_for_net l k).kind 5 ≡ true → (node_for_net l k).in0 < k
 not_below l q k h e = (subst (λ (x : N.Node). Wired l k x) (not_node (node_for_net l k) e) (q.wired k h)).0
 
 is_constant_law : (v : Bool) (l : Netlist) (k : ℕ) → is_constant v l k ≡ true → constant_value l k ≡ some v
@@ -197,28 +198,13 @@ xor_run a b l q ha hb = run_if (eqb a b)
 
 -- ---- Mux ----
 
-cond_self : (c x : Bool) → x ≡ cond c x x
+pub cond_self : (c x : Bool) → x ≡ cond c x x
 cond_self true x = refl
 cond_self false x = refl
 
-cond_not : (c x y : Bool) → cond c y x ≡ cond (not c) x y
+pub cond_not : (c x y : Bool) → cond c y x ≡ cond (not c) x y
 cond_not true x y = refl
 cond_not false x y = refl
 
 abbrev pub Mux : ℕ → ℕ → ℕ → ℕ → Netlist → Type 0
 Mux d a b z l = Stands l z (λ h s c. cond (net_value h s c d) (net_value h s c a) (net_value h s c b))
-
-pub mux_run : (d a b : ℕ) (l : Netlist) → Sound l → d < count l → a < count l → b < count l → Run l (Mux d a b) (add_mux d a b l)
-unfolding add_mux constant_value decode node_of
-mux_run d a b l q hd ha hb = run_if (eqb a b)
-    (λ t. run_here q (record { there = ha; is = λ h x s c. rw (← eqb-true a b t) (cond_self (net_value h s c d) (net_value h s c a)) }))
-    (λ _. go (constant_of (node_for_net l d)) refl)
-  where
-    go : (o : Option Bool) → constant_of (node_for_net l d) ≡ o → Run l (Mux d a b) (mux_by o (node_for_net l d) d a b l)
-    go (some true) e = run_here q (record { there = ha; is = λ h x s c. rw ((constant_later l d true hd e).is h x s c) })
-    go (some false) e = run_here q (record { there = hb; is = λ h x s c. rw ((constant_later l d false hd e).is h x s c) })
-    go none e = run_if (eqb (node_for_net l d).kind 5)
-        (λ t. run_map (cached_run (gate 6 (node_for_net l d).in0 b a) l q (omega (arith, not_below l q d hd t), hb, ha) (λ x. refl))
-        (λ z l' g v. stands_as v (λ h x s c.
-        rw ((not_later l d hd t).is h (later_trans g x) s c) (cond_not (net_value h s c (node_for_net l d).in0) (net_value h s c a) (net_value h s c b)))))
-        (λ t. cached_run (gate 6 d a b) l q (hd, ha, hb) (λ x. refl))

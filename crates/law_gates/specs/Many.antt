@@ -10,8 +10,9 @@ use Rattle.word_laws.specs.Shift.{mux_word}
 use Rattle.word_laws.specs.Widths.{AllBelow}
 use Rattle.law_nets.specs.Meaning.{net_value}
 use Rattle.law_nets.specs.Sound.{count, Sound, At, Stands, StandsAll}
-use Rattle.law_nets.specs.Run.{later_count, below_more, stands_later, all_nil, all_cons, Run, run_here, run_bind, run_map, all_as}
-use Rattle.law_gates.specs.Gates.{constant_run, not_run, mux_run}
+use Rattle.law_nets.specs.Run.{below_more, Run}
+use Rattle.law_nets.proofs.Run.{later_count, stands_later, all_nil, all_cons, run_here, run_bind, run_map, all_as}
+use Rattle.law_gates.specs.Gates.{constant_run, not_run}
 
 abbrev pub All : {A : Type 0} → (A → Type 0) → List A → Type 0
 All P [] = Unit {0}
@@ -69,11 +70,3 @@ pub nots_run : (xs : List ℕ) (l : Netlist) → Sound l → AllBelow (count l) 
 nots_run xs l q b =
     run_map (each_run add_not (λ a h s c. not (net_value h s c a)) (λ n a. a < n) (λ n k a h b. le_trans b h) not_run xs l q (below_all (count l) xs b))
     (λ zs l' g w. all_as w (λ h x s c. map_map not (net_value h s c) xs))
-
--- a mux for each pair: the one word or the other
-pub muxes_run : (d : ℕ) (xs ys : List ℕ) (l : Netlist) → Sound l → d < count l → AllBelow (count l) xs → AllBelow (count l) ys → length xs ≡ length ys
-    → Run l (λ zs l'. StandsAll l' zs (λ h s c. cond (net_value h s c d) (map (net_value h s c) xs) (map (net_value h s c) ys))) (both (add_mux d) xs ys l)
-muxes_run d xs ys l q n b e same =
-    run_map (both_run (add_mux d) (λ h s c. cond (net_value h s c d)) (suc d) (λ x y l q k hx hy. mux_run d x y l q k hx hy) xs ys l q n b e)
-    (λ zs l' y w. all_as w (λ h z s c. mux_word (net_value h s c d) (map (net_value h s c) xs) (map (net_value h s c) ys)
-    (length-map xs (net_value h s c) ∙ same ∙ sym (length-map ys (net_value h s c)))))

@@ -9,8 +9,10 @@ use Rattle.spec_model.specs.Builder.{Made, add_node, same, find, or_made, add_ca
 use Rattle.net_view.specs.Laws.{with_node}
 use Rattle.law_nets.specs.Meaning.{decode, node_at_of, meaning_of, net_value}
 use Rattle.law_nets.specs.Sound.{count, Wired, Sound, Grew, At, Stands}
-use Rattle.law_nets.specs.Run.{Limit, Run, run_done, run_here}
-use Rattle.law_nets.specs.Nodes.{count_grew, node_at, wired_grew, at_grew, arithmetic_grew, comparison_grew, later_net}
+use Rattle.law_nets.specs.Run.{Limit, Run}
+use Rattle.law_nets.proofs.Run.{run_done, run_here}
+use Rattle.law_nets.specs.Nodes.{count_grew, node_at, at_grew, arithmetic_grew, comparison_grew}
+use Rattle.law_nets.proofs.Nodes.{wired_grew, later_net}
 
 -- a test decides a call
 pub run_if : {A : Type 0} {l : Netlist} {P : A → Netlist → Type 0} {x y : Made A} (t : Bool) → (t ≡ true → Run l P x) → (t ≡ false → Run l P y)

@@ -14,7 +14,8 @@ use Rattle.net_view.specs.Laws.{with_node, with_record}
 use Rattle.law_nets.specs.Meaning.{decode, node_at_of, records_with, meaning_of}
 use Rattle.law_nets.specs.Sound.{count, PortNets, ArithmeticCell, ComparisonCell, Wired, Sound, Grew, Later, At, Stands, StandsAll}
 use Rattle.law_nets.specs.Run.{grew_refl, Meets, meets_map, Limit, Built, Run}
-use Rattle.law_nets.specs.Nodes.{count_grew, at_grew, wired_grew, arithmetic_grew, comparison_grew, with_after, get_or_map_in}
+use Rattle.law_nets.specs.Nodes.{count_grew, at_grew, arithmetic_grew, comparison_grew, with_after, get_or_map_in}
+use Rattle.law_nets.proofs.Nodes.{wired_grew}
 use Rattle.law_gates.specs.Nodes.{no_node, Is, is_node_law, sound_node}
 use Rattle.law_gates.specs.Many.{All}
 use Rattle.law_gates.specs.Added.{with_nodes, grew_nodes, count_nodes, nodes_limits, node_added, NodesAdded, nodes_added, grew_record, pushed}

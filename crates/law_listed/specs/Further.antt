@@ -13,7 +13,6 @@ use Rattle.law_told.specs.Told.{Told, told, sixteen, whole}
 use Rattle.law_told.specs.Behind.{nets_same, net_word_law, records_same, accepted_behind}
 use Rattle.law_written.specs.Written.{same}
 use Rattle.law_listed.specs.Listed.{Listed}
-use Rattle.law_listed.specs.Fits.{listed_accepted}
 
 -- an accepted image with any words behind it reads as before
 module _ (ws rest : List ℕ) (ok : accepts ws ≡ Fine) (l : Netlist) (s : Same ws l) where
@@ -37,10 +36,3 @@ module _ (ws rest : List ℕ) (ok : accepts ws ≡ Fine) (l : Netlist) (s : Same
     in2 = λ k h. let e = net k 5 h (omega arith) in e.1 ∙ s.in2 k e.0;
     records = records_same ws rest (sixteen ws t) (whole ws t) ∙ s.records;
   }
-
-module _ (n p : ℕ) (l : Netlist) (f : Fit n p l) (place : ℕ → ℕ → ℕ → ℕ) (q : Sound l) (g : Listed l place) (some : 0 < n) (few : n ≤ 65535) (short : p ≤ 65535) (rest : List ℕ) where
-  pub same_further : Same (words n p l ++ rest) l
-  same_further = same_behind (words n p l) rest (listed_accepted n p l f place q g some few short) l (same n p l f)
-
-  pub further_accepted : accepts (words n p l ++ rest) ≡ Fine
-  further_accepted = accepted_behind (words n p l) rest (listed_accepted n p l f place q g some few short)

@@ -5,5 +5,4 @@ pub mod Whose
 pub mod NodeWords
 pub mod RecordWords
 pub mod MemoryWords
-pub mod Fits
 pub mod Further

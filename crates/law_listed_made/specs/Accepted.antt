@@ -22,15 +22,15 @@ use Rattle.law_walk.specs.Tables.{some_eq}
 use Rattle.law_walk.specs.Good.{Good}
 use Rattle.law_walk.specs.Kept.{Any}
 use Rattle.law_phases.specs.Registers.{bits_of}
-use Rattle.law_phases.specs.Outputs as O
+use Rattle.law_phases.proofs.Outputs as O
 use Rattle.law_owners.specs.Ends.{All}
 use Rattle.spec_netlist.specs.Accept.{own_nets, most_owner, wrong_owner, belongs, accepts}
 use Rattle.spec_netlist.specs.Given.{Same}
 use Rattle.law_written.specs.Written.{same}
 use Rattle.law_listed.specs.Listed.{Shaped, sort_of, seat_of, record_at, records, Stays, Listed}
 use Rattle.law_listed.specs.Parts.{with_sort, own_register}
-use Rattle.law_listed.specs.Fits.{listed_accepted}
-use Rattle.law_listed.specs.Further.{same_further, further_accepted}
+use Rattle.law_listed.proofs.Fits.{listed_accepted}
+use Rattle.law_listed.proofs.Further.{same_further, further_accepted}
 use Rattle.law_listed_walk.specs.Shape.{Wide, fine_shape}
 use Rattle.law_listed_made.specs.Place.{Bounds, place, base, base_below, base_one, signal_of, bit_of, bits}
 use Rattle.law_listed_made.specs.MemoryMade.{memory_own}

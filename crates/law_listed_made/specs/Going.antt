@@ -19,8 +19,10 @@ use Rattle.law_gates.specs.Added.{grew_record}
 use Rattle.law_walk.specs.Good.{Good}
 use Rattle.law_walk.specs.Kept.{Any, Inv, more_refl}
 use Rattle.law_walk.specs.Writes.{inv_netlist}
-use Rattle.law_walk.specs.Reads.{AllAsked, AllAfter, below_at, read_whole, whole_length}
-use Rattle.law_walk.specs.Walk.{all_walk}
+use Rattle.law_walk.specs.Reads.{AllAsked, AllAfter, below_at}
+use Rattle.law_walk.proofs.ReadsLaws.{whole_length}
+use Rattle.law_walk.proofs.ReadsLaws.{read_whole}
+use Rattle.law_walk.proofs.Walk.{all_walk}
 use Rattle.law_phases.specs.Supply.{supply}
 use Rattle.law_phases.specs.Pushed.{after_append, all_after_netlist, bit_is, pushed}
 use Rattle.law_phases.specs.Sources.{inside}

@@ -22,11 +22,13 @@ use Rattle.law_gates.specs.Ports.{output_node, output_nodes, output_node_law, Ou
 use Rattle.law_walk.specs.Good.{Good}
 use Rattle.law_walk.specs.Kept.{more_refl}
 use Rattle.law_walk.specs.Writes.{inv_netlist}
-use Rattle.law_walk.specs.Reads.{AllAfter, read_bits}
+use Rattle.law_walk.specs.Reads.{AllAfter}
+use Rattle.law_walk.proofs.ReadsLaws.{read_bits}
 use Rattle.law_walk.specs.Walk.{bits_asked}
 use Rattle.law_phases.specs.Pushed.{nets_length}
 use Rattle.law_phases.specs.Sources as S
-use Rattle.law_phases.specs.Sources.{inside, got, started, sources_run, connected}
+use Rattle.law_phases.specs.Sources.{inside, got, started, sources_run}
+use Rattle.law_phases.proofs.Sources.{connected}
 use Rattle.law_phases.specs.Registers.{bits_of}
 use Rattle.law_owners.specs.Ends.{Ends, ends_done, ends_refused, ends_then}
 use Rattle.law_listed.specs.Listed.{records}

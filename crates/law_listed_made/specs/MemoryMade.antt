@@ -24,7 +24,9 @@ use Rattle.law_nets.specs.Nodes.{get_or_map_in}
 use Rattle.word_laws.specs.Runs.{length_from, from_at}
 use Rattle.law_walk.specs.Good.{Good, GoodPort}
 use Rattle.law_walk.specs.Kept.{Inv}
-use Rattle.law_walk.specs.Reads.{AllAfter, below_at, below_append, read_whole, whole_length}
+use Rattle.law_walk.specs.Reads.{AllAfter, below_at, below_append}
+use Rattle.law_walk.proofs.ReadsLaws.{whole_length}
+use Rattle.law_walk.proofs.ReadsLaws.{read_whole}
 use Rattle.law_phases.specs.Memories.{steps_asked, PortAfter, SecondAfter, first_ready}
 use Rattle.law_phases.specs.Pushed.{bit_is, nets_length, pushed}
 use Rattle.law_phases.specs.Sources.{inside}

@@ -15,14 +15,16 @@ use Rattle.spec_model.specs.Ranges as Rg
 use Rattle.spec_model.specs.Ranges.{expr_at, width_at, class_of, narrow_by, adder_width}
 use Rattle.spec_model.specs.Lowering.{State, is_add, Need, Bit, Whole, Range, Step, Always, Unless, Operands, operands_of, operand_steps, wholes, kind_steps, cell, set_signal_bit, mark, signal_bit, whole, whole_nets, whole_net, range_known, whole_steps, range_steps_of, truncated, selected, driven_by, build_operands, build_binary, build_kind, build_whole, build_range, unless, lower_steps, driver_of, drive, resolve_signal_bit, keep_whole, lower_expression, keep_range, lower_expression_range, lower_by, lower_need, plenty, lower_all}
 use Rattle.word_laws.specs.Widths.{Formed}
-use Rattle.word_ranges.specs.Fusion.{operands}
+use Rattle.word_ranges.proofs.Fusion.{operands}
 use Rattle.law_walk.specs.Tables.{Has, none_some, some_eq}
 use Rattle.law_walk.specs.Good.{Good}
 use Rattle.law_walk.specs.Kept.{Inv, Walks}
 use Rattle.law_walk.specs.Kept as K
 use Rattle.law_walk.specs.Writes.{inv_mark}
-use Rattle.law_walk.specs.Reads.{Asked, AllAsked, AllAfter, whole_length}
-use Rattle.law_walk.specs.Walk.{assigned, Lowers, steps_walk, need_walk, whole_asked, range_asked}
+use Rattle.law_walk.specs.Reads.{Asked, AllAsked, AllAfter}
+use Rattle.law_walk.proofs.ReadsLaws.{whole_length}
+use Rattle.law_walk.specs.Walk.{whole_asked, range_asked}
+use Rattle.law_walk.proofs.Walk.{assigned, Lowers, steps_walk, need_walk}
 use Rattle.law_phases.specs.Supply.{supply}
 use Rattle.law_owners.specs.Ends.{Ends, ends_done, ends_refused, ends_then}
 use Rattle.law_owners.specs.Kept.{Leaves, constants_kept, unary_kept}

@@ -26,7 +26,7 @@ use Rattle.law_walk.specs.Reads.{AllAfter}
 use Rattle.law_walk.specs.Wholes.{AllHas}
 use Rattle.law_walk.specs.Parts.{piece_steps, piece_fits}
 use Rattle.law_repeats.specs.Again.{Stays, stays_refl, value_stays, below_stays}
-use Rattle.law_repeats.specs.Gates.{again_constant, again_not, again_gate, again_mux}
+use Rattle.law_repeats.proofs.Gates.{again_constant, again_not, again_gate, again_mux}
 use Rattle.law_memo.specs.Along.{Along, along_map, along_from, along_back, along_append}
 use Rattle.law_memo.specs.Repeated.{each_repeated, both_repeated, From2, zip, zip2}
 use Rattle.law_memo.specs.Derived.{side_of, Nets, PartBit, KindBit}

@@ -15,15 +15,16 @@ use Rattle.spec_model.specs.Builder.{refused, done, Made, both}
 use Rattle.spec_model.specs.Ranges.{expr_at, width_at, class_of, Gate, AndGate, OrGate, XorGate}
 use Rattle.spec_model.specs.Lowering.{State, signal_steps, signal_nets, whole_steps, build_whole, range_steps_of, build_range, add_gate, is_bit_not, gate_of, gate_steps, Operands, operands_of, operand_steps, backwards, whole, whole_nets, whole_net, range_nets, signal_bit, expression_net, lower_unary, lower_binary, build_operands, build_binary, build_kind, kind_steps, range_kind, range_gate, kind_range_steps}
 use Rattle.word_laws.specs.Widths.{BelowE, Formed, WidthOk}
-use Rattle.word_ranges.specs.Fusion.{CarryBelow, operands}
+use Rattle.word_ranges.specs.Fusion.{CarryBelow}
+use Rattle.word_ranges.proofs.Fusion.{operands}
 use Rattle.law_nets.specs.Run.{below_more, Meets}
 use Rattle.law_walk.specs.Tables.{none_some, some_eq, Has}
 use Rattle.law_walk.specs.Kept.{Any, Inv}
 use Rattle.law_walk.specs.Reads.{AllAfter}
-use Rattle.law_walk.specs.Wholes.{has_all}
+use Rattle.law_walk.proofs.Wholes.{has_all}
 use Rattle.law_walk.specs.Parts.{below_turned, gate_wide}
 use Rattle.law_repeats.specs.Again.{Stays, stays_refl, Again, Repeats}
-use Rattle.law_repeats.specs.Operators.{again_un}
+use Rattle.law_repeats.proofs.Operators.{again_un}
 use Rattle.law_memo.specs.Along.{Along, along_whole, along_slice}
 use Rattle.law_memo.specs.Derived.{cell_of, binary_of, narrow_to, gateless, only_whole, Nets, Carry}
 use Rattle.law_memo.specs.Later.{binary_again, nets_below}

@@ -10,14 +10,15 @@ use Rattle.spec_model.specs.Builder.{Made, constant_value, add_not, add_mux}
 use Rattle.spec_model.specs.Ranges.{expr_at, width_at, class_of, Gate}
 use Rattle.spec_model.specs.Lowering.{add_gate, is_bit_not, gate_of, Operands, operands_of, backwards, lower_unary, truncated}
 use Rattle.word_laws.specs.Widths.{AllBelow, BelowE, BinWidth, Formed, word_width}
-use Rattle.word_ranges.specs.Fusion.{CarryBelow, Operate, operands}
+use Rattle.word_ranges.specs.Fusion.{CarryBelow, Operate}
+use Rattle.word_ranges.proofs.Fusion.{operands}
 use Rattle.law_nets.specs.Sound.{count, Sound}
 use Rattle.law_walk.specs.Reads.{below_at, below_slice}
 use Rattle.law_walk.specs.Parts.{below_turned}
 use Rattle.law_walk.specs.Wholes.{truncated_length, truncated_width, Taken, plain, fusion, taken}
 use Rattle.law_repeats.specs.Again.{Stays, value_stays, Again, repeats}
-use Rattle.law_repeats.specs.Gates.{again_constant, again_not, again_gate, again_mux}
-use Rattle.law_repeats.specs.Operators.{again_un, again_bin, again_carry, again_resized}
+use Rattle.law_repeats.proofs.Gates.{again_constant, again_not, again_gate, again_mux}
+use Rattle.law_repeats.proofs.Operators.{again_un, again_bin, again_carry, again_resized}
 use Rattle.law_memo.specs.Along.{Along, along_map}
 use Rattle.law_memo.specs.Repeated.{From, From2}
 use Rattle.law_memo.specs.Derived.{narrow_to, cell_of, binary_of, side_of, OfAll, Tables, Net, Nets, CarryNet, Carry, UnBit, BinBit, MuxBit, PartBit, KindBit, Derived}

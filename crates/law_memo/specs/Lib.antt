@@ -17,5 +17,4 @@ pub mod Forgot
 pub mod Reached
 pub mod Claims
 pub mod Passed
-pub mod Calls
 pub mod Examples

@@ -14,7 +14,7 @@ use Rattle.spec_model.specs.Ranges.{expr_at, width_at, class_of, Gate}
 use Rattle.spec_model.specs.Lowering.{State, Range, add_gate, is_bit_not, gate_of, gate_steps, operands_of, operand_steps, whole_nets, whole_net, range_nets, signal_nets, part_nets, piece_nets, concat_pieces, selected, build_mux, expression_net, lower_unary, build_binary, build_kind, kind_steps, range_kind, range_gate, kind_range_steps, whole_steps, build_whole, range_steps_of, build_range}
 use Rattle.word_laws.specs.Values.{slice_wide}
 use Rattle.word_laws.specs.Widths.{BelowE, Formed, WidthOk}
-use Rattle.word_ranges.specs.Fusion.{operands}
+use Rattle.word_ranges.proofs.Fusion.{operands}
 use Rattle.law_walk.specs.Tables.{some_eq}
 use Rattle.law_walk.specs.Kept.{Inv}
 use Rattle.law_walk.specs.Reads.{After, AllAfter}

@@ -17,7 +17,8 @@ use Rattle.law_walk.specs.Tables.{none_some}
 use Rattle.law_walk.specs.Good.{Good}
 use Rattle.law_walk.specs.Kept.{Any, Walks}
 use Rattle.law_walk.specs.Reads.{Asked, need_of, AllAsked, AllAfter}
-use Rattle.law_walk.specs.Walk.{bits_asked, whole_asked, range_asked, assigned, all_walk}
+use Rattle.law_walk.specs.Walk.{bits_asked, whole_asked, range_asked}
+use Rattle.law_walk.proofs.Walk.{assigned, all_walk}
 use Rattle.law_phases.specs.Supply.{supply}
 use Rattle.law_phases.specs.Memories.{steps_asked as memory-asked}
 use Rattle.law_phases.specs.Registers.{steps_asked as register-asked}

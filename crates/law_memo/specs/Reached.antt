@@ -17,15 +17,18 @@ use Rattle.law_walk.specs.Tables.{none_some}
 use Rattle.law_walk.specs.Good.{Good}
 use Rattle.law_walk.specs.Kept.{Any, Inv, Walks}
 use Rattle.law_walk.specs.Writes.{inv_netlist, inv_mark}
-use Rattle.law_walk.specs.Reads.{Asked, After, AllAfter, read_bits}
-use Rattle.law_walk.specs.Walk.{need_walk}
+use Rattle.law_walk.specs.Reads.{Asked, After, AllAfter}
+use Rattle.law_walk.proofs.ReadsLaws.{read_bits}
+use Rattle.law_walk.proofs.Walk.{need_walk}
 use Rattle.law_phases.specs.Supply.{supply}
-use Rattle.law_phases.specs.Sources.{Reserved, started, sources_run, connected, none_at, blank}
+use Rattle.law_phases.specs.Sources.{Reserved, started, sources_run, none_at, blank}
+use Rattle.law_phases.proofs.Sources.{connected}
 use Rattle.law_phases.specs.Pushed.{pushed}
-use Rattle.law_phases.specs.Memories.{first_ready, recorded}
+use Rattle.law_phases.specs.Memories.{first_ready}
+use Rattle.law_phases.proofs.Memories.{recorded}
 use Rattle.law_phases.specs.Registers.{words_long}
 use Rattle.law_repeats.specs.Again.{Stays}
-use Rattle.law_repeats.specs.Added.{push_stays, output_port_stays}
+use Rattle.law_repeats.proofs.Added.{push_stays, output_port_stays}
 use Rattle.law_memo.specs.Reads.{net_range}
 use Rattle.law_memo.specs.Steady.{Onward, onward_refl, onward_trans, same_keeps}
 use Rattle.law_memo.specs.Walked.{IsSteady, IsKept, need_keep, mark_kept}

@@ -13,7 +13,8 @@ use Rattle.word_laws.specs.Widths.{AllBelow, Formed}
 use Rattle.law_nets.specs.Sound.{count}
 use Rattle.law_walk.specs.Tables.{none_some, Has, Known}
 use Rattle.law_walk.specs.Kept.{Inv, Held, HeldBy}
-use Rattle.law_walk.specs.Reads.{After, whole_length}
+use Rattle.law_walk.specs.Reads.{After}
+use Rattle.law_walk.proofs.ReadsLaws.{whole_length}
 use Rattle.law_phases.specs.Sources.{inside}
 use Rattle.law_memo.specs.Along.{Along, Cell, along_map, along_whole, along_slice, row_along}
 use Rattle.law_memo.specs.Derived.{Net, Nets}

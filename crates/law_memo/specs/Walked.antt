@@ -22,9 +22,10 @@ use Rattle.law_walk.specs.Good.{Good}
 use Rattle.law_walk.specs.Kept.{Any, Inv, NetsGive, Walks, Makes}
 use Rattle.law_walk.specs.Writes.{holds_length, inv_netlist, inv_whole, inv_range, inv_mark, marked, bit_more}
 use Rattle.law_walk.specs.Reads.{Asked, After, AllAsked, AllAfter}
-use Rattle.law_walk.specs.Wholes.{whole_made}
-use Rattle.law_walk.specs.Parts.{range_made}
-use Rattle.law_walk.specs.Walk.{Lowers, steps_walk, need_walk, whole_asked, range_asked, Assigned, assigned}
+use Rattle.law_walk.proofs.Wholes.{whole_made}
+use Rattle.law_walk.proofs.Parts.{range_made}
+use Rattle.law_walk.specs.Walk.{whole_asked, range_asked, Assigned}
+use Rattle.law_walk.proofs.Walk.{Lowers, steps_walk, need_walk, assigned}
 use Rattle.law_phases.specs.Supply.{supply}
 use Rattle.law_repeats.specs.Again.{Stays, stays_refl}
 use Rattle.law_memo.specs.Along.{Along}

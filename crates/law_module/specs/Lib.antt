@@ -1,3 +1,2 @@
 -- An accepted image decodes to a good module.
 pub mod Records
-pub mod Good

@@ -79,14 +79,6 @@ pub record Second (s : List ℕ) (k : ℕ) (q : R.Port) : Type 0 where
   pub there : field s 5 k has_second ≡ 0 → ⊥
   pub is : image.port_of (λ i. field s 5 k (second_port + i)) ≡ q
 
-pub second_at : (s : List ℕ) (k : ℕ) (q : R.Port) → (image.memory_at s k).second ≡ some q → Second s k q
-unfolding image.memory_at pick
-second_at s k q e = go (field s 5 k has_second ≡? 0) refl e
-  where
-    go : (t : Bool) → (field s 5 k has_second ≡? 0) ≡ t → pick t none (some (image.port_of (λ i. field s 5 k (second_port + i)))) ≡ some q → Second s k q
-    go true z e = absurd (none_some e)
-    go false z e = record { there = no_eq _ 0 z; is = some_eq e }
-
 -- ---- a register's reset ----
 
 pub record ResetAt (s : List ℕ) (k : ℕ) (x : R.Reset) : Type 0 where

@@ -24,11 +24,13 @@ use Rattle.law_nets.specs.Run.{Meets}
 use Rattle.law_walk.specs.Tables.{none_some, Has, same_cell, put_same, put_other}
 use Rattle.law_walk.specs.Good.{Good}
 use Rattle.law_walk.specs.Kept.{HeldBy, Held, Inv, Grew, Any, Walks, Makes, NetsGive}
-use Rattle.law_walk.specs.Reads.{Asked, After, AllAsked, AllAfter, known_after}
+use Rattle.law_walk.specs.Reads.{Asked, After, AllAsked, AllAfter}
+use Rattle.law_walk.proofs.ReadsLaws.{known_after}
 use Rattle.law_walk.specs.Gates.{Gates}
 use Rattle.law_walk.specs.Writes.{holds_length, inv_mark}
-use Rattle.law_walk.specs.Parts.{range_made}
-use Rattle.law_walk.specs.Walk.{assigned, whole_asked, range_asked, Lowers, steps_walk, need_walk}
+use Rattle.law_walk.proofs.Parts.{range_made}
+use Rattle.law_walk.specs.Walk.{whole_asked, range_asked}
+use Rattle.law_walk.proofs.Walk.{assigned, Lowers, steps_walk, need_walk}
 use Rattle.spec_needs.specs.Reads.{Place}
 use Rattle.law_needs.specs.Covers.{Ok, Every, NeedOk, AllOk, whole_covers, range_covers, need_map}
 

@@ -15,7 +15,7 @@ use Rattle.law_nets.specs.Meaning.{records_with, not_output, is_output_port, mea
 use Rattle.law_nets.specs.Sound.{count, PortNets, Sound, Grew, Later, Cells}
 use Rattle.law_nets.specs.Nodes.{node_grew, count_grew, with_append, only_append}
 
-map_append : {A B : Type 0} (f : A → B) (xs ys : List A) → map f (xs ++ ys) ≡ map f xs ++ map f ys
+pub map_append : {A B : Type 0} (f : A → B) (xs ys : List A) → map f (xs ++ ys) ≡ map f xs ++ map f ys
 map_append f [] ys = refl
 map_append f (x ∷ xs) ys = rw (map_append f xs ys)
 
@@ -29,58 +29,15 @@ port_grew {l} {h} g r n =
     let k = get_or r (3 + i) 0 in
     rw (node_grew g k (n i b), lt_yes k (count h) (le_trans (n i b) (count_grew g)), lt_yes k (count l) (n i b))))
 
-only_ext : (p q : List ℕ → Bool) (rs : List (List ℕ)) → ((j : ℕ) → j < length rs → p (get_or rs j []) ≡ q (get_or rs j [])) → only p rs ≡ only q rs
+pub only_ext : (p q : List ℕ → Bool) (rs : List (List ℕ)) → ((j : ℕ) → j < length rs → p (get_or rs j []) ≡ q (get_or rs j [])) → only p rs ≡ only q rs
 unfolding only
 only_ext p q [] h = refl
 only_ext p q (r ∷ rs) h =
     ap₂ (λ (t : Bool) (xs : List (List ℕ)). pick t (r ∷ xs) xs) (h 0 (omega arith)) (only_ext p q rs (λ j b. h (suc j) (suc-le-suc b)))
 
--- ---- the lists grow ----
-
-module _ {l h : Netlist} (g : Grew l h) where
-  pub registers_grew : (meaning_of h).registers ≡ (meaning_of l).registers ++ map register_bit_of (records_with 1 g.pushed)
-  unfolding meaning_of
-  registers_grew =
-      ap (λ (rs : List (List ℕ)). map register_bit_of (records_with 1 rs)) g.records
-      ∙ ap (map register_bit_of) (with_append 1 l.records g.pushed) ∙ map_append register_bit_of (records_with 1 l.records) (records_with 1 g.pushed)
-
-  pub memories_grew : (meaning_of h).memories ≡ (meaning_of l).memories ++ map memory_of (records_with 2 g.pushed)
-  unfolding meaning_of
-  memories_grew =
-      ap (λ (rs : List (List ℕ)). map memory_of (records_with 2 rs)) g.records
-      ∙ ap (map memory_of) (with_append 2 l.records g.pushed) ∙ map_append memory_of (records_with 2 l.records) (records_with 2 g.pushed)
-
-  -- more port records
-  pub outputs_with : Sound l → (more : List (List ℕ)) → records_with 0 h.records ≡ records_with 0 l.records ++ more
-      → (meaning_of h).outputs ≡ (meaning_of l).outputs ++ map out_port_of (only (is_output_port h) more)
-  unfolding meaning_of
-  outputs_with q more e =
-      ap (λ (rs : List (List ℕ)). map out_port_of (only (is_output_port h) rs)) e
-      ∙ ap (map out_port_of) (only_append (is_output_port h) (records_with 0 l.records) more)
-      ∙ map_append out_port_of (only (is_output_port h) (records_with 0 l.records)) (only (is_output_port h) more)
-      ∙ ap (λ (rs : List (List ℕ)). map out_port_of rs ++ map out_port_of (only (is_output_port h) more))
-      (only_ext (is_output_port h) (is_output_port l) (records_with 0 l.records) (λ j b. port_grew g (get_or (records_with 0 l.records) j []) (q.ports j b)))
-
-  pub outputs_none : Sound l → records_with 0 h.records ≡ records_with 0 l.records → (meaning_of h).outputs ≡ (meaning_of l).outputs
-  unfolding only
-  outputs_none q e = outputs_with q [] (e ∙ sym (append-nil (records_with 0 l.records))) ∙ append-nil (meaning_of l).outputs
-
-  -- where only cells were recorded they are the same
-  module _ (c : Cells l h) where
-    pub registers_same : (meaning_of h).registers ≡ (meaning_of l).registers
-    unfolding meaning_of
-    registers_same = ap (map register_bit_of) (c.cells 1 (omega arith))
-
-    pub memories_same : (meaning_of h).memories ≡ (meaning_of l).memories
-    unfolding meaning_of
-    memories_same = ap (map memory_of) (c.cells 2 (omega arith))
-
-    pub outputs_same : Sound l → (meaning_of h).outputs ≡ (meaning_of l).outputs
-    outputs_same q = outputs_none q (c.cells 0 (omega arith))
-
 -- ---- what is found is found later ----
 
-memory_append : (xs ys : List N.MemoryCell) (k : ℕ) (x : N.MemoryCell) → find_memory xs k ≡ some x → find_memory (xs ++ ys) k ≡ some x
+pub memory_append : (xs ys : List N.MemoryCell) (k : ℕ) (x : N.MemoryCell) → find_memory xs k ≡ some x → find_memory (xs ++ ys) k ≡ some x
 memory_append [] ys k x e = let z : ◌≡◌ {A = ℕ} 0 1 = cc in absurd (omega arith)
 memory_append (y ∷ xs) ys k x e = go (eqb y.index k) e (memory_append xs ys k x)
   where
@@ -89,7 +46,7 @@ memory_append (y ∷ xs) ys k x e = go (eqb y.index k) e (memory_append xs ys k 
     go true e f = e
     go false e f = f e
 
-bit_append : (xs ys : List N.RegisterBit) (k i : ℕ) (x : N.RegisterBit) → find_bit xs k i ≡ some x → find_bit (xs ++ ys) k i ≡ some x
+pub bit_append : (xs ys : List N.RegisterBit) (k i : ℕ) (x : N.RegisterBit) → find_bit xs k i ≡ some x → find_bit (xs ++ ys) k i ≡ some x
 bit_append [] ys k i x e = let z : ◌≡◌ {A = ℕ} 0 1 = cc in absurd (omega arith)
 bit_append (y ∷ xs) ys k i x e = go (eqb y.index k && eqb y.bit i) e (bit_append xs ys k i x)
   where
@@ -97,14 +54,3 @@ bit_append (y ∷ xs) ys k i x e = go (eqb y.index k && eqb y.bit i) e (bit_appe
         → cond t (some y) (find_bit (xs ++ ys) k i) ≡ some x
     go true e f = e
     go false e f = f e
-
-pub memory_later : {l h : Netlist} → Later l h → (k : ℕ) (x : N.MemoryCell) → find_memory (meaning_of l).memories k ≡ some x → find_memory (meaning_of h).memories k ≡ some x
-memory_later {l} a k x e = ap (λ (xs : List N.MemoryCell). find_memory xs k) (memories_grew a.grew) ∙ memory_append (meaning_of l).memories _ k x e
-
-pub bit_later : {l h : Netlist} → Later l h → (k i : ℕ) (x : N.RegisterBit) → find_bit (meaning_of l).registers k i ≡ some x → find_bit (meaning_of h).registers k i ≡ some x
-bit_later {l} a k i x e = ap (λ (xs : List N.RegisterBit). find_bit xs k i) (registers_grew a.grew) ∙ bit_append (meaning_of l).registers _ k i x e
-
--- a memory's data width is that of its record, from when that was pushed
-pub data_later : {l h : Netlist} → Later l h → (k : ℕ) (x : N.MemoryCell) → find_memory (meaning_of l).memories k ≡ some x
-    → data_width (meaning_of h) k ≡ length x.first.read_data
-data_later a k x e = ap (perhaps 0 (λ (y : N.MemoryCell). length y.first.read_data)) (memory_later a k x e)

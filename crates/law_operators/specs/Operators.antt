@@ -14,12 +14,12 @@ use Rattle.spec_model.specs.Lowering.{LeftS, RightS, ArithmeticS, lower_unary, l
 use Rattle.word_laws.specs.Widths.{AllBelow, BinWidth}
 use Rattle.law_nets.specs.Meaning.{net_value}
 use Rattle.law_nets.specs.Sound.{count, Sound, At, StandsAll}
-use Rattle.law_nets.specs.Run.{later_trans, all_as, Run, run_bind, run_map}
+use Rattle.law_nets.specs.Run.{Run}
+use Rattle.law_nets.proofs.Run.{later_trans, all_as, run_bind, run_map}
 use Rattle.law_gates.specs.Many.{nots_run}
-use Rattle.law_cells.specs.Arithmetic.{arithmetic_run}
-use Rattle.law_cells.specs.Comparison.{comparison_run}
+use Rattle.law_cells.proofs.Arithmetic.{arithmetic_run}
+use Rattle.law_cells.proofs.Comparison.{comparison_run}
 use Rattle.law_operators.specs.Trees.{gates_run, reduce_run, equal_words_run}
-use Rattle.law_operators.specs.Shifts.{shift_run}
 
 abbrev pub Unary : R.Unary → List ℕ → At (List Bool)
 Unary op xs h s c = unary op (map (net_value h s c) xs)
@@ -28,7 +28,7 @@ abbrev pub Binary : R.Binary → List ℕ → List ℕ → At (List Bool)
 Binary op xs ys h s c = binary op (map (net_value h s c) xs) (map (net_value h s c) ys)
 
 -- a word and then its complement, bit by bit
-then_not : {l : Netlist} {w : At (List Bool)} (o : Made (List ℕ)) → Run l (λ zs l'. StandsAll l' zs w) o
+pub then_not : {l : Netlist} {w : At (List Bool)} (o : Made (List ℕ)) → Run l (λ zs l'. StandsAll l' zs w) o
     → Run l (λ zs l'. StandsAll l' zs (λ h s c. map not (w h s c))) (B.and_then o (λ (r, l₁). each add_not r l₁))
 then_not o r = run_bind (λ (r, l₁). each add_not r l₁) r (λ zs l' y v.
     run_map (nots_run zs l' y.sound v.there) (λ rs l'' y' w. all_as w (λ h y'' s c. ap (map not) (v.are h (later_trans y' y'') s c))))
@@ -41,36 +41,7 @@ unary_run R.ReduceOr xs l q b = reduce_run OrGate xs l q b
 unary_run R.ReduceAnd xs l q b = reduce_run AndGate xs l q b
 unary_run R.ReduceXor xs l q b = reduce_run XorGate xs l q b
 
-module _ (xs ys : List ℕ) (l : Netlist) (q : Sound l) (b : AllBelow (count l) xs) (d : AllBelow (count l) ys) where
-  pub binary_run : (op : R.Binary) (w : ℕ) → BinWidth op w (length xs) (length ys) → Run l (λ zs l'. StandsAll l' zs (Binary op xs ys)) (lower_binary op xs ys l)
-  unfolding lower_binary
-  binary_run R.And w e = gates_run AndGate xs ys l q b d
-  binary_run R.Or w e = gates_run OrGate xs ys l q b d
-  binary_run R.Xor w e = gates_run XorGate xs ys l q b d
-  binary_run R.Add w e =
-      run_map (arithmetic_run xs ys l q b d (e.1 ∙ sym e.0) B.Add none tt tt) (λ zs l' y v. all_as v (λ h y' s c. ap (bits (length (map (net_value h s c) xs))) (add-zero _)))
-  binary_run R.Sub w e = arithmetic_run xs ys l q b d (e.1 ∙ sym e.0) B.Subtract none tt refl
-  binary_run R.Mul w e = arithmetic_run xs ys l q b d (e.1 ∙ sym e.0) B.Multiply none tt refl
-  binary_run R.Equal w e = equal_words_run xs ys l q b d e.1
-  binary_run R.NotEqual w e = then_not _ (equal_words_run xs ys l q b d e.1)
-  binary_run R.LessU w e = comparison_run xs ys l q b d (sym e.1) B.LessThanUnsigned
-  binary_run R.LessS w e = comparison_run xs ys l q b d (sym e.1) B.LessThanSigned
-  binary_run R.LessEqU w e = comparison_run xs ys l q b d (sym e.1) B.LessOrEqualUnsigned
-  binary_run R.LessEqS w e = comparison_run xs ys l q b d (sym e.1) B.LessOrEqualSigned
-  binary_run R.GreaterU w e = comparison_run ys xs l q d b e.1 B.LessThanUnsigned
-  binary_run R.GreaterS w e = comparison_run ys xs l q d b e.1 B.LessThanSigned
-  binary_run R.GreaterEqU w e = comparison_run ys xs l q d b e.1 B.LessOrEqualUnsigned
-  binary_run R.GreaterEqS w e = comparison_run ys xs l q d b e.1 B.LessOrEqualSigned
-  binary_run R.ShiftL w e = shift_run LeftS xs ys l q b d
-  binary_run R.ShiftR w e = shift_run RightS xs ys l q b d
-  binary_run R.ShiftA w e = shift_run ArithmeticS xs ys l q b d
-
 -- from what the operands stand for
 pub lower_unary_law : (op : R.Unary) {xs : List ℕ} {l : Netlist} {v : At (List Bool)} → Sound l → StandsAll l xs v
     → Run l (λ zs l'. StandsAll l' zs (λ h s c. unary op (v h s c))) (lower_unary op xs l)
 lower_unary_law op {xs} {l} q x = run_map (unary_run op xs l q x.there) (λ zs l' y w. all_as w (λ h y' s c. ap (unary op) (x.are h (later_trans y y') s c)))
-
-pub lower_binary_law : (op : R.Binary) (w : ℕ) {xs ys : List ℕ} {l : Netlist} {v u : At (List Bool)} → Sound l → StandsAll l xs v → StandsAll l ys u
-    → BinWidth op w (length xs) (length ys) → Run l (λ zs l'. StandsAll l' zs (λ h s c. binary op (v h s c) (u h s c))) (lower_binary op xs ys l)
-lower_binary_law op w {xs} {ys} {l} q x y e = run_map (binary_run xs ys l q x.there y.there op w e)
-    (λ zs l' z r. all_as r (λ h z' s c. rw (x.are h (later_trans z z') s c, y.are h (later_trans z z') s c)))

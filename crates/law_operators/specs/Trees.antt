@@ -17,7 +17,8 @@ use Rattle.word_laws.specs.Widths.{AllBelow}
 use Rattle.word_laws.specs.Tree.{pairs, pairs_fold, fewer_pairs, xor_assoc, xor_false, alike, alike_all}
 use Rattle.law_nets.specs.Meaning.{net_value}
 use Rattle.law_nets.specs.Sound.{count, Sound, At, StandsAll}
-use Rattle.law_nets.specs.Run.{later_count, later_trans, below_more, stands_later, stands_as, all_self, all_as, all_nil, all_cons, all_length, Run, run_here, run_bind, run_map}
+use Rattle.law_nets.specs.Run.{below_more, Run}
+use Rattle.law_nets.proofs.Run.{later_count, later_trans, stands_later, stands_as, all_self, all_as, all_nil, all_cons, all_length, run_here, run_bind, run_map}
 use Rattle.law_gates.specs.Gates.{Op2, and_run, or_run, xor_run, not_run}
 use Rattle.law_gates.specs.Many.{both_run, constants_run}
 

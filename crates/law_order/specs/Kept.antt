@@ -13,12 +13,15 @@ use Rattle.word_laws.specs.Widths.{AllBelow}
 use Rattle.law_nets.specs.Meaning.{node_at_of}
 use Rattle.law_nets.specs.Sound.{count, CarryBelow, Wired, Sound, Later, At, Stands, StandsAll}
 use Rattle.law_nets.specs.Run.{Meets, Limit, Built, Run}
-use Rattle.law_nets.specs.Nodes.{sound_empty}
-use Rattle.law_gates.specs.Gates.{constant_run, not_run, and_run, or_run, xor_run, mux_run}
+use Rattle.law_nets.proofs.Nodes.{sound_empty}
+use Rattle.law_gates.specs.Gates.{constant_run, not_run, and_run, or_run, xor_run}
+use Rattle.law_gates.proofs.Gates.{mux_run}
 use Rattle.law_gates.specs.Sources.{push_run, register_run, memory_run}
-use Rattle.law_gates.specs.Ports.{InputPort, OutputPort, input_port_run, output_port_run}
-use Rattle.law_cells.specs.Arithmetic.{Carried, arithmetic_run}
-use Rattle.law_cells.specs.Comparison.{comparison_run}
+use Rattle.law_gates.specs.Ports.{InputPort, OutputPort, output_port_run}
+use Rattle.law_gates.proofs.Ports.{input_port_run}
+use Rattle.law_cells.specs.Arithmetic.{Carried}
+use Rattle.law_cells.proofs.Arithmetic.{arithmetic_run}
+use Rattle.law_cells.proofs.Comparison.{comparison_run}
 use Rattle.net_nodes.specs.Gives.{Gives}
 use Rattle.net_nodes.specs.declared.Added.TheVariants.{Net}
 use Rattle.net_records.specs.Pushes.{Pushes}

@@ -7,7 +7,7 @@ use Rattle.spec_rtl.specs.Rtl as R
 use Rattle.spec_rtl.specs.Rtl.{Module, Register, Memory, Port, Driver, FromInput, FromRegister, FromData, by_memory, by_register_of, of_port, driver, dir_of}
 use Rattle.law_walk.specs.Tables.{none_some, some_eq}
 use Rattle.law_walk.specs.Good.{Good}
-use Rattle.law_walk.specs.Walk.{no_register, no_input_law}
+use Rattle.law_walk.proofs.Walk.{no_register, no_input_law}
 
 pub input_driver : (m : Module) (p i : ℕ) → dir_of m p ≡ R.Input → driver m p i ≡ FromInput
 input_driver m p i e = rw e

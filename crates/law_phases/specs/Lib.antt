@@ -6,4 +6,3 @@ pub mod Sources
 pub mod Pushed
 pub mod Memories
 pub mod Registers
-pub mod Outputs

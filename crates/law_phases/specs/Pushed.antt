@@ -16,11 +16,12 @@ use Rattle.law_nets.specs.Meaning.{meaning_of, records_with}
 use Rattle.law_nets.specs.Sound.{Sound, Later}
 use Rattle.law_nets.specs.Run.{Meets, Limit}
 use Rattle.law_nets.specs.Nodes.{with_new, with_same}
-use Rattle.law_nets.specs.Lists.{outputs_none}
+use Rattle.law_nets.proofs.Lists.{outputs_none}
 use Rattle.law_gates.specs.Sources.{push_run}
 use Rattle.law_walk.specs.Tables.{Has}
 use Rattle.law_walk.specs.Kept.{Any, Inv}
-use Rattle.law_walk.specs.Reads.{After, step_stays, AllAsked, AllAfter, map_append, read_bit}
+use Rattle.law_walk.specs.Reads.{After, AllAsked, AllAfter, map_append}
+use Rattle.law_walk.proofs.ReadsLaws.{step_stays, read_bit}
 use Rattle.law_records.specs.Back.{There}
 use Rattle.law_phases.specs.Made.{IsBit, SameControl}
 

@@ -11,11 +11,14 @@ use Rattle.spec_model.specs.Ranges.{Gate, AndGate, OrGate, XorGate}
 use Rattle.spec_model.specs.Lowering.{add_gate}
 use Rattle.law_nets.specs.Meaning.{net_value}
 use Rattle.law_nets.specs.Sound.{count, Sound}
-use Rattle.law_nets.specs.Run.{all_as, Run, run_map}
-use Rattle.law_gates.specs.Gates.{constant_later, Op2, constant_run, and_run, or_run, xor_run, mux_run}
+use Rattle.law_nets.specs.Run.{Run}
+use Rattle.law_nets.proofs.Run.{all_as, run_map}
+use Rattle.law_gates.specs.Gates.{constant_later, Op2, constant_run, and_run, or_run, xor_run}
+use Rattle.law_gates.proofs.Gates.{mux_run}
 use Rattle.law_gates.specs.Many.{both_run, constants_run, nots_run}
-use Rattle.law_cells.specs.Arithmetic.{arithmetic_run}
-use Rattle.law_operators.specs.Operators.{unary_run, binary_run}
+use Rattle.law_cells.proofs.Arithmetic.{arithmetic_run}
+use Rattle.law_operators.specs.Operators.{unary_run}
+use Rattle.law_operators.proofs.Operators.{binary_run}
 use Rattle.law_walk.specs.Kept.{run_makes}
 use Rattle.law_walk.specs.Gates.{gate_op, Gates}
 

@@ -20,13 +20,15 @@ use Rattle.law_walk.specs.Tables.{Has}
 use Rattle.law_walk.specs.Good.{Good}
 use Rattle.law_walk.specs.Kept.{Inv, Any, Walks, WalkedTo}
 use Rattle.law_walk.specs.Reads.{Asked, After, need_of, AllAsked, AllAfter}
-use Rattle.law_walk.specs.Walk.{assigned, driver_by, need_walk, all_walk}
+use Rattle.law_walk.proofs.Walk.{assigned, driver_by, need_walk, all_walk}
 use Rattle.law_needs.specs.Safe.{Safe, safe, safe_map, reached}
 use Rattle.law_needs.specs.Covers.{Every, all_whole, NeedOk, AllOk, steps_map}
 use Rattle.law_needs.specs.Complete as complete
 use Rattle.law_needs.specs.Complete.{Further, further_grew, Fine, fine_map, fine_netlist}
 use Rattle.law_needs.specs.Inside.{Inside, Within, is_source, Sourced, sourced_stays}
-use Rattle.law_needs.specs.Told.{said, Open, Told, undriven as told-undriven, looping as told-looping, room as told-room, spent as told-spent, NoNew, Some, AllSome, need_tell}
+use Rattle.law_needs.specs.Told.{Some, AllSome}
+use Rattle.law_needs.proofs.Told.{undriven as told-undriven, looping as told-looping, room as told-room, spent as told-spent}
+use Rattle.law_needs.proofs.Told.{said, Open, Told, NoNew, need_tell}
 use Rattle.law_phases.specs.Supply.{supply}
 
 -- ---- a bit that is served ----

@@ -76,7 +76,7 @@ other_kind l r h op lhs rhs carry vs w v = begins_other _ r h
 
 -- ---- calls that are done ----
 
-abbrev DoneStays : {A : Type 0} → Netlist → Made A → Type 0
+abbrev pub DoneStays : {A : Type 0} → Netlist → Made A → Type 0
 DoneStays l (refused n x y) = Unit {0}
 DoneStays l (done r) = Stays l r.1
 
@@ -101,14 +101,6 @@ keeps_bind {A} {B} {l} o k h f = record { keeps = go o h.keeps }
 keeps_here : {A : Type 0} (a : A) (l : Netlist) → Keeps l (done (a, l))
 keeps_here a l = record { keeps = stays_refl l }
 
-pub keeps_node : (x : Node) (l : Netlist) → (Looked x → ⊥) → Keeps l (add_node x l)
-unfolding add_node
-keeps_node x l h = record { keeps = go (ltb (length l.nodes) l.max_nets) }
-  where
-    go : (t : Bool) → DoneStays l (cond t (done (length l.nodes, with_node x l)) (refused 9 0 0))
-    go true = stays_node x l (λ p. absurd (h p))
-    go false = tt
-
 pub keeps_each : {A : Type 0} (f : A → Netlist → Made ℕ) → ((a : A) (l : Netlist) → Keeps l (f a l)) → (xs : List A) (l : Netlist) → Keeps l (each f xs l)
 unfolding each
 keeps_each f g [] l = keeps_here [] l
@@ -120,7 +112,7 @@ keeps_both f g [] ys l = keeps_here [] l
 keeps_both f g (x ∷ xs) [] l = keeps_here [] l
 keeps_both f g (x ∷ xs) (y ∷ ys) l = keeps_bind (f x y l) _ (g x y l) (λ n l₁. keeps_bind (both f xs ys l₁) _ (keeps_both f g xs ys l₁) (λ ns l₂. keeps_here (n ∷ ns) l₂))
 
-push_other : (r : List ℕ) {l l₁ : Netlist} (l₂ : Netlist) → Stays l l₁ → Other l r → push r l₁ ≡ done l₂ → Stays l l₂
+pub push_other : (r : List ℕ) {l l₁ : Netlist} (l₂ : Netlist) → Stays l l₁ → Other l r → push r l₁ ≡ done l₂ → Stays l l₂
 push_other r {l} {l₁} l₂ s h e =
     let p = subst (Meets Limit (λ (k : Netlist). (k ≡ with_record r l₁) × (used l₁.records + length r ≤ l₁.max_list))) e (pushed r l₁) in
     subst (Stays l) (sym p.0) (stays_record r s h)
@@ -137,20 +129,3 @@ keeps_recorded r l o h k = record { keeps = go o k.keeps }
     go : (o : Made (List ℕ)) → DoneStays l o → DoneStays l (and_then o (λ (ns, l₁). and_then (push (r ++ ns) l₁) (λ l₂. done (ns, l₂))))
     go (refused n x y) q = tt
     go (done a) q = then a.0 a.1 q (push (r ++ a.0) a.1) refl
-
-pub keeps_nodes : (x : ℕ → Node) → ((i : ℕ) → Looked (x i) → ⊥) → (b w : ℕ) (l : Netlist) → Keeps l (add_nodes x b w l)
-unfolding add_nodes
-keeps_nodes x h b w l = keeps_each (λ i. add_node (x i)) (λ i l₁. keeps_node (x i) l₁ (h i)) (from b w) l
-
--- ---- as the lowering calls them ----
-
-module _ {l l' : Netlist} where
-  pub output_port_stays : (s : ℕ) (xs ns : List ℕ) → add_output_port s xs l ≡ done (ns, l') → Stays l l'
-  unfolding add_output_port
-  output_port_stays s xs ns e =
-      keeps_done _ (keeps_recorded (0 ∷ s ∷ length xs ∷ []) l _ (λ ks. other_kind l _ (omega arith))
-      (keeps_both (λ b x. add_node (node 8 s b x absent absent)) (λ b x l₁. keeps_node (node 8 s b x absent absent) l₁ (omega arith)) (from 0 (length xs)) xs l)) e
-
-  -- a record of no arithmetic cell
-  pub push_stays : (r : List ℕ) → (get_or r 0 0 ≡ 3 → ⊥) → push r l ≡ done l' → Stays l l'
-  push_stays r h e = push_other r l' (stays_refl l) (other_kind l r h) e

@@ -2,6 +2,4 @@
 pub mod Again
 pub mod Added
 pub mod Gates
-pub mod Trees
 pub mod Cells
-pub mod Operators

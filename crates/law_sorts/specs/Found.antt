@@ -5,7 +5,8 @@ use Rattle.spec_tests.specs.Rules.{◌≡?◌, pick, only, Fine}
 use Rattle.spec_tests.specs.Laws.{eq_yes, yes_eq}
 use Rattle.spec_rules.specs.NetlistImage.{record_length, split, records_of, records_with}
 use Rattle.spec_netlist.specs.Accept.{used, list_at_of, count_of, accepts}
-use Rattle.law_told.specs.Told.{pick_yes, Told, length_some, RightHere, Right, records_right}
+use Rattle.law_told.specs.Told.{pick_yes, Told, length_some, RightHere, Right}
+use Rattle.law_told.proofs.Told.{records_right}
 use Rattle.law_told.specs.Ordered.{only_append}
 
 abbrev pub of_sort : ℕ → List (List ℕ) → List (List ℕ)

@@ -11,7 +11,8 @@ use Rattle.spec_model.specs.Lowering.{signal_width}
 use Rattle.check_memories.specs.Good as memories
 use Rattle.check_image.specs.Accepted.{Accepted}
 use Rattle.law_accepted.specs.Decode.{lengths}
-use Rattle.law_module.specs.Records.{memory_at_law, signal_width_law, expr_width_law, second_at}
+use Rattle.law_module.specs.Records.{memory_at_law, signal_width_law, expr_width_law}
+use Rattle.law_module.proofs.Records.{second_at}
 use Rattle.law_listed_made.specs.Place.{PortBounds, MemoryBounds, Bounds}
 
 module _ (s : List ℕ) (g : Accepted s) where

@@ -9,12 +9,13 @@ use Rattle.spec_model.specs.Words.{Netlist, list_words, words}
 use Rattle.spec_model.specs.Builder.{Out, refused, done, node_for_net}
 use Rattle.spec_model.specs.Lowering.{State, lower_state, lower_with}
 use Rattle.check_image.specs.Accepted.{accepted}
-use Rattle.law_module.specs.Good.{good}
+use Rattle.law_module.proofs.Good.{good}
 use Rattle.spec_netlist.specs.Accept.{accepts}
 use Rattle.spec_netlist.specs.Given.{is_node, node_given, Same, LoweredAccepted, RoundTrip}
-use Rattle.law_told.specs.Given.{Gives, six_of, same_nodes, same_records}
+use Rattle.law_told.specs.Given.{Gives, six_of}
+use Rattle.law_told.proofs.Given.{same_nodes, same_records}
 use Rattle.spec_call.specs.Call as Call
-use Rattle.law_call.specs.Calls as Calls
+use Rattle.law_call.proofs.Calls as Calls
 use Rattle.law_listed_made.specs.Accepted as Made
 use Rattle.law_stored.specs.Bounded.{bounded}
 

@@ -10,7 +10,7 @@ use Rattle.spec_rules.specs.Image.{absent, optional}
 use Rattle.spec_rules.specs.NetlistImage as N
 use Rattle.spec_rules.specs.NetlistImage.{Netlist, node_word, node_of, node_at_of, records_of, records_with, arithmetic_of, comparison_of, netlist}
 use Rattle.spec_netlist.specs.Accept.{nets, belongs, input_count, wrong_input, wrong_node_word, member, own_nets, count_of, not_above, wrong_word, accepts}
-use Rattle.law_told.specs.Told.{untrue, both, and_second, pick_yes, pick_no, Told, told, few, node_right, RightHere, Owner, owner}
+use Rattle.law_told.specs.Told.{untrue, both, and_second, pick_yes, pick_no, Told, told, few, node_right, RightHere, Owner}
 use Rattle.law_told.specs.Members.{no_member, member_split, member_one}
 use Rattle.law_told.specs.Owned.{not_false, Within, within, word_in, CellOwn, register_own, port_own, arithmetic_own, comparison_own, memory_own}
 
@@ -72,7 +72,7 @@ carry_lower c k j e m = at (c ≡? absent) refl m
         let z = yes_lt c k (not_false (c <? k) (and_second (c ≢? absent) (not (c <? k)) e (ne_yes c absent (no_eq c absent f)))) in
         omega arith
 
-arithmetic_lower : (r rest : List ℕ) (k : ℕ) → 3 < length r → not_above k (take (2 * get_or (r ++ rest) 2 0) (drop 4 (r ++ rest))) ≡ false
+pub arithmetic_lower : (r rest : List ℕ) (k : ℕ) → 3 < length r → not_above k (take (2 * get_or (r ++ rest) 2 0) (drop 4 (r ++ rest))) ≡ false
     → (get_or (r ++ rest) 3 0 ≢? absent and not (get_or (r ++ rest) 3 0 <? k)) ≡ false → (j : ℕ) → member j (arithmetic_nets (arithmetic_of r)) ≡ true → j < k
 unfolding arithmetic_nets arithmetic_of
 arithmetic_lower r rest k l e c j m =
@@ -95,7 +95,7 @@ arithmetic_lower r rest k l e c j m =
     omega arith)
     (λ x. carry_lower (get_or r 3 0) k j d x))
 
-comparison_lower : (r rest : List ℕ) (k : ℕ) → 2 < length r → not_above k (take (2 * get_or (r ++ rest) 2 0) (drop 3 (r ++ rest))) ≡ false
+pub comparison_lower : (r rest : List ℕ) (k : ℕ) → 2 < length r → not_above k (take (2 * get_or (r ++ rest) 2 0) (drop 3 (r ++ rest))) ≡ false
     → (j : ℕ) → member j ((comparison_of r).lhs ++ (comparison_of r).rhs) ≡ true → j < k
 unfolding comparison_of
 comparison_lower r rest k l e j m =
@@ -124,7 +124,7 @@ sort_right ws earlier r h l =
     omega arith
 
 module _ (ws : List ℕ) (k : ℕ) (o : Owner ws (records_of ws) k) where
-  abbrev r : List ℕ
+  abbrev pub r : List ℕ
   r = o.r
 
   pub record Cell (kind : ℕ) (t : ℕ) (inputs : List ℕ) : Type 0 where
@@ -253,7 +253,7 @@ no_arithmetic = record { operation = N.Add; carry = none; lhs = []; rhs = [] }
 abbrev pub no_comparison : N.Comparison
 no_comparison = record { relation = N.LessU; lhs = []; rhs = [] }
 
-by_kind : (n : Netlist) (k kind o b x y z : ℕ) → wrong_input k kind 0 x ≡ false → wrong_input k kind 1 y ≡ false → wrong_input k kind 2 z ≡ false
+pub by_kind : (n : Netlist) (k kind o b x y z : ℕ) → wrong_input k kind 0 x ≡ false → wrong_input k kind 1 y ≡ false → wrong_input k kind 2 z ≡ false
     → (kind ≡ 10 → (j : ℕ) → member j (arithmetic_nets (get_or n.arithmetic o no_arithmetic)) ≡ true → j < k)
     → (kind ≡ 11 → (j : ℕ) → member j ((get_or n.comparisons o no_comparison).lhs ++ (get_or n.comparisons o no_comparison).rhs) ≡ true → j < k)
     → (j : ℕ) → member j (read_by n (node_of kind o b x y z)) ≡ true → j < k
@@ -286,7 +286,7 @@ get_or_each f i zero k d h = absurd (not-suc-le-zero h)
 get_or_each f i (suc n) zero d h = let e : i ≡ i + 0 = omega arith in ap f e
 get_or_each f i (suc n) (suc k) d h = let e : suc i + k ≡ i + suc k = omega arith in get_or_each f (suc i) n k d (omega arith) ∙ ap f e
 
-input_right : (ws : List ℕ) → Told ws → (k : ℕ) → k < nets ws → (i : ℕ) → i < 3 → wrong_input k (node_word ws k 0) i (node_word ws k (3 + i)) ≡ false
+pub input_right : (ws : List ℕ) → Told ws → (k : ℕ) → k < nets ws → (i : ℕ) → i < 3 → wrong_input k (node_word ws k 0) i (node_word ws k (3 + i)) ≡ false
 unfolding wrong_node_word
 input_right ws t k h i l =
     let b = few ws t in
@@ -302,33 +302,3 @@ belongs_cell k h = go (k ≡? 0)
     go : (b : Bool) → (b or 6 <? k) ≡ true
     go true = refl
     go false = lt_yes 6 k h
-
-pub ordered : (ws : List ℕ) → accepts ws ≡ Fine → Ordered (netlist ws)
-unfolding netlist list_of node_at_of
-ordered ws e = record { lower = λ k j h m. at k j (rw (length_each (node_at_of ws) 0 (nets ws)) at h) m }
-  where
-    t : Told ws
-    t = told ws e
-
-    cells : (k : ℕ) → k < nets ws → node_word ws k 0 ≡ 10 → (j : ℕ) → member j (arithmetic_nets (get_or (map arithmetic_of (records_with 3 ws)) (node_word ws k 1) no_arithmetic)) ≡ true → j < k
-    cells k h f j m =
-        let o = owner ws t k h (rw f (belongs_cell 10 (omega arith))) in
-        let c = arithmetic_cell_law ws k o f in
-        let n = cell_number arithmetic_of no_arithmetic ws 3 o.earlier o.r o.later o.place c.cell.sort in
-        arithmetic_lower o.r o.here.rest k c.cell.long c.cell.owns.above c.carry j (ap (λ (x : N.Arithmetic). member j (arithmetic_nets x)) (sym n) ∙ rw c.cell.owns.owner at m)
-
-    compares : (k : ℕ) → k < nets ws → node_word ws k 0 ≡ 11 → (j : ℕ)
-        → member j ((get_or (map comparison_of (records_with 4 ws)) (node_word ws k 1) no_comparison).lhs ++ (get_or (map comparison_of (records_with 4 ws)) (node_word ws k 1) no_comparison).rhs) ≡ true → j < k
-    compares k h f j m =
-        let o = owner ws t k h (rw f (belongs_cell 11 (omega arith))) in
-        let c = comparison_cell_law ws k o f in
-        let l = c.long in
-        let n = cell_number comparison_of no_comparison ws 4 o.earlier o.r o.later o.place c.sort in
-        comparison_lower o.r o.here.rest k (omega arith) c.owns.above j (ap (λ (x : N.Comparison). member j (x.lhs ++ x.rhs)) (sym n) ∙ rw c.owns.owner at m)
-
-    at : (k j : ℕ) → k < nets ws → member j (read_by (netlist ws) (get_or (netlist ws).nodes k (N.Constant false))) ≡ true → j < k
-    at k j h m =
-        by_kind (netlist ws) k (node_word ws k 0) (node_word ws k 1) (node_word ws k 2) (node_word ws k 3) (node_word ws k 4) (node_word ws k 5)
-        (input_right ws t k h 0 (omega arith)) (input_right ws t k h 1 (omega arith)) (input_right ws t k h 2 (omega arith)) (cells k h) (compares k h) j
-        (let z : k ≡ 0 + k = omega arith in
-        ap (λ (x : N.Node). member j (read_by (netlist ws) x)) (ap (node_at_of ws) z ∙ sym (get_or_each (node_at_of ws) 0 (nets ws) k (N.Constant false) h)) ∙ m)

@@ -194,7 +194,7 @@ Right ws earlier [] = Unit {0}
 Right ws earlier (r ∷ rs) = RightHere ws earlier r × Right ws (earlier ++ (r ∷ [])) rs
 
 -- a memory's port count is right
-ports_right : (ws : List ℕ) (earlier : List (List ℕ)) (l : List ℕ) → get_or l 0 0 ≡ 2 → wrong_word ws earlier l 5 ≡ false → (1 ≤ get_or l 5 0) × (get_or l 5 0 ≤ 2)
+pub ports_right : (ws : List ℕ) (earlier : List (List ℕ)) (l : List ℕ) → get_or l 0 0 ≡ 2 → wrong_word ws earlier l 5 ≡ false → (1 ≤ get_or l 5 0) × (get_or l 5 0 ≤ 2)
 unfolding wrong_word wrong_memory
 ports_right ws earlier l e h =
     inside (get_or l 5 0) 1 2 (sym (pick_no (5 ≡? 0) _ _ (eq_no 5 0 (λ z. absurd (omega arith)))
@@ -202,49 +202,6 @@ ports_right ws earlier l e h =
     ∙ pick_yes (get_or l 0 0 ≡? 2) _ _ (eq_yes (get_or l 0 0) 2 e) ∙ pick_no (5 ≡? 1) _ _ (eq_no 5 1 (λ z. absurd (omega arith)))
     ∙ pick_no (5 ≡? 2) _ _ (eq_no 5 2 (λ z. absurd (omega arith))) ∙ pick_no (5 ≡? 3) _ _ (eq_no 5 3 (λ z. absurd (omega arith)))
     ∙ pick_no (5 ≡? 4) _ _ (eq_no 5 4 (λ z. absurd (omega arith))) ∙ pick_yes (5 ≡? 5) _ _ (eq_yes 5 5 refl)) ∙ h)
-
--- a record whose port count, if it is a memory's, is right takes as many words as its length says
-pub right_extent : (ws : List ℕ) (earlier : List (List ℕ)) (l : List ℕ) → (get_or l 0 0 ≡ 2 → wrong_word ws earlier l 5 ≡ false) → extent l ≡ record_length l
-right_extent ws earlier l clean = go (ℕ_discrete (get_or l 0 0) 2)
-  where
-    go : Dec (get_or l 0 0 ≡ 2) → extent l ≡ record_length l
-    go (no n) = other_extent l n
-    go (yes e) = let p = ports_right ws earlier l e (clean e) in memory_extent l e p.0 p.1
-
-pub passed_extent : (ws : List ℕ) (earlier : List (List ℕ)) (l : List ℕ) → ((i : ℕ) → i < record_length l → wrong_word ws earlier l i ≡ false) → extent l ≡ record_length l
-passed_extent ws earlier l clean = right_extent ws earlier l (λ e. clean 5 (let m = memory_length_law l e in omega arith))
-
-pub fits : (ws : List ℕ) (earlier : List (List ℕ)) (l : List ℕ) → ((i : ℕ) → i < record_length l → wrong_word ws earlier l i ≡ false) → record_length l ≤ length l
-unfolding wrong_word ◌≡?◌ pick
-fits ws earlier l clean =
-    let e = passed_extent ws earlier l clean in
-    let s = no_lt (length l) (extent l) (or_no (clean 0 (length_some l))).1 in
-    omega arith
-
-here_right : (ws : List ℕ) (earlier : List (List ℕ)) (l : List ℕ) → ((i : ℕ) → i < record_length l → wrong_word ws earlier l i ≡ false)
-    → RightHere ws earlier (take (record_length l) l)
-here_right ws earlier l clean = record {
-  rest = drop (record_length l) l;
-  fit = rw (take-append-drop (record_length l) l) (let f = fits ws earlier l clean in let m = length-take (record_length l) l in omega arith);
-  long = rw (take-append-drop (record_length l) l) (let m = length-take (record_length l) l in omega arith);
-  right = λ i h. ap (λ (z : List ℕ). wrong_word ws earlier z i) (take-append-drop (record_length l) l) ∙ clean i (let m = length-take (record_length l) l in omega arith);
-}
-
-all_right : (ws : List ℕ) (n : ℕ) (earlier : List (List ℕ)) (place : ℕ) (l : List ℕ) → judged ws n earlier place l ≡ Fine → Right ws earlier (split n l)
-unfolding judged split
-all_right ws zero earlier place l e = tt
-all_right ws (suc n) earlier place [] e = tt
-all_right ws (suc n) earlier place (x ∷ l) e =
-    let k = record_length (x ∷ l) in
-    let p = pick_fine (first (wrong_word ws earlier (x ∷ l)) k <? k) (place + first (wrong_word ws earlier (x ∷ l)) k)
-    (judged ws n (earlier ++ (take k (x ∷ l) ∷ [])) (place + k) (drop k (x ∷ l))) e in (
-      here_right ws earlier (x ∷ l) (none_of (wrong_word ws earlier (x ∷ l)) k p.0),
-      all_right ws n (earlier ++ (take k (x ∷ l) ∷ [])) (place + k) (drop k (x ∷ l)) p.1,
-    )
-
-pub records_right : (ws : List ℕ) → Told ws → Right ws [] (records_of ws)
-unfolding list_answer records_of
-records_right ws t = all_right ws (used ws) [] (list_at_of ws) (take (used ws) (drop (list_at_of ws) ws)) t.list
 
 -- the record to which a net belongs
 pub record Owner (ws : List ℕ) (all : List (List ℕ)) (k : ℕ) : Type 0 where
@@ -255,18 +212,10 @@ pub record Owner (ws : List ℕ) (all : List (List ℕ)) (k : ℕ) : Type 0 wher
   pub here : RightHere ws earlier r
   pub owns : member k (own_nets r) ≡ true
 
-find_owner : (ws : List ℕ) (earlier rs : List (List ℕ)) → Right ws earlier rs → (k : ℕ) → taken rs k ≡ true → Owner ws (earlier ++ rs) k
+pub find_owner : (ws : List ℕ) (earlier rs : List (List ℕ)) → Right ws earlier rs → (k : ℕ) → taken rs k ≡ true → Owner ws (earlier ++ rs) k
 unfolding taken
 find_owner ws earlier [] h k e = untrue e
 find_owner ws earlier (r ∷ rs) h k e =
     or_split (member k (own_nets r)) (taken rs k) e
     (λ m. record { earlier = earlier; r = r; later = rs; place = refl; here = h.0; owns = m })
     (λ m. subst (λ (z : List (List ℕ)). Owner ws z k) (append_assoc earlier (r ∷ []) rs) (find_owner ws (earlier ++ (r ∷ [])) rs h.1 k m))
-
-pub owner : (ws : List ℕ) → Told ws → (k : ℕ) → k < nets ws → belongs (node_word ws k 0) ≡ true → Owner ws (records_of ws) k
-unfolding alone
-owner ws t k h b = find_owner ws [] (records_of ws) (records_right ws t) k (at (taken (records_of ws) k) (and_second (belongs (node_word ws k 0)) (not (taken (records_of ws) k)) (is_owned ws t k h) b))
-  where
-    at : (b : Bool) → not b ≡ false → b ≡ true
-    at true e = refl
-    at false e = untrue (sym e)

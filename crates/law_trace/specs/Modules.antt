@@ -13,7 +13,7 @@ use Rattle.spec_netlist.specs.Accept.{accepts}
 use Rattle.spec_netlist.specs.Given.{Same}
 use Rattle.spec_trace.specs.Trace.{setting_of, traced}
 use Rattle.spec_trace.specs.Named.{begun, any_line}
-use Rattle.law_call.specs.Calls.{same_machine}
+use Rattle.law_call.proofs.Calls.{same_machine}
 use Rattle.law_stored.specs.Calls.{left, call_accepted, call_state, call_same}
 use Rattle.law_histories.specs.Plain.{AllRight}
 use Rattle.law_trace.specs.Runs.{seen_text, run_text}

@@ -21,11 +21,12 @@ use Rattle.spec_trace.specs.Trace.{setting_of, wrong_line, traced}
 use Rattle.spec_trace.specs.Named.{begun, any_line, text_from, unless, trace_text, program}
 use Rattle.check_image.specs.Accepted.{accepted}
 use Rattle.net_view.specs.View.{Fit}
-use Rattle.law_module.specs.Good.{good}
+use Rattle.law_module.proofs.Good.{good}
 use Rattle.law_told.specs.Told.{neither, pick_no, told, sixteen}
 use Rattle.law_told.specs.Behind.{accepted_behind}
 use Rattle.law_listed_made.specs.Accepted.{fit}
-use Rattle.law_call.specs.Calls.{is_good, passes, ended, buffer_is}
+use Rattle.law_call.proofs.Calls.{passes, ended, buffer_is}
+use Rattle.law_call.proofs.Calls.{is_good}
 use Rattle.law_stored.specs.Bounded.{bounded}
 use Rattle.law_stored.specs.Calls.{left, call_accepted, call_state}
 use Rattle.law_histories.specs.Plain.{AllRight}

@@ -12,7 +12,7 @@ use Rattle.spec_rtl.specs.Rtl.{Module, dir_of}
 use Rattle.spec_model.specs.Builder.{Out, refused, done, and_then, Made, is_value}
 use Rattle.spec_model.specs.Lowering.{State, Need, Bit, Whole, Range, Step, Always, Unless, cell, set_signal_bit, mark, set_whole, set_range, signal_bit, whole, range_known, whole_steps, range_steps_of, selected, driven_by, driven_net, build_whole, build_range, unless, lower_steps, driver_of, drive, resolve_signal_bit, keep_whole, lower_expression, keep_range, lower_expression_range, lower_by, lower_need, plenty, lower_all}
 use Rattle.law_walk.specs.Good.{Good}
-use Rattle.law_walk.specs.Walk.{assigned}
+use Rattle.law_walk.proofs.Walk.{assigned}
 use Rattle.law_owners.specs.Ends.{Ends, ends_done, ends_refused, ends_then}
 
 -- the rows of input signals in t are those in t₀

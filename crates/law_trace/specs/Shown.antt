@@ -19,7 +19,8 @@ use Rattle.spec_netlist.specs.Accept.{nets, accepts}
 use Rattle.spec_trace.specs.Opened.{ports_with, nets_with}
 use Rattle.spec_trace.specs.Trace.{digit, shown}
 use Rattle.law_trace.specs.Runs.{port_text, seen_text}
-use Rattle.law_told.specs.Told.{untrue, neither, pick_yes, pick_no, Told, told, RightHere, Right, records_right}
+use Rattle.law_told.specs.Told.{untrue, neither, pick_yes, pick_no, Told, told, RightHere, Right}
+use Rattle.law_told.proofs.Told.{records_right}
 use Rattle.law_told.specs.Ports.{PortTold, port_told, one_port}
 use Rattle.law_told.specs.Ordered.{only_append}
 use Rattle.law_told.specs.If.{none_found}

@@ -15,7 +15,7 @@ use Rattle.spec_model.specs.Lowering.{add_gate, lower_unary, lower_binary}
 use Rattle.word_laws.specs.Widths.{AllBelow, BinWidth}
 use Rattle.law_nets.specs.Meaning.{net_value}
 use Rattle.law_nets.specs.Sound.{count, Sound, Later, At, Stands, StandsAll}
-use Rattle.law_nets.specs.Run.{later_trans}
+use Rattle.law_nets.proofs.Run.{later_trans}
 use Rattle.law_walk.specs.Kept.{Table, Agrees, NetsGive, Makes, makes_map}
 
 abbrev pub gate_op : Gate → Bool → Bool → Bool

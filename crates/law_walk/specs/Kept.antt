@@ -13,7 +13,8 @@ use Rattle.spec_model.specs.Lowering.{State, cell, whole, signal_width}
 use Rattle.word_laws.specs.Widths.{AllBelow}
 use Rattle.law_nets.specs.Meaning.{meaning_of, net_value}
 use Rattle.law_nets.specs.Sound.{count, Sound, Later, Cells}
-use Rattle.law_nets.specs.Run.{later_refl, later_trans, later_count, below_more, cells_refl, cells_trans, Meets, Built, Run}
+use Rattle.law_nets.specs.Run.{below_more, cells_refl, cells_trans, Meets, Built, Run}
+use Rattle.law_nets.proofs.Run.{later_refl, later_trans, later_count}
 use Rattle.law_walk.specs.Tables.{Has, Shaped, Fits, filled}
 
 abbrev pub Table : Type 0

@@ -21,7 +21,8 @@ use Rattle.spec_model.specs.Lowering.{State, cell, put, whole, with_netlist, set
 use Rattle.word_laws.specs.Widths.{Formed}
 use Rattle.law_nets.specs.Meaning.{net_value}
 use Rattle.law_nets.specs.Sound.{Cells, count, Sound, Later}
-use Rattle.law_nets.specs.Run.{cells_refl, later_refl, later_trans, later_count}
+use Rattle.law_nets.specs.Run.{cells_refl}
+use Rattle.law_nets.proofs.Run.{later_refl, later_trans, later_count}
 use Rattle.law_walk.specs.Tables.{none_some, some_eq, Has, same_cell, put_shaped, put_same, put_other, filled, filled_put, has_sets, known_sets, fits_sets, below_sets}
 use Rattle.law_walk.specs.Kept.{Table, Agrees, More, more_refl, more_trans, NetsGive, holds_later, RowGives, row_later, Wide, Held, Inv, Grew}
 

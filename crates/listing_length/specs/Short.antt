@@ -22,8 +22,9 @@ use Rattle.net_view.specs.View.{node_at_of, nodes_of, Fit}
 use Rattle.net_view.specs.Laws.{words_view}
 use Rattle.law_nets.specs.Run.{Meets}
 use Rattle.law_walk.specs.Kept.{Any}
-use Rattle.law_phases.specs.Outputs.{Lowered, lowered}
-use Rattle.law_call.specs.Calls.{is_good, buffer_is, passes, ended}
+use Rattle.law_phases.proofs.Outputs.{Lowered, lowered}
+use Rattle.law_call.proofs.Calls.{buffer_is, passes, ended}
+use Rattle.law_call.proofs.Calls.{is_good}
 use Rattle.law_owners.specs.Ends.{All}
 use Rattle.law_owners.specs.Owners.{Throughout, Owned, OfSignal, owners}
 use Rattle.listing_whole.specs.Length.{AllSmall, Named, PortsNamed, listing_short}

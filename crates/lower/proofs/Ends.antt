@@ -20,7 +20,7 @@ use Rattle.spec_model.specs.Builder.{Out, refused, done, and_then}
 use Rattle.spec_model.specs.Lowering.{State, lower_state, lower_with, lower}
 use Rattle.spec_call.specs.Call as Call
 use Rattle.spec_call.specs.Call.{outcome, image_of}
-use Rattle.law_call.specs.Calls.{promise}
+use Rattle.law_call.proofs.Calls.{promise}
 use Rattle.check_image.specs.Accepted.{Accepted, Room, accepted}
 use Rattle.check_image.specs.Checked as checks
 use Rattle.check_image.specs.contracts.Checked.{the_type}

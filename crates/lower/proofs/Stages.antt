@@ -18,10 +18,12 @@ use Rattle.law_walk.specs.Good.{Good}
 use Rattle.law_walk.specs.Kept.{Any}
 use Rattle.law_phases.specs.Supply.{supply}
 use Rattle.law_phases.specs.Made.{Connected}
-use Rattle.law_phases.specs.Sources.{Reserved, started, sources_run, connected}
-use Rattle.law_phases.specs.Memories.{memories_walk}
-use Rattle.law_phases.specs.Registers.{AllBits, registers_walk}
-use Rattle.law_module.specs.Good.{good}
+use Rattle.law_phases.specs.Sources.{Reserved, started, sources_run}
+use Rattle.law_phases.proofs.Sources.{connected}
+use Rattle.law_phases.proofs.Memories.{memories_walk}
+use Rattle.law_phases.proofs.Registers.{registers_walk}
+use Rattle.law_phases.proofs.Registers.{AllBits}
+use Rattle.law_module.proofs.Good.{good}
 use Rattle.scratch_view.specs.View.{limit_of}
 use Rattle.walk_view.specs.declared.Lowered.{Lowered}
 use Rattle.walk_view.specs.declared.Lowered.TheVariants.{Done}

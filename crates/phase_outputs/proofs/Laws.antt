@@ -17,7 +17,8 @@ use Rattle.scratch_view.specs.View.{limit_of}
 use Rattle.law_nets.specs.Run.{Meets, Limit}
 use Rattle.law_gates.specs.Ports.{OutputPort, output_port_run}
 use Rattle.law_walk.specs.Writes.{inv_netlist}
-use Rattle.law_walk.specs.Reads.{AllAfter, read_bits}
+use Rattle.law_walk.specs.Reads.{AllAfter}
+use Rattle.law_walk.proofs.ReadsLaws.{read_bits}
 use Rattle.image_records.specs.declared.Signal.{Signal}
 use Rattle.image_records.specs.declared.Direction.{Direction}
 use Rattle.image_records.specs.declared.Direction.TheVariants as D

@@ -6,10 +6,10 @@ use Rattle.spec_rules.specs.Image.{decode}
 use Rattle.spec_model.specs.Builder.{Out, done}
 use Rattle.spec_model.specs.Lowering.{State, Step, lower_steps, lower_all}
 use Rattle.check_image.specs.Accepted.{Accepted}
-use Rattle.law_module.specs.Good.{good}
+use Rattle.law_module.proofs.Good.{good}
 use Rattle.law_walk.specs.Kept.{WalkedTo, Walks}
 use Rattle.law_walk.specs.Reads.{AllAsked, AllAfter}
-use Rattle.law_walk.specs.Walk.{all_walk}
+use Rattle.law_walk.proofs.Walk.{all_walk}
 use Rattle.law_phases.specs.Supply.{supply}
 use Rattle.walk_view.specs.Met.{all_grow}
 use Rattle.walk_view.specs.View.{walk_state, Ready, Sure, out_of}

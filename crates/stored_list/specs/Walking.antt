@@ -8,7 +8,8 @@ use Rattle.spec_tests.specs.Laws.{none, first_most, pick_hit, pick_skip, lt_yes,
 use Rattle.spec_rules.specs.NetlistImage.{record_length, split, records_of}
 use Rattle.spec_netlist.specs.Accept.{nets, used, list_at_of, ports_length, extent, count_of, taken, wrong_word, judged, list_answer}
 use Rattle.law_told.specs.Walked.{drop_take}
-use Rattle.law_told.specs.Told.{length_some, right_extent, other_extent, memory_length_law, fits}
+use Rattle.law_told.specs.Told.{length_some, other_extent, memory_length_law}
+use Rattle.law_told.proofs.Told.{right_extent, fits}
 use Rattle.stored_list.specs.Sorts.{word_first}
 use Rattle.stored_view.specs.Opened.{Opened, Marked, Counted}
 

@@ -30,7 +30,7 @@ pub data Computed : ℕ → Type 0 where
   mux : Computed 6
   output : Computed 8
 
-const_table : (d a b c : Bool) → chosen (pick d 255 0) (bit a) (bit b) (bit c) ≡ bit d
+pub const_table : (d a b c : Bool) → chosen (pick d 255 0) (bit a) (bit b) (bit c) ≡ bit d
 unfolding chosen pick
 const_table true true true true = refl
 const_table true true true false = refl
@@ -49,7 +49,7 @@ const_table false false true false = refl
 const_table false false false true = refl
 const_table false false false false = refl
 
-and_table : (a b c : Bool) → chosen 136 (bit a) (bit b) (bit c) ≡ bit (a && b)
+pub and_table : (a b c : Bool) → chosen 136 (bit a) (bit b) (bit c) ≡ bit (a && b)
 unfolding chosen
 and_table true true true = refl
 and_table true true false = refl
@@ -60,7 +60,7 @@ and_table false true false = refl
 and_table false false true = refl
 and_table false false false = refl
 
-or_table : (a b c : Bool) → chosen 238 (bit a) (bit b) (bit c) ≡ bit (a || b)
+pub or_table : (a b c : Bool) → chosen 238 (bit a) (bit b) (bit c) ≡ bit (a || b)
 unfolding chosen
 or_table true true true = refl
 or_table true true false = refl
@@ -71,7 +71,7 @@ or_table false true false = refl
 or_table false false true = refl
 or_table false false false = refl
 
-xor_table : (a b c : Bool) → chosen 102 (bit a) (bit b) (bit c) ≡ bit (xor_b a b)
+pub xor_table : (a b c : Bool) → chosen 102 (bit a) (bit b) (bit c) ≡ bit (xor_b a b)
 unfolding chosen
 xor_table true true true = refl
 xor_table true true false = refl
@@ -82,7 +82,7 @@ xor_table false true false = refl
 xor_table false false true = refl
 xor_table false false false = refl
 
-not_table : (a b c : Bool) → chosen 85 (bit a) (bit b) (bit c) ≡ bit (not a)
+pub not_table : (a b c : Bool) → chosen 85 (bit a) (bit b) (bit c) ≡ bit (not a)
 unfolding chosen
 not_table true true true = refl
 not_table true true false = refl
@@ -93,7 +93,7 @@ not_table false true false = refl
 not_table false false true = refl
 not_table false false false = refl
 
-mux_table : (a b c : Bool) → chosen 216 (bit a) (bit b) (bit c) ≡ bit (cond a b c)
+pub mux_table : (a b c : Bool) → chosen 216 (bit a) (bit b) (bit c) ≡ bit (cond a b c)
 unfolding chosen
 mux_table true true true = refl
 mux_table true true false = refl
@@ -104,7 +104,7 @@ mux_table false true false = refl
 mux_table false false true = refl
 mux_table false false false = refl
 
-same_table : (a b c : Bool) → chosen 170 (bit a) (bit b) (bit c) ≡ bit (a)
+pub same_table : (a b c : Bool) → chosen 170 (bit a) (bit b) (bit c) ≡ bit (a)
 unfolding chosen
 same_table true true true = refl
 same_table true true false = refl
@@ -116,29 +116,12 @@ same_table false false true = refl
 same_table false false false = refl
 
 -- a bit is that of a Bool
-as_bit : (P : ℕ → Type 0) (n : ℕ) → n < 2 → ((d : Bool) → P (bit d)) → P n
+pub as_bit : (P : ℕ → Type 0) (n : ℕ) → n < 2 → ((d : Bool) → P (bit d)) → P n
 as_bit P n h f = subst P (bit_eqb n h) (f (eqb n 1))
 
-three : (q : ℕ) (f : Bool → Bool → Bool → Bool) → ((a b c : Bool) → chosen q (bit a) (bit b) (bit c) ≡ bit (f a b c)) → (a b c : Bool) (x y z : ℕ)
+pub three : (q : ℕ) (f : Bool → Bool → Bool → Bool) → ((a b c : Bool) → chosen q (bit a) (bit b) (bit c) ≡ bit (f a b c)) → (a b c : Bool) (x y z : ℕ)
     → x ≡ bit a → y ≡ bit b → z ≡ bit c → chosen q x y z ≡ bit (f a b c)
 three q f t a b c x y z ex ey ez = rw (ex, ey, ez) (t a b c)
-
-module _ (n : Netlist) (s : Setting) (c : Contents) (g : ℕ → Bool) (o b x y z u v w : ℕ) (hu : u < 2) (hv : v < 2) (hw : w < 2) where
-  -- u, v, w: what was read for the three inputs; of an input that the kind has not it may be anything
-  pub gate_value : (kind : ℕ) → Computed kind → (0 < input_count kind → u ≡ bit (g x)) → (1 < input_count kind → v ≡ bit (g y)) → (2 < input_count kind → w ≡ bit (g z))
-      → chosen (table_of kind o) u v w ≡ bit (node_value n s c g (N.node_of kind o b x y z))
-  unfolding table_of N.node_of input_count
-  gate_value kind constant eu ev ew = as_bit (λ m. chosen (pick (o ≡? 1) 255 0) m v w ≡ bit (o ≡? 1)) u hu (λ d.
-      as_bit (λ m. chosen (pick (o ≡? 1) 255 0) (bit d) m w ≡ bit (o ≡? 1)) v hv (λ e.
-      as_bit (λ m. chosen (pick (o ≡? 1) 255 0) (bit d) (bit e) m ≡ bit (o ≡? 1)) w hw (λ f. const_table (o ≡? 1) d e f)))
-  gate_value kind and_gate eu ev ew = as_bit (λ m. chosen 136 u v m ≡ bit (g x && g y)) w hw (λ f. three 136 (λ a b c. a && b) and_table (g x) (g y) f u v (bit f) (eu (omega arith)) (ev (omega arith)) refl)
-  gate_value kind or_gate eu ev ew = as_bit (λ m. chosen 238 u v m ≡ bit (g x || g y)) w hw (λ f. three 238 (λ a b c. a || b) or_table (g x) (g y) f u v (bit f) (eu (omega arith)) (ev (omega arith)) refl)
-  gate_value kind xor_gate eu ev ew = as_bit (λ m. chosen 102 u v m ≡ bit (xor_b (g x) (g y))) w hw (λ f. three 102 (λ a b c. xor_b a b) xor_table (g x) (g y) f u v (bit f) (eu (omega arith)) (ev (omega arith)) refl)
-  gate_value kind not_gate eu ev ew = as_bit (λ m. chosen 85 u v m ≡ bit (not (g x))) w hw (λ f. as_bit (λ m. chosen 85 u m (bit f) ≡ bit (not (g x))) v hv (λ e.
-      three 85 (λ a b c. not a) not_table (g x) e f u (bit e) (bit f) (eu (omega arith)) refl refl))
-  gate_value kind mux eu ev ew = three 216 (λ a b c. cond a b c) mux_table (g x) (g y) (g z) u v w (eu (omega arith)) (ev (omega arith)) (ew (omega arith))
-  gate_value kind output eu ev ew = as_bit (λ m. chosen 170 u v m ≡ bit (g x)) w hw (λ f. as_bit (λ m. chosen 170 u m (bit f) ≡ bit (g x)) v hv (λ e.
-      three 170 (λ a b c. a) same_table (g x) e f u (bit e) (bit f) (eu (omega arith)) refl refl))
 
 -- a gate's step: its words are the node's, and what it reads is due
 pub record GateWords (ws t : List ℕ) (due : ℕ → ℕ) (i k : ℕ) : Type 0 where
@@ -149,18 +132,3 @@ pub record GateWords (ws t : List ℕ) (due : ℕ → ℕ) (i k : ℕ) : Type 0 
   pub first : 0 < input_count (node_word ws k 0) → (word t i 2 ≡ node_word ws k 3) × ((node_word ws k 3 < size ws) × (due (node_word ws k 3) ≤ i))
   pub second : 1 < input_count (node_word ws k 0) → (word t i 3 ≡ node_word ws k 4) × ((node_word ws k 4 < size ws) × (due (node_word ws k 4) ≤ i))
   pub third : 2 < input_count (node_word ws k 0) → (word t i 4 ≡ node_word ws k 5) × ((node_word ws k 5 < size ws) × (due (node_word ws k 5) ≤ i))
-
-pub gate_rule : {ws t : List ℕ} {due : ℕ → ℕ} {i k : ℕ} → Ordered (netlist ws) → D.node_of (netlist ws) k ≡ node_at_of ws k → GateWords ws t due i k
-    → (s : Setting) (c : Contents) (v : List ℕ) → Bits v → Settled ws due s c i v → gate_of ws t due i v ≡ bit (net (netlist ws) s c (word t i 0))
-unfolding node_at_of
-gate_rule {ws} {t} {due} {i} {k} o e g s c v b h =
-    rw g.table (gate_value (netlist ws) s c (net (netlist ws) s c) (node_word ws k 1) (node_word ws k 2) (node_word ws k 3) (node_word ws k 4) (node_word ws k 5)
-    (get_or v (word t i 2) 0) (get_or v (word t i 3) 0) (get_or v (word t i 4) 0) (b.low (word t i 2)) (b.low (word t i 3)) (b.low (word t i 4)) (node_word ws k 0) g.kind
-    (λ l. read (word t i 2) (node_word ws k 3) (g.first l))
-    (λ l. read (word t i 3) (node_word ws k 4) (g.second l))
-    (λ l. read (word t i 4) (node_word ws k 5) (g.third l)))
-    ∙ ap (λ (x : N.Node). bit (node_value (netlist ws) s c (net (netlist ws) s c) x)) (sym e) ∙ sym (ap bit (net_is (netlist ws) o s c k g.inside))
-    ∙ ap (λ (j : ℕ). bit (net (netlist ws) s c j)) (sym g.target)
-  where
-    read : (p x : ℕ) → (p ≡ x) × ((x < size ws) × (due x ≤ i)) → get_or v p 0 ≡ bit (net (netlist ws) s c x)
-    read p x f = ap (λ (j : ℕ). get_or v j 0) f.0 ∙ h.holds x f.1.0 f.1.1

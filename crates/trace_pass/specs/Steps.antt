@@ -16,7 +16,7 @@ use Rattle.spec_netlist.specs.Accept.{input_count, member}
 use Rattle.trace_cells.specs.Digits.{Bits}
 use Rattle.trace_cells.specs.Cells.{left_of, right_of_of, outs_of, total_of, lesser_of, greater_of, answer_of}
 use Rattle.trace_pass.specs.Plan.{size, word, place, Settled, GateStep, ArithmeticStep, ComparisonStep}
-use Rattle.trace_pass.specs.Gates.{GateWords, gate_rule, Computed, constant, and_gate, or_gate, xor_gate, not_gate, mux, output}
+use Rattle.trace_pass.specs.Gates.{GateWords, Computed, constant, and_gate, or_gate, xor_gate, not_gate, mux, output}
 use Rattle.trace_pass.specs.Sums.{Agree, arithmetic_bit, comparison_bit}
 
 -- the size is the header's net count, and a node is read from its six words
@@ -124,14 +124,6 @@ comparison_step {ws} {t} {due} {i} {cell} o w only = record {
     some_bits = w.some_bits;
   };
   one = record { inside = w.inside; only = only; rule = comparison_rule o w };
-}
-
-pub gate_step : {ws t : List ℕ} {due : ℕ → ℕ} {i k : ℕ} → Ordered (netlist ws) → GateWords ws t due i k
-    → (word t i 2 < size ws) × ((word t i 3 < size ws) × (word t i 4 < size ws))
-    → ((j : ℕ) → j < size ws → due j ≤ i + 1 → (j ≡ word t i 0 → ⊥) → due j ≤ i) → GateStep ws t due i
-gate_step {ws} {t} {due} {i} {k} o w x only = record {
-  inputs = x;
-  one = record { inside = omega (arith, w.inside, w.target); only = only; rule = gate_rule o (node_is ws k w.inside) w };
 }
 
 -- ---- a record cut from the list reads as the list does from its place on ----

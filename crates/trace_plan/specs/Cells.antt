@@ -7,9 +7,11 @@ use Rattle.spec_tests.specs.Rules.{Fine}
 use Rattle.spec_rules.specs.NetlistImage as N
 use Rattle.spec_rules.specs.NetlistImage.{node_word, node_at_of, records_with, arithmetic_of, comparison_of, netlist}
 use Rattle.spec_netlist.specs.Accept.{count_of, accepts}
-use Rattle.law_told.specs.Told.{told, owner}
+use Rattle.law_told.specs.Told.{told}
+use Rattle.law_told.proofs.Told.{owner}
 use Rattle.law_told.specs.Owned.{Own, Within}
-use Rattle.law_told.specs.Ordered.{ordered, no_arithmetic, no_comparison, belongs_cell, cell_number, arithmetic_cell_law, comparison_cell_law, arithmetic_there, comparison_there}
+use Rattle.law_told.specs.Ordered.{no_arithmetic, no_comparison, belongs_cell, cell_number, arithmetic_cell_law, comparison_cell_law, arithmetic_there, comparison_there}
+use Rattle.law_told.proofs.Ordered.{ordered}
 use Rattle.law_sorts.specs.Found.{numbered}
 use Rattle.law_sorts.specs.Cells.{ArithmeticTold, ComparisonTold, arithmetic_told, comparison_told}
 use Rattle.trace_cells.specs.Digits.{Nets}

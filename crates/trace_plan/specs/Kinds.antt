@@ -7,11 +7,12 @@ use Rattle.spec_rules.specs.NetlistImage as N
 use Rattle.spec_rules.specs.NetlistImage.{netlist, node_word, node_at_of}
 use Rattle.spec_netlist.specs.Accept.{nets, wrong_node_word, accepts}
 use Rattle.law_told.specs.Told.{untrue, pick_no, told, few, list_starts_law, node_right}
-use Rattle.law_told.specs.Ordered.{ordered}
+use Rattle.law_told.proofs.Ordered.{ordered}
 use Rattle.law_reads.specs.Reads.{node_of, is_source}
 use Rattle.trace_pass.specs.Plan.{size, word}
 use Rattle.trace_pass.specs.Gates.{table_of, Computed, constant, and_gate, or_gate, xor_gate, not_gate, mux, output, GateWords}
-use Rattle.trace_pass.specs.Steps.{size_is, node_is, gate_step, gate_lower}
+use Rattle.trace_pass.specs.Steps.{size_is, node_is, gate_lower}
+use Rattle.trace_pass.proofs.Steps.{gate_step}
 use Rattle.trace_plan.specs.Building.{at, Building, Pushed, only_new, given_one, pushed}
 
 pub kind_few : (ws : List ℕ) → accepts ws ≡ Fine → (k : ℕ) → k < nets ws → node_word ws k 0 ≤ 11

@@ -15,7 +15,8 @@ use Rattle.spec_rules.specs.Listing.{together}
 use Rattle.spec_netlist.specs.Accept.{nets, belongs, accepts}
 use Rattle.spec_trace.specs.Opened.{ports_with, nets_with, input_nets}
 use Rattle.spec_trace.specs.Trace.{setting_by}
-use Rattle.law_told.specs.Told.{untrue, both, pick_yes, pick_no, Told, told, Right, records_right, owner}
+use Rattle.law_told.specs.Told.{untrue, both, pick_yes, pick_no, Told, told, Right}
+use Rattle.law_told.proofs.Told.{records_right, owner}
 use Rattle.law_told.specs.Ports.{PortTold, port_told, one_port}
 use Rattle.law_sorts.specs.Found.{of_sort, has_word}
 use Rattle.law_sorts.specs.Owners.{port_there, input_sort}

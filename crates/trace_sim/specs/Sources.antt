@@ -15,9 +15,11 @@ use Rattle.spec_rules.specs.NetlistImage as N
 use Rattle.spec_rules.specs.NetlistImage.{node_word, node_at_of, records_with, register_bit_of, memory_port_of, memory_of, netlist}
 use Rattle.spec_rules.specs.Step.{Setting, Contents, net, node_value, find_bit, find_memory, data_width, memory_bit}
 use Rattle.spec_netlist.specs.Accept.{belongs, member, second_data, own_nets, accepts}
-use Rattle.law_told.specs.Told.{untrue, pick_yes, pick_no, Told, told, owner}
+use Rattle.law_told.specs.Told.{untrue, pick_yes, pick_no, Told, told}
+use Rattle.law_told.proofs.Told.{owner}
 use Rattle.law_told.specs.Members.{member_here}
-use Rattle.law_told.specs.Ordered.{ordered, belongs_cell}
+use Rattle.law_told.specs.Ordered.{belongs_cell}
+use Rattle.law_told.proofs.Ordered.{ordered}
 use Rattle.law_told.specs.Ports.{unique}
 use Rattle.law_reads.specs.Reads.{net_is, member_there, member_left}
 use Rattle.law_sorts.specs.Found.{Found, found, has_word}

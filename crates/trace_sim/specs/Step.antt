@@ -15,7 +15,8 @@ use Rattle.spec_rules.specs.NetlistImage.{node_word, port_length, records_with, 
 use Rattle.spec_rules.specs.Step.{Setting, Contents, Access, perhaps, act, net, net_access, net_accesses, data_width, memory_bit, read_next, write_next, data_next, words_next, of_netlist}
 use Rattle.spec_netlist.specs.Accept.{nets, belongs, member, second_data, count_of, accepts}
 use Rattle.spec_trace.specs.Opened.{no_input, register_unfit, second_unfit, memory_unfit}
-use Rattle.law_told.specs.Told.{or_split, pick_yes, pick_no, told, owner}
+use Rattle.law_told.specs.Told.{or_split, pick_yes, pick_no, told}
+use Rattle.law_told.proofs.Told.{owner}
 use Rattle.law_told.specs.Members.{no_member, member_split}
 use Rattle.law_told.specs.Owned.{spot}
 use Rattle.law_told.specs.Ordered.{belongs_cell}

@@ -10,7 +10,8 @@ use Rattle.spec_netlist.specs.Accept.{used, list_at_of, accepts}
 use Rattle.spec_netlist.specs.Given.{list_from, record_from, record_given}
 use Rattle.law_told.specs.Told.{pick_yes, told, list_starts_law, few_words, length_some}
 use Rattle.law_told.specs.Ordered.{only_append}
-use Rattle.law_told.specs.Given.{Gives, list_append, given_records, given_end}
+use Rattle.law_told.specs.Given.{Gives, list_append}
+use Rattle.law_told.proofs.Given.{given_records, given_end}
 use Rattle.trace_walk.specs.Places.{Begins, Placed, Places}
 
 abbrev of_sort : ℕ → List (List ℕ) → List (List ℕ)

@@ -19,11 +19,12 @@ use Rattle.net_view.specs.View.{netlist_of}
 use Rattle.scratch_view.specs.View.{limit_of}
 use Rattle.law_walk.specs.Tables.{Has}
 use Rattle.law_walk.specs.Kept.{Table, NetsGive, Makes}
-use Rattle.law_walk.specs.Reads.{After, AllAfter, known_after}
-use Rattle.law_walk.specs.Wholes.{whole_made}
-use Rattle.law_walk.specs.Parts.{range_made}
+use Rattle.law_walk.specs.Reads.{After, AllAfter}
+use Rattle.law_walk.proofs.ReadsLaws.{known_after}
+use Rattle.law_walk.proofs.Wholes.{whole_made}
+use Rattle.law_walk.proofs.Parts.{range_made}
 use Rattle.law_phases.specs.Supply.{supply}
-use Rattle.law_module.specs.Good.{good}
+use Rattle.law_module.proofs.Good.{good}
 use Rattle.walk_plan.specs.Plan.{step_needs, whole_needs}
 use Rattle.walk_plan.specs.Kinds.{range_begins}
 use Rattle.walk_plan.specs.Fits.{AllFit, whole_fits, range_fits}

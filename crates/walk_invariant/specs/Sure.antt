@@ -12,9 +12,9 @@ use Rattle.scratch_view.specs.Bounds.{expr_count, expr_width_law}
 use Rattle.law_walk.specs.Kept.{WalkedTo, Inv, Walks}
 use Rattle.law_walk.specs.Writes.{inv_mark}
 use Rattle.law_walk.specs.Reads.{Asked}
-use Rattle.law_walk.specs.Walk.{need_walk}
+use Rattle.law_walk.proofs.Walk.{need_walk}
 use Rattle.law_phases.specs.Supply.{supply}
-use Rattle.law_module.specs.Good.{good}
+use Rattle.law_module.proofs.Good.{good}
 use Rattle.walk_view.specs.View.{walk_state, Sure, cost_of, There, Gives}
 use Rattle.walk_view.specs.declared.Lowered.{Lowered}
 use Rattle.walk_view.specs.declared.Lowered.TheVariants.{Done}

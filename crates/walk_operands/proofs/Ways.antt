@@ -18,7 +18,8 @@ use Rattle.spec_model.specs.Ranges.{width_at, adder_width, narrow_by, range_at}
 use Rattle.spec_model.specs.Ranges as ranges
 use Rattle.spec_model.specs.Lowering.{State, Operands, operands_of, range_nets, whole_nets, whole_net, part_nets, truncated, resized, lower_unary, lower_binary, build_operands, build_binary, build_mux}
 use Rattle.word_laws.specs.Widths.{UnWidth, BinWidth, BelowE, word_width}
-use Rattle.word_ranges.specs.Fusion.{Operate, operands}
+use Rattle.word_ranges.specs.Fusion.{Operate}
+use Rattle.word_ranges.proofs.Fusion.{operands}
 use Rattle.expr_range_rows.specs.Rows.{narrow_word}
 use Rattle.image_records.specs.Expr.{unary_means, binary_means}
 use Rattle.image_records.specs.declared.UnaryOp.{UnaryOp}

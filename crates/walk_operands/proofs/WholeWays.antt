@@ -23,7 +23,8 @@ use Rattle.spec_model.specs.Ranges as ranges
 use Rattle.spec_model.specs.Lowering.{State, is_add, operands_of, operand_steps, wholes, backwards, kind_steps, whole_steps, signal_nets, range_nets, part_nets, lower_unary, lower_binary, whole_net, whole_nets, build_mux, build_binary, build_kind, build_whole}
 use Rattle.word_laws.specs.Runs.{length_from}
 use Rattle.word_laws.specs.Widths.{AllBelow, sum_of, UnWidth, BinWidth, BelowE, WidthOk}
-use Rattle.word_ranges.specs.Fusion.{CarryBelow, operands}
+use Rattle.word_ranges.specs.Fusion.{CarryBelow}
+use Rattle.word_ranges.proofs.Fusion.{operands}
 use Rattle.image_records.specs.Expr.{unary_means, binary_means, kind_means, Decoded}
 use Rattle.image_records.specs.declared.UnaryOp.{UnaryOp}
 use Rattle.image_records.specs.declared.BinaryOp.{BinaryOp}

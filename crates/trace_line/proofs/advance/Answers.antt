@@ -1,7 +1,7 @@
 -- `trace_line::advance` meets its contract. Assumes nothing.
 use Rattle.trace_clash.specs.Words.{addressed}
 use Rattle.trace_line.specs.State.{memories_fit}
-use Rattle.trace_line.specs.Standing.{clash_taken, advance_ready, advance_taken}
+use Rattle.trace_line.proofs.Standing.{clash_taken, advance_ready, advance_taken}
 use borrow.Author.Rules.{rules}
 use Rattle.trace_line.proofs.advance.Goals as goal
 

@@ -1,4 +1,4 @@
--- `lower_binary`, the unary arm of `lower_expression` and the end of `lower_add_with_carry`, made again. Assumes nothing.
+-- What is proved of specs/Operators: `lower_binary`, the unary arm of `lower_expression` and the end of `lower_add_with_carry`, made again. Assumes nothing.
 use Rattle.std.specs.Prelude.{◌≡◌, Bool, true, false, List, ◌++◌, ℕ, ◌-◌, ◌<◌, length, replicate}
 use Rattle.std.proofs.Common.{sym, ◌∙◌}
 use Rattle.std.proofs.Math.Option.{Option, none, some}
@@ -14,9 +14,9 @@ use Rattle.law_nets.specs.Sound.{count, Sound, At, StandsAll}
 use Rattle.law_nets.specs.Run.{Run}
 use Rattle.law_operators.specs.Trees.{reduce_run, equal_words_run}
 use Rattle.law_repeats.specs.Again.{Again, again_here, again_bind, again_then}
-use Rattle.law_repeats.specs.Gates.{again_constant, again_nots, again_gates}
-use Rattle.law_repeats.specs.Trees.{again_tree, again_equal_words, again_shift}
-use Rattle.law_repeats.specs.Cells.{again_comparison, again_arithmetic}
+use Rattle.law_repeats.proofs.Gates.{again_constant, again_nots, again_gates}
+use Rattle.law_repeats.proofs.Trees.{again_tree, again_equal_words, again_shift}
+use Rattle.law_repeats.proofs.Cells.{again_comparison, again_arithmetic}
 
 -- a word and then its complement, bit by bit
 then_not : {w : At (List Bool)} (f : Netlist → Made (List ℕ)) (l : Netlist) → Again f l → Run l (λ zs l'. StandsAll l' zs w) (f l) → Again (λ l'. and_then (f l') (λ (r, l₁). each add_not r l₁)) l

@@ -1,4 +1,4 @@
--- Trees of gates, equality and shifts made again. Assumes nothing.
+-- What is proved of specs/Trees: Trees of gates, equality and shifts made again. Assumes nothing.
 use Rattle.std.specs.Prelude.{Bool, ltb, length}
 use Rattle.std.proofs.Math.Bool.{true, false}
 use mathlib.Core.List.{List, [], ◌∷◌}
@@ -15,7 +15,8 @@ use Rattle.law_gates.specs.Gates.{xor_run}
 use Rattle.law_gates.specs.Many.{both_run}
 use Rattle.law_operators.specs.Trees.{level_run, equal_run}
 use Rattle.law_repeats.specs.Again.{below_stays, Again, again_here, again_bind, again_then}
-use Rattle.law_repeats.specs.Gates.{again_constant, again_not, again_xor, again_gate, again_cons, again_constants, again_muxes}
+use Rattle.law_repeats.specs.Gates.{again_cons}
+use Rattle.law_repeats.proofs.Gates.{again_constant, again_not, again_xor, again_gate, again_constants, again_muxes}
 
 -- ---- trees ----
 

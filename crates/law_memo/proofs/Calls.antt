@@ -1,4 +1,4 @@
--- Request Q-10 (docs/requests/Q-10.md), of the call: for every image that the checks pass, whatever the limits and the buffers' lengths, with either flag, each bit of an
+-- What is proved of specs/Calls: Request Q-10 (docs/requests/Q-10.md), of the call: for every image that the checks pass, whatever the limits and the buffers' lengths, with either flag, each bit of an
 -- expression has one net. Assumes nothing.
 use Rattle.std.specs.Prelude.{ℕ, ◌≤◌, Bool, List, ◌≡◌}
 use Rattle.std.proofs.Common.{arith}
@@ -9,9 +9,9 @@ use Rattle.spec_rules.specs.Checks.{checked}
 use Rattle.spec_model.specs.Words.{absent}
 use Rattle.law_walk.specs.Good.{Good}
 use Rattle.check_image.specs.Accepted.{accepted}
-use Rattle.law_module.specs.Good.{good}
+use Rattle.law_module.proofs.Good.{good}
 use Rattle.law_memo.specs.Memo.{OneNet}
-use Rattle.law_memo.specs.Claims as Claims
+use Rattle.law_memo.proofs.Claims as Claims
 use Rattle.law_memo.specs.Passed.{asks_reached, calls_reached, call_ends}
 
 -- of a well-formed module

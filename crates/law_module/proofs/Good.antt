@@ -1,4 +1,4 @@
--- An accepted image decodes to a good module: `good`. Assumes nothing.
+-- What is proved of specs/Good: An accepted image decodes to a good module: `good`. Assumes nothing.
 -- That no bit has two drivers is told once for each pair of records, by the later of the two.
 use Rattle.std.specs.Prelude.{ℕ, ◌+◌, ◌<◌, List, ◌≡◌, length}
 use Rattle.std.proofs.Math.Option.{some}
@@ -16,7 +16,8 @@ use Rattle.check_image.specs.Accepted.{Accepted}
 use Rattle.law_accepted.specs.Decode.{lengths}
 use Rattle.law_accepted.specs.Formed.{readable}
 use Rattle.law_walk.specs.Good.{Undriven, GoodAssign, GoodRegister, GoodPort, GoodMemory, Good}
-use Rattle.law_module.specs.Records.{assign_at_law, register_at_law, memory_at_law, signal_there, signal_width_law, no_input_law, expr_there, expr_width_law, second_at, reset_at}
+use Rattle.law_module.specs.Records.{assign_at_law, register_at_law, memory_at_law, signal_there, signal_width_law, no_input_law, expr_there, expr_width_law, reset_at}
+use Rattle.law_module.proofs.Records.{second_at}
 
 module _ (s : List ℕ) (g : Accepted s) where
   -- ---- the drivers of the image, as it says them ----

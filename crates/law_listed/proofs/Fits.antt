@@ -1,4 +1,4 @@
--- The words of a sound netlist whose nodes and records are listed are accepted. Assumes nothing.
+-- What is proved of specs/Fits: The words of a sound netlist whose nodes and records are listed are accepted. Assumes nothing.
 use Prim.Native.Nat.{ℕ, zero, suc, ◌≤◌, ◌<◌}
 use Rattle.std.proofs.Common.{not-suc-le-zero, arith, sym, ◌∙◌, append_assoc}
 use Rattle.std.specs.Prelude.{◌≡◌, refl, false, List, [], ◌∷◌, ◌++◌, length, get_or}
@@ -10,13 +10,14 @@ use Rattle.net_view.specs.View.{Formed, AllFormed, Fit}
 use Rattle.law_nets.specs.Sound.{Sound}
 use Rattle.spec_netlist.specs.Accept.{wrong_node_word, wrong_word, alone, accepts}
 use Rattle.spec_netlist.specs.Given.{Same}
-use Rattle.law_told.specs.Told.{neither, pick_yes, pick_no, memory_length_law, right_extent}
+use Rattle.law_told.specs.Told.{neither, pick_yes, pick_no, memory_length_law}
+use Rattle.law_told.proofs.Told.{right_extent}
 use Rattle.law_told.specs.If.{Rights}
 use Rattle.law_written.specs.Written.{same, Fitting, fitting_accepted}
 use Rattle.law_listed.specs.Listed.{Listed}
 use Rattle.law_listed.specs.NodeWords.{node_right, owned_right}
-use Rattle.law_listed.specs.RecordWords.{port_right, register_right, arithmetic_right, comparison_right}
-use Rattle.law_listed.specs.MemoryWords.{memory_right}
+use Rattle.law_listed.proofs.RecordWords.{port_right, register_right, arithmetic_right, comparison_right}
+use Rattle.law_listed.proofs.MemoryWords.{memory_right}
 
 module _ (ws : List ℕ) (l : Netlist) (s : Same ws l) (place : ℕ → ℕ → ℕ → ℕ) (q : Sound l) (g : Listed l place) where
   module _ (earlier : List (List ℕ)) (r : List ℕ) (rs : List (List ℕ)) (e : l.records ≡ earlier ++ (r ∷ rs)) (o : Formed r) where

@@ -1,4 +1,4 @@
--- `connect_outputs`, and with it all of `lower`: what holds of the state at its end. Assumes nothing.
+-- What is proved of specs/Outputs: `connect_outputs`, and with it all of `lower`: what holds of the state at its end. Assumes nothing.
 use Rattle.std.specs.Prelude.{◌≡◌, Bool, get_or}
 use Rattle.std.proofs.Math.Path.{refl, ap}
 use Rattle.std.proofs.Common.{◌∙◌, zero-add, not-suc-le-zero}
@@ -16,19 +16,27 @@ use Rattle.spec_model.specs.Builder.{refused, done, and_then, Made, add_output_p
 use Rattle.spec_model.specs.Lowering.{State, with_netlist, signal_width, signal_nets, signal_steps, lower_all, start, reserve_sources, connect_memories, connect_registers, connect_output, connect_outputs, lower_state}
 use Rattle.word_laws.specs.Shift.{tab_ext}
 use Rattle.law_nets.specs.Meaning.{meaning_of}
-use Rattle.law_nets.specs.Run.{later_trans, Meets, meets_bind, meets_map, Limit}
+use Rattle.law_nets.specs.Run.{Meets, meets_bind, meets_map, Limit}
+use Rattle.law_nets.proofs.Run.{later_trans}
 use Rattle.law_gates.specs.Added.{recorded_others}
-use Rattle.law_gates.specs.Ports.{OutputPort, output_port_run, output_outputs, output_nodes}
+use Rattle.law_gates.specs.Ports.{OutputPort, output_port_run, output_nodes}
+use Rattle.law_gates.proofs.Ports.{output_outputs}
 use Rattle.law_walk.specs.Good.{Good}
 use Rattle.law_walk.specs.Kept.{Any, more_refl, WalkedTo}
 use Rattle.law_walk.specs.Writes.{inv_netlist}
-use Rattle.law_walk.specs.Reads.{AllAfter, read_bits}
-use Rattle.law_walk.specs.Walk.{bits_asked, all_walk}
+use Rattle.law_walk.specs.Reads.{AllAfter}
+use Rattle.law_walk.proofs.ReadsLaws.{read_bits}
+use Rattle.law_walk.specs.Walk.{bits_asked}
+use Rattle.law_walk.proofs.Walk.{all_walk}
 use Rattle.law_phases.specs.Supply.{supply}
-use Rattle.law_phases.specs.Made.{limited_later, Connected, memories_later, registers_later, connected_grew, one_output}
-use Rattle.law_phases.specs.Sources.{got, Reserved, started, sources_run, connected}
-use Rattle.law_phases.specs.Memories.{memories_walk}
-use Rattle.law_phases.specs.Registers.{bits_of, AllBits, registers_walk}
+use Rattle.law_phases.specs.Made.{limited_later, Connected}
+use Rattle.law_phases.proofs.Made.{memories_later, registers_later, connected_grew, one_output}
+use Rattle.law_phases.specs.Sources.{got, Reserved, started, sources_run}
+use Rattle.law_phases.proofs.Sources.{connected}
+use Rattle.law_phases.proofs.Memories.{memories_walk}
+use Rattle.law_phases.specs.Registers.{bits_of}
+use Rattle.law_phases.proofs.Registers.{registers_walk}
+use Rattle.law_phases.proofs.Registers.{AllBits}
 
 module _ (m : Module) (good : Good m) (ob : Bool) (lim : ℕ × ℕ) where
   -- a signal that is no output

@@ -1,0 +1,25 @@
+-- What is proved of specs/Records: The records of the decoded module, each by its number: what it is in the image. Assumes nothing.
+use Rattle.std.specs.Prelude.{ℕ, zero, suc, ◌+◌, ◌<◌, Bool, true, false, List, ◌≡◌, length}
+use Rattle.std.proofs.Math.Option.{none, some}
+use Rattle.std.proofs.Math.Path.{refl, ap}
+use Rattle.std.proofs.Common.{arith, add-zero, add-suc, suc-add, zero-add}
+use Rattle.std.proofs.Math.ListN.{get_elem?}
+use Rattle.spec_rtl.specs.Rtl as R
+use Rattle.spec_rtl.specs.Rtl.{dir_of}
+use Rattle.spec_tests.specs.Rules.{◌≡?◌, pick, each, list_of}
+use Rattle.spec_tests.specs.Laws.{yes_eq, no_eq}
+use Rattle.spec_rules.specs.Image as image
+use Rattle.spec_rules.specs.Image.{absent, decode, count_at_of, field, has_second, second_port}
+use Rattle.spec_model.specs.Ranges.{width_at}
+use Rattle.spec_model.specs.Lowering.{signal_width}
+use Rattle.law_walk.specs.Tables.{none_some, some_eq}
+use Rattle.law_accepted.specs.Decode.{signal_decoded, expr_decoded, lengths}
+use Rattle.law_module.specs.Records.{Second}
+
+pub second_at : (s : List ℕ) (k : ℕ) (q : R.Port) → (image.memory_at s k).second ≡ some q → Second s k q
+unfolding image.memory_at pick
+second_at s k q e = go (field s 5 k has_second ≡? 0) refl e
+  where
+    go : (t : Bool) → (field s 5 k has_second ≡? 0) ≡ t → pick t none (some (image.port_of (λ i. field s 5 k (second_port + i)))) ≡ some q → Second s k q
+    go true z e = absurd (none_some e)
+    go false z e = record { there = no_eq _ 0 z; is = some_eq e }
