@@ -1,8 +1,5 @@
 -- What is proved of specs/Exported: The same table for the exported call: what `struo_lower`, by its contract, answers and leaves. Assumes nothing.
-use Rattle.std.specs.Prelude.{ℕ, List}
-use Rattle.spec_call.specs.Call as Call
-use Rattle.struo.specs.Answers.{Answers}
-use Rattle.bench.specs.Row.{Row, RowHolds, Promised}
+use Rattle.bench.specs.Row.{RowHolds}
 use Rattle.bench.specs.Table.{table, Each, each}
 use Rattle.bench.proofs.Table.{every_row}
 use Rattle.bench.specs.Exported.{Lowers, exported}

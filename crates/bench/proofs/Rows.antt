@@ -1,9 +1,7 @@
 -- What is proved of specs/Rows: The rows of the bench (docs/RULES.md), each computed by the checker from the image's bytes. K3, K4 and K10 stand as the bench writes
 -- them, where constant operands fold (docs/DIFFERENCES.md, 1), with the number that their sum is; and primed, with operands that
 -- have those values but no constant nets. Assumes nothing.
-use Rattle.std.specs.Prelude.{ℕ, ◌+◌, ◌*◌, List, [], ◌∷◌, ◌≡◌, refl}
-use Rattle.bench.specs.Images as Images
-use Rattle.bench.specs.Row.{Row, Numbers, Nets, AdderWidths, Carries, Outputs, ResetValue}
+use Rattle.std.specs.Prelude.{◌≡◌, refl}
 use Rattle.bench.specs.Carried.{seen, said}
 use Rattle.bench.specs.Computing.{computing}
 use Rattle.bench.specs.Rows.{k2}

@@ -1,13 +1,10 @@
 -- What is proved of specs/Table: The joint table of the bench cases: for each row, what every call that keeps the lowering call's promise answers and leaves; and in
 -- which rows the number that comes out is not the bench's. Assumes nothing.
-use Rattle.std.specs.Prelude.{ℕ, Bool, not, List, [], ◌∷◌, map, ◌≡◌, refl}
+use Rattle.std.specs.Prelude.{[], ◌∷◌, map, ◌≡◌, refl}
 use Rattle.spec_tests.specs.Rules.{◌≡?◌, ◌and◌, pick, only, same_text}
-use Rattle.spec_call.specs.Call as Call
-use Rattle.spec_call.specs.Call.{numbers_of}
-use Rattle.law_call.proofs.Calls.{promise_met}
 use Rattle.bench.specs.Row.{Row, RowHolds, Promised}
 use Rattle.bench.specs.Carried.{seen, said, carried}
-use Rattle.bench.specs.Rows.{k1, k2, k3, k3_sum, k3', k4, k4_sum, k4', k5, k6, k7, k8, k9, k10, k10_sum, k10', k11, k12, k1_seen, k3_seen, k3_sum_seen, k3'_seen, k4_seen, k4_sum_seen, k4'_seen, k5_seen, k6_seen, k7_seen, k8_seen, k9_seen, k10_seen, k10_sum_seen, k10'_seen, k11_seen, k12_seen}
+use Rattle.bench.specs.Rows.{k1_seen, k3_seen, k3_sum_seen, k3'_seen, k4_seen, k4_sum_seen, k4'_seen, k5_seen, k6_seen, k7_seen, k8_seen, k9_seen, k10_seen, k10_sum_seen, k10'_seen, k11_seen, k12_seen}
 use Rattle.bench.proofs.Rows.{k2_seen}
 use Rattle.bench.specs.Table.{Each, differs, each, end, table}
 

@@ -3,7 +3,6 @@ use Rattle.std.specs.Prelude.{ℕ, List}
 use Rattle.spec_call.specs.Call as Call
 use Rattle.struo.specs.Answers.{Answers}
 use Rattle.bench.specs.Row.{Row, RowHolds, Promised}
-use Rattle.bench.specs.Table.{table, Each, each}
 
 -- `struo_lower` on a row's image with its limits
 abbrev pub Lowers : Row → List ℕ → List ℕ → List ℕ → List ℕ → List ℕ → Type 0

@@ -2,6 +2,7 @@
 
 // Stands for a net, a signal, an expression or a word that is not there.
 #![tactic(auto)]
+
 pub const ABSENT: u32 = 4294967295;
 // ---- kinds of nodes, by struo-ir's `NodeKind` ----
 pub const INPUT: u32 = 0;

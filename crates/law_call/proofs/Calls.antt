@@ -2,10 +2,10 @@
 -- met, and that both buffers keep their lengths. Assumes nothing.
 use Rattle.std.specs.Prelude.{ℕ, ◌≤◌, false, List, ◌++◌, ◌≡◌, refl, length, drop, replicate}
 use Rattle.std.proofs.Math.Option.{some}
-use Rattle.std.proofs.Common.{sym, ap, subst, ◌∙◌, arith, length-append, length-drop}
+use Rattle.std.proofs.Common.{sym, ap, subst, ◌∙◌, arith}
 use Rattle.std.proofs.Math.ListN.{length-replicate}
 use Rattle.spec_rtl.specs.Rtl.{Valuation}
-use Rattle.spec_tests.specs.Rules.{Answer, Fine, Refused}
+use Rattle.spec_tests.specs.Rules.{Answer, Fine}
 use Rattle.spec_rules.specs.Image.{decode}
 use Rattle.spec_rules.specs.Checks.{checked, netlist_need, scratch_need}
 use Rattle.spec_rules.specs.NetlistImage.{netlist}
@@ -13,8 +13,8 @@ use Rattle.spec_rules.specs.Step.{Setting, Contents, Machine, settled, run, of_m
 use Rattle.spec_rules.specs.Promise as Promise
 use Rattle.spec_rules.specs.Promise.{over, left}
 use Rattle.spec_model.specs.Words.{absent, words}
-use Rattle.spec_model.specs.Builder.{Out, refused, done}
-use Rattle.spec_model.specs.Lowering.{State, signal_bit, expression_net, lower_state, lower_with, lower}
+use Rattle.spec_model.specs.Builder.{Out, done}
+use Rattle.spec_model.specs.Lowering.{State, signal_bit, expression_net, lower_state, lower}
 use Rattle.spec_call.specs.Call as Call
 use Rattle.spec_call.specs.Call.{outcome, image_of}
 use Rattle.net_view.specs.View.{Fit}

@@ -1,18 +1,12 @@
 -- What is proved of specs/Further: A netlist image is read from its own words: what follows them does not matter. Assumes nothing.
-use Prim.Native.Nat.{ℕ, ◌+◌, ◌*◌, ◌≤◌, ◌<◌}
-use Rattle.std.specs.Prelude.{Bool, List, ◌++◌, ◌≡◌, length}
-use Rattle.std.proofs.Math.Bool.{true, false, not}
-use Rattle.std.proofs.Math.Path.{refl, ap, fun_ext}
+use Prim.Native.Nat.{ℕ, ◌+◌}
+use Rattle.std.specs.Prelude.{List, ◌++◌, ◌≡◌}
 use Rattle.std.proofs.Common.{arith}
-use Rattle.std.proofs.Math.ListN.{get_or, take, drop, length-drop, get_or-append}
-use Rattle.std.proofs.Math.Seq.{take-append-le, drop-append-le}
-use Rattle.spec_tests.specs.Rules.{◌<?◌, ◌≢?◌, ◌or◌, any}
-use Rattle.spec_tests.specs.Laws.{yes_lt}
-use Rattle.spec_rules.specs.NetlistImage.{node_word, node_at_of, records_of, records_with, not_output, is_output_port, netlist}
+use Rattle.spec_tests.specs.Rules.{◌or◌}
+use Rattle.spec_rules.specs.NetlistImage.{netlist}
 use Rattle.spec_model.specs.Words.{Netlist, words}
 use Rattle.net_view.specs.View.{Fit}
 use Rattle.net_view.specs.Laws.{length_words}
-use Rattle.scratch_view.specs.Rows.{list_of_agree}
 use Rattle.law_call.specs.Further.{Whole, netlist_same}
 
 -- the words of a netlist within its limits are whole

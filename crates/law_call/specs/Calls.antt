@@ -1,32 +1,15 @@
 -- The lowering call, for all bytes, limits and buffers: demand 2, demand 3 and one run where it accepts, that its promise can be
 -- met, and that both buffers keep their lengths. Assumes nothing.
-use Rattle.std.specs.Prelude.{ℕ, ◌≤◌, false, List, ◌++◌, ◌≡◌, refl, length, drop, replicate}
-use Rattle.std.proofs.Math.Option.{some}
-use Rattle.std.proofs.Common.{sym, ap, subst, ◌∙◌, arith, length-append, length-drop}
+use Rattle.std.specs.Prelude.{ℕ, ◌≤◌, false, List, ◌≡◌, refl, length, drop, replicate}
+use Rattle.std.proofs.Common.{◌∙◌, arith, length-append, length-drop}
 use Rattle.std.proofs.Math.ListN.{length-replicate}
-use Rattle.spec_rtl.specs.Rtl.{Valuation}
 use Rattle.spec_tests.specs.Rules.{Answer, Fine, Refused}
 use Rattle.spec_rules.specs.Image.{decode}
-use Rattle.spec_rules.specs.Checks.{checked, netlist_need, scratch_need}
 use Rattle.spec_rules.specs.NetlistImage.{netlist}
-use Rattle.spec_rules.specs.Step.{Setting, Contents, Machine, settled, run, of_module, of_netlist, net, Ported, Demand2, Demand3}
-use Rattle.spec_rules.specs.Promise as Promise
 use Rattle.spec_rules.specs.Promise.{over, left}
-use Rattle.spec_model.specs.Words.{absent, words}
 use Rattle.spec_model.specs.Builder.{Out, refused, done}
-use Rattle.spec_model.specs.Lowering.{State, signal_bit, expression_net, lower_state, lower_with, lower}
-use Rattle.spec_call.specs.Call as Call
-use Rattle.spec_call.specs.Call.{outcome, image_of}
-use Rattle.net_view.specs.View.{Fit}
-use Rattle.net_view.specs.Laws.{length_words}
-use Rattle.law_nets.specs.Run.{Meets}
-use Rattle.law_walk.specs.Good.{Good}
-use Rattle.law_walk.specs.Kept.{Any}
-use Rattle.law_phases.proofs.Outputs.{Lowered, lowered}
-use Rattle.law_demands.specs.Demands as demands
-use Rattle.check_image.specs.Checked.{then_both}
-use Rattle.check_image.specs.Accepted.{Room, accepted}
-use Rattle.law_module.proofs.Good.{good}
+use Rattle.spec_model.specs.Lowering.{State, lower_state, lower_with, lower}
+use Rattle.spec_call.specs.Call.{outcome}
 
 -- ---- a lowering that comes to its end ----
 

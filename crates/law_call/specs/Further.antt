@@ -9,9 +9,6 @@ use Rattle.std.proofs.Math.Seq.{take-append-le, drop-append-le}
 use Rattle.spec_tests.specs.Rules.{◌<?◌, ◌≢?◌, ◌or◌, any}
 use Rattle.spec_tests.specs.Laws.{yes_lt}
 use Rattle.spec_rules.specs.NetlistImage.{node_word, node_at_of, records_of, records_with, not_output, is_output_port, netlist}
-use Rattle.spec_model.specs.Words.{Netlist, words}
-use Rattle.net_view.specs.View.{Fit}
-use Rattle.net_view.specs.Laws.{length_words}
 use Rattle.scratch_view.specs.Rows.{list_of_agree}
 
 -- the header, the nodes and the list records lie within the words

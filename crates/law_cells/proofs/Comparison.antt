@@ -6,7 +6,6 @@ use mathlib.Core.List.{List, [], ◌∷◌, ◌++◌, map}
 use Rattle.std.proofs.Math.Option.{Option, none, some}
 use Prim.Native.Nat.{ℕ, zero, suc, ◌+◌, ◌-◌, ◌≤◌, ◌<◌}
 use Rattle.std.proofs.Math.ListN.{length}
-use Rattle.spec_rtl.specs.Ops.{lt_u, le_u, lt_s, le_s}
 use Rattle.spec_rules.specs.NetlistImage as N
 use Rattle.spec_rules.specs.NetlistImage.{node_of, comparison_of}
 use Rattle.spec_rules.specs.Step as S
@@ -18,7 +17,7 @@ use Rattle.net_view.specs.Formed.{formed_comparison}
 use Rattle.net_view.specs.Laws.{with_record}
 use Rattle.word_laws.specs.Widths.{AllBelow}
 use Rattle.law_nets.specs.Meaning.{decode, node_at_of, records_with, net_value}
-use Rattle.law_nets.specs.Sound.{count, comparison_record, comparison_output, width_word, ArithmeticCell, ComparisonCell, Wired, Sound, At, Stands, StandsAll}
+use Rattle.law_nets.specs.Sound.{count, comparison_record, comparison_output, width_word, ArithmeticCell, ComparisonCell, Wired, Sound, Stands, StandsAll}
 use Rattle.law_nets.specs.Run.{meets_map, Limit, Built, Run}
 use Rattle.law_nets.proofs.Run.{all_as, all_nil, all_cons, run_here}
 use Rattle.law_nets.specs.Nodes.{arithmetic_grew, comparison_grew}

@@ -1,35 +1,23 @@
 -- `arithmetic` of word_cells.rs: the nets that it gives stand for the operation on the operands' words, folded, found or made.
 -- Assumes nothing.
-use Rattle.std.specs.Prelude.{◌≡◌, Bool, false, List, [], ◌∷◌, ◌++◌, map, ℕ, ◌+◌, ◌-◌, ◌≤◌, ◌<◌, get_or}
+use Rattle.std.specs.Prelude.{◌≡◌, Bool, false, List, [], ◌∷◌, map, ℕ, ◌-◌}
 use Rattle.std.proofs.Math.Path.{refl, ap}
-use Rattle.std.proofs.Common.{sym, subst, ◌∙◌, le_trans, add-zero, arith}
+use Rattle.std.proofs.Common.{add-zero, arith}
 use Rattle.std.proofs.Math.Option.{Option, none, some}
-use Rattle.std.proofs.Math.Nat.{zero-add}
 use Rattle.std.proofs.Math.ListN.{length}
 use Rattle.std.proofs.lemmas.List.{length-map}
-use Rattle.spec_rtl.specs.Word.{bits, bit}
-use Rattle.spec_rules.specs.NetlistImage as N
-use Rattle.spec_rules.specs.NetlistImage.{node_of, arithmetic_of}
+use Rattle.spec_rtl.specs.Word.{bits}
 use Rattle.spec_rules.specs.Step as S
-use Rattle.spec_rules.specs.Step.{Setting, Contents, perhaps}
-use Rattle.spec_model.specs.Words as W
-use Rattle.spec_model.specs.Words.{absent, Node, source, Netlist, option_word, arithmetic_key}
-use Rattle.spec_model.specs.Builder.{or_made, from, add_nodes, add_recorded, ArithmeticOp, Add, Subtract, Multiply, arithmetic_word, constant_value, also_value, constant_values, carry_value, compute, fold_by, fold_constant_arithmetic, arithmetic_by, add_arithmetic}
-use Rattle.spec_model.specs.WordCells.{find_cell, arithmetic, comparison}
-use Rattle.word_laws.specs.Runs.{from_at, length_from}
-use Rattle.net_view.specs.Formed.{formed_arithmetic}
+use Rattle.spec_rules.specs.Step.{perhaps}
+use Rattle.spec_model.specs.Words.{Netlist}
+use Rattle.spec_model.specs.Builder.{ArithmeticOp, Add, Subtract, Multiply, constant_value, also_value, constant_values, compute}
+use Rattle.spec_model.specs.WordCells.{arithmetic}
 use Rattle.word_laws.specs.Widths.{AllBelow}
-use Rattle.law_nets.specs.Meaning.{decode, node_at_of, records_with, net_value}
-use Rattle.law_nets.specs.Sound.{count, CarryBelow, arithmetic_record, arithmetic_outputs, width_word, ArithmeticCell, ComparisonCell, Wired, Sound, Later, At, StandsAll}
-use Rattle.law_nets.specs.Run.{below_more, meets_map, Limit, Built, Run}
-use Rattle.law_nets.proofs.Run.{later_trans, all_as, all_cons, run_here, run_map}
-use Rattle.law_nets.specs.Nodes.{arithmetic_grew, comparison_grew, get_or_map_in}
-use Rattle.law_gates.specs.Nodes.{no_node}
+use Rattle.law_nets.specs.Meaning.{net_value}
+use Rattle.law_nets.specs.Sound.{count, At, StandsAll}
+use Rattle.law_nets.proofs.Run.{all_as, all_cons}
 use Rattle.law_gates.specs.Gates.{constant_later}
-use Rattle.law_gates.specs.Many.{constants_run}
-use Rattle.law_gates.specs.Added.{nodes_added, Recorded, recorded}
-use Rattle.law_cells.specs.Records.{operation_of, operation_word, arithmetic_of_law, arithmetic_outputs_law, arithmetic_length}
-use Rattle.law_cells.specs.Cells.{arithmetic_stands, found_cell, count_with, with_cell, grew_cell, count_cell, node_cell, cell_more, cell_new, cells_after, only_cell, sound_cell}
+use Rattle.law_cells.specs.Records.{operation_of}
 
 -- only an addition has a carry
 abbrev pub Carried : ArithmeticOp → Option ℕ → Type 0

@@ -1,12 +1,11 @@
 -- What is proved of specs/Demands: Demands 2 and 3 of every lowering of a good module that succeeds, with either flag; that the module has one run; the size of the image.
 -- Assumes nothing.
-use Rattle.std.specs.Prelude.{◌≡◌, Bool, true, false, cond, ◌&&◌, List, [], ◌∷◌, map, ℕ, zero, suc, ◌+◌, ◌*◌, ◌≤◌, ◌<◌, ltb, length, get_or}
+use Rattle.std.specs.Prelude.{◌≡◌, Bool, true, false, cond, ◌&&◌, List, [], map, ℕ, suc, ◌+◌, ◌*◌, ◌≤◌, ltb, length}
 use Rattle.std.proofs.Math.Path.{refl, fun_ext}
-use Rattle.std.proofs.Common.{sym, ap, subst, ◌∙◌, suc-le-suc, not-suc-le-zero, le_of_suc-le-suc, arith, ltb-true, ltb-false}
+use Rattle.std.proofs.Common.{sym, ap, subst, ◌∙◌, suc-le-suc, arith, ltb-true, ltb-false}
 use Rattle.std.proofs.Math.Option
 use Rattle.std.proofs.Math.Option.{Option, none, some}
-use Rattle.std.proofs.Math.Decide.{dec_lt}
-use Rattle.std.proofs.Math.ListN.{get_elem?, get_or-eq_default}
+use Rattle.std.proofs.Math.ListN.{get_elem?}
 use Rattle.spec_rtl.specs.Ops.{tab}
 use Rattle.spec_rtl.specs.Rtl as R
 use Rattle.spec_rtl.specs.Rtl.{Module, Valuation, word, dir_of}
@@ -22,7 +21,7 @@ use Rattle.law_nets.specs.Meaning.{meaning_of, net_value}
 use Rattle.law_nets.specs.Run.{Meets}
 use Rattle.law_nets.proofs.Run.{later_refl}
 use Rattle.law_nets.proofs.Image.{words_netlist}
-use Rattle.law_walk.specs.Tables.{none_some, filled_le}
+use Rattle.law_walk.specs.Tables.{filled_le}
 use Rattle.law_walk.specs.Good.{Good}
 use Rattle.law_walk.specs.Kept.{Any, Agrees, Wide, Inv}
 use Rattle.law_records.specs.Find.{memory_find, bit_find, port_find}

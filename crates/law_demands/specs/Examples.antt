@@ -5,10 +5,7 @@ use Rattle.std.proofs.Math.Option.{some}
 use Rattle.std.proofs.Math.ListN.{get_elem?}
 use Rattle.spec_rtl.specs.Rtl as R
 use Rattle.spec_rtl.specs.Rtl.{Module, Assign}
-use Rattle.spec_rules.specs.NetlistImage.{netlist}
-use Rattle.spec_rules.specs.Step.{Demand3}
 use Rattle.spec_model.specs.Words as Words
-use Rattle.spec_model.specs.Words.{words}
 use Rattle.spec_model.specs.Builder as Builder
 use Rattle.spec_model.specs.Builder.{Out, refused, done}
 use Rattle.spec_model.specs.Ranges.{expr_at, width_at}

@@ -6,18 +6,16 @@ use Rattle.std.proofs.Math.Bool.{true, false}
 use mathlib.Core.List.{List, [], ◌∷◌}
 use Rattle.std.proofs.Math.Option.{Option, none, some}
 use Prim.Native.Nat.{ℕ, zero, suc, ◌+◌, ◌*◌, ◌≤◌, ◌<◌}
-use Rattle.std.proofs.Common.{not-suc-le-zero, mul-le-mul_right, suc-mul}
+use Rattle.std.proofs.Common.{not-suc-le-zero}
 use native.Mathlib.Omega.{arith}
 use Rattle.spec_rtl.specs.Rtl.{Module}
-use Rattle.spec_model.specs.Words.{absent}
 use Rattle.spec_model.specs.Builder.{Out, refused, done, and_then, is_value}
 use Rattle.spec_model.specs.Lowering.{State, Need, Bit, Whole, Range, Step, Always, Unless, cell, whole, set_signal_bit, mark, set_whole, set_range, signal_bit, range_known, driven_by, driven_net, selected, whole_steps, range_steps_of, build_whole, build_range, unless, lower_steps, driver_of, drive, resolve_signal_bit, keep_whole, lower_expression, keep_range, lower_expression_range, lower_by, lower_need, plenty, sum_widths, lower_all}
-use Rattle.law_nets.specs.Run.{Meets, Limit, nets, list}
 use Rattle.law_walk.specs.Good.{Good}
 use Rattle.law_walk.specs.Reads.{Asked, AllAsked}
 use Rattle.law_walk.specs.Walk.{Assigned}
 use Rattle.law_walk.proofs.Walk.{assigned}
-use Rattle.law_needs.specs.Room.{Roomy, whole_room, range_room}
+use Rattle.law_needs.specs.Room.{whole_room, range_room}
 use Rattle.law_fuel.specs.Ranks.{rank, AllRank, most}
 use Rattle.law_fuel.proofs.Ranks.{range_rank}
 use Rattle.law_fuel.proofs.Ranks.{asked_rank, all_rank, whole_rank}

@@ -1,23 +1,15 @@
 -- What is proved of specs/Gates: Gates: the net that each call gives stands for its operation on its operands' nets, folded or not, found or made. Assumes nothing.
-use Rattle.std.specs.Prelude.{◌≡◌, refl, Bool, true, false, not, cond, ◌&&◌, ◌||◌, ℕ, ◌<◌, min, max, eqb}
-use Rattle.std.proofs.Common.{sym, ap, subst, ◌∙◌, arith, eqb-true}
-use Rattle.std.proofs.Math.Bool.{not-not, and_comm, and_self, or_comm, or_self}
+use Rattle.std.specs.Prelude.{◌≡◌, refl, Bool, true, false, ℕ, ◌<◌, eqb}
+use Rattle.std.proofs.Common.{arith, eqb-true}
 use Rattle.std.proofs.Math.Option.{Option, none, some}
-use Rattle.std.proofs.Math.Decide.{dec_lt}
-use Rattle.std.proofs.lemmas.Bool.{eqb-false}
-use Rattle.spec_tests.specs.Rules.{◌≡?◌}
-use Rattle.spec_rtl.specs.Ops.{xor_b}
-use Rattle.spec_rules.specs.NetlistImage as N
 use Rattle.spec_rules.specs.NetlistImage.{node_of}
-use Rattle.spec_rules.specs.Step.{Setting, Contents, node_value}
-use Rattle.spec_model.specs.Words.{absent, Node, node, gate, Netlist}
-use Rattle.spec_model.specs.Builder.{Made, done, node_for_net, constant_of, constant_value, is_value, is_constant, add_cached, add_constant, not_by, add_not, add_and, add_or, add_xor, mux_by, add_mux}
-use Rattle.law_nets.specs.Meaning.{decode, meaning_of, net_value}
-use Rattle.law_nets.specs.Sound.{count, Plain, Wired, Sound, Stands}
+use Rattle.spec_model.specs.Words.{gate, Netlist}
+use Rattle.spec_model.specs.Builder.{node_for_net, constant_of, constant_value, mux_by, add_mux}
+use Rattle.law_nets.specs.Meaning.{decode, net_value}
+use Rattle.law_nets.specs.Sound.{count, Sound}
 use Rattle.law_nets.specs.Run.{Run}
 use Rattle.law_nets.proofs.Run.{later_trans, stands_as, run_here, run_map}
-use Rattle.law_nets.proofs.Nodes.{later_net}
-use Rattle.law_gates.specs.Nodes.{run_if, Is, Bitless, cached_run}
+use Rattle.law_gates.specs.Nodes.{run_if, cached_run}
 use Rattle.law_gates.specs.Gates.{Mux, cond_not, cond_self, constant_later, not_below, not_later}
 
 pub mux_run : (d a b : ℕ) (l : Netlist) → Sound l → d < count l → a < count l → b < count l → Run l (Mux d a b) (add_mux d a b l)

@@ -1,18 +1,16 @@
 -- What is proved of specs/Many: A gate for each of a list, and for each pair of two. Assumes nothing.
-use Rattle.std.specs.Prelude.{◌≡◌, refl, Bool, not, cond, ℕ, suc, ◌≤◌, ◌<◌, length}
-use Rattle.std.proofs.Common.{sym, ◌∙◌, le_trans}
-use mathlib.Core.List.{List, [], ◌∷◌, map}
+use Rattle.std.specs.Prelude.{◌≡◌, cond, ℕ, suc, ◌<◌, length}
+use Rattle.std.proofs.Common.{sym, ◌∙◌}
+use mathlib.Core.List.{List, map}
 use Rattle.std.proofs.lemmas.List.{length-map}
-use Rattle.spec_rtl.specs.Ops.{map2}
 use Rattle.spec_model.specs.Words.{Netlist}
-use Rattle.spec_model.specs.Builder.{Made, each, both, add_constant, add_not, add_mux}
+use Rattle.spec_model.specs.Builder.{both, add_mux}
 use Rattle.word_laws.specs.Shift.{mux_word}
 use Rattle.word_laws.specs.Widths.{AllBelow}
 use Rattle.law_nets.specs.Meaning.{net_value}
-use Rattle.law_nets.specs.Sound.{count, Sound, At, Stands, StandsAll}
-use Rattle.law_nets.specs.Run.{below_more, Run}
-use Rattle.law_nets.proofs.Run.{later_count, stands_later, all_nil, all_cons, run_here, run_bind, run_map, all_as}
-use Rattle.law_gates.specs.Gates.{constant_run, not_run}
+use Rattle.law_nets.specs.Sound.{count, Sound, StandsAll}
+use Rattle.law_nets.specs.Run.{Run}
+use Rattle.law_nets.proofs.Run.{run_map, all_as}
 use Rattle.law_gates.proofs.Gates.{mux_run}
 use Rattle.law_gates.specs.Many.{both_run}
 

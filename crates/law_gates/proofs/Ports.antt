@@ -1,33 +1,30 @@
 -- What is proved of specs/Ports: Input and output ports: their nets, and that a reader of the netlist finds an output port where one was made. Assumes nothing.
-use Rattle.std.specs.Prelude.{◌≡◌, Bool, false}
+use Rattle.std.specs.Prelude.{◌≡◌, false}
 use Rattle.std.proofs.Math.Path.{refl, ap}
-use Rattle.std.proofs.Common.{sym, subst, ◌∙◌, le_trans, zero-add, not-suc-le-zero, le_of_suc-le-suc, arith, get_or-drop}
+use Rattle.std.proofs.Common.{sym, ◌∙◌, zero-add, not-suc-le-zero, arith, get_or-drop}
 use Rattle.std.proofs.Math.Bool.{true, not}
-use mathlib.Core.List.{List, [], ◌∷◌, ◌++◌, map, append-nil}
-use Prim.Native.Nat.{ℕ, zero, suc, ◌+◌, ◌≤◌, ◌<◌}
+use mathlib.Core.List.{List, [], ◌∷◌, ◌++◌, append-nil}
+use Prim.Native.Nat.{ℕ, zero, suc, ◌+◌, ◌<◌}
 use Rattle.std.proofs.Math.ListN.{length, get_or, take}
 use Rattle.std.proofs.Math.Seq.{take_all}
 use Rattle.spec_tests.specs.Rules.{◌<?◌, ◌≢?◌, ◌or◌, pick, only}
 use Rattle.spec_tests.specs.Laws.{lt_yes, ne_no}
-use Rattle.spec_rtl.specs.Ops.{tab}
 use Rattle.spec_rules.specs.NetlistImage.{node_of, out_port_of}
-use Rattle.spec_model.specs.Words.{absent, Node, node, source, Netlist}
-use Rattle.spec_model.specs.Builder.{node_for_net, from, both, add_node, add_nodes, add_input_port, add_output_port}
+use Rattle.spec_model.specs.Words.{source, Netlist}
+use Rattle.spec_model.specs.Builder.{node_for_net, from, add_nodes, add_input_port}
 use Rattle.word_laws.specs.Runs.{from_at, length_from}
-use Rattle.net_view.specs.Formed.{formed_port}
-use Rattle.word_laws.specs.Widths.{AllBelow}
 use Rattle.word_laws.specs.Shift.{tab_ext}
-use Rattle.law_nets.specs.Meaning.{decode, not_output, is_output_port, meaning_of, net_value}
-use Rattle.law_nets.specs.Sound.{count, Sound, Grew, Later, StandsAll}
-use Rattle.law_nets.specs.Run.{grew_trans, Meets, meets_map, Limit}
+use Rattle.law_nets.specs.Meaning.{decode, not_output, is_output_port, meaning_of}
+use Rattle.law_nets.specs.Sound.{count, Sound}
+use Rattle.law_nets.specs.Run.{Meets, meets_map, Limit}
 use Rattle.law_nets.proofs.Run.{all_as}
 use Rattle.law_nets.specs.Nodes.{get_or_map_in}
 use Rattle.spec_tests.specs.Any.{any_none, any_first}
 use Rattle.law_nets.proofs.Lists.{outputs_with}
 use Rattle.law_gates.specs.Nodes.{no_node}
 use Rattle.law_gates.specs.Many.{All}
-use Rattle.law_gates.specs.Added.{with_nodes, grew_nodes, count_nodes, nodes_limits, nodes_added, pairs, both_adds, grew_record, Recorded, recorded, recorded_node, recorded_net, recorded_count, recorded_new}
-use Rattle.law_gates.specs.Sources.{sound_record, Free, sound_nodes, all_from, nodes_stand, all_map, length_nodes, sources_stand}
+use Rattle.law_gates.specs.Added.{nodes_added, Recorded, recorded, recorded_node, recorded_net, recorded_count, recorded_new}
+use Rattle.law_gates.specs.Sources.{Free, all_map, length_nodes, sources_stand}
 use Rattle.law_gates.specs.Ports.{InputPort, OutputPort, input_nodes, length_pairs, output_node, output_node_law, output_nodes, port_grew, port_later}
 
 pub input_port_run : (s w : ℕ) (l : Netlist) → Sound l → Meets Limit (InputPort s w l) (add_input_port s w l)

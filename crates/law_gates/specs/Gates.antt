@@ -11,7 +11,7 @@ use Rattle.spec_rules.specs.NetlistImage as N
 use Rattle.spec_rules.specs.NetlistImage.{node_of}
 use Rattle.spec_rules.specs.Step.{Setting, Contents, node_value}
 use Rattle.spec_model.specs.Words.{absent, Node, node, gate, Netlist}
-use Rattle.spec_model.specs.Builder.{Made, done, node_for_net, constant_of, constant_value, is_value, is_constant, add_cached, add_constant, not_by, add_not, add_and, add_or, add_xor, mux_by, add_mux}
+use Rattle.spec_model.specs.Builder.{Made, done, node_for_net, constant_of, constant_value, is_value, is_constant, add_cached, add_constant, not_by, add_not, add_and, add_or, add_xor}
 use Rattle.law_nets.specs.Meaning.{decode, meaning_of, net_value}
 use Rattle.law_nets.specs.Sound.{count, Plain, Wired, Sound, Stands}
 use Rattle.law_nets.specs.Run.{Run}

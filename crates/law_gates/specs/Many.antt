@@ -1,12 +1,10 @@
 -- A gate for each of a list, and for each pair of two. Assumes nothing.
-use Rattle.std.specs.Prelude.{◌≡◌, refl, Bool, not, cond, ℕ, suc, ◌≤◌, ◌<◌, length}
-use Rattle.std.proofs.Common.{sym, ◌∙◌, le_trans}
+use Rattle.std.specs.Prelude.{◌≡◌, refl, Bool, not, ℕ, ◌≤◌, ◌<◌}
+use Rattle.std.proofs.Common.{le_trans}
 use mathlib.Core.List.{List, [], ◌∷◌, map}
-use Rattle.std.proofs.lemmas.List.{length-map}
 use Rattle.spec_rtl.specs.Ops.{map2}
 use Rattle.spec_model.specs.Words.{Netlist}
-use Rattle.spec_model.specs.Builder.{Made, each, both, add_constant, add_not, add_mux}
-use Rattle.word_laws.specs.Shift.{mux_word}
+use Rattle.spec_model.specs.Builder.{Made, each, both, add_constant, add_not}
 use Rattle.word_laws.specs.Widths.{AllBelow}
 use Rattle.law_nets.specs.Meaning.{net_value}
 use Rattle.law_nets.specs.Sound.{count, Sound, At, Stands, StandsAll}

@@ -1,20 +1,14 @@
 -- Q-8 by states: "Keep stores all register bits, read data, memory words and input settings", "Back restores them and makes no step". A run
 -- that stores and restores them writes the text by histories. Assumes nothing.
-use Rattle.std.specs.Prelude.{ℕ, suc, ◌≡◌, Bool}
-use Rattle.std.proofs.Common.{arith, ◌∙◌}
-use Rattle.std.proofs.Math.Path.{refl, sym, ap}
+use Rattle.std.specs.Prelude.{ℕ, Bool}
 use Rattle.std.proofs.Math.Bool.{true, false}
-use mathlib.Core.List.{List, [], ◌∷◌, ◌++◌, map}
+use mathlib.Core.List.{List, []}
 use Rattle.std.proofs.Math.Option
 use Rattle.std.proofs.Math.Option.{Option, none, some}
-use Rattle.std.proofs.Math.ListN.{length, length-map}
-use Rattle.spec_tests.specs.Rules.{◌<?◌, ◌≡?◌, ◌or◌, pick, same_text, Refused}
-use Rattle.spec_tests.specs.Laws.{eq_yes, eq_no}
-use Rattle.spec_rules.specs.Step.{Setting}
-use Rattle.spec_trace.specs.Trace.{setting_of, wrong_line, shown, Now, Before, At, reached, clash_at, After, Goes, Stops, settings_line, pieces, said, continued, traced}
-use Rattle.spec_trace.specs.Named as Named
-use Rattle.spec_trace.specs.Named.{Line, Keep, Back, Settings, read_line, Named, put, find, History, landed, joined, kept, restored, any_line, text_from}
-use Rattle.law_histories.specs.Lines.{landed_more}
+use Rattle.std.proofs.Math.ListN.{length}
+use Rattle.spec_tests.specs.Rules.{◌<?◌, ◌or◌, pick, Refused}
+use Rattle.spec_trace.specs.Trace.{Now, Before, At, After, Goes, Stops, settings_line, pieces, traced}
+use Rattle.spec_trace.specs.Named.{Line, Keep, Back, Settings, read_line, Named, put, find}
 
 -- where the run stands, and what each name holds: the settings and the contents
 pub record State : Type 0 where

@@ -1,11 +1,8 @@
 -- What is proved of specs/Bounds: What a computation comes to under limits, told by what it comes to without them, and how that is shown along a computation. Assumes nothing.
-use Rattle.std.specs.Prelude.{◌≡◌, refl, Bool, true, false, cond, ℕ, ◌<◌, ◌≤◌, length}
+use Rattle.std.specs.Prelude.{◌≡◌, refl, Bool, true, false, cond, ℕ, ◌<◌, ◌≤◌}
 use Rattle.std.proofs.Common.{ap, subst, ◌∙◌, arith, le_refl}
-use Rattle.spec_model.specs.Words.{Netlist, used}
 use Rattle.spec_model.specs.Builder.{Out, refused, done, and_then}
-use Rattle.spec_model.specs.Lowering.{State, with_netlist}
-use Rattle.spec_answers.specs.Limits.{limited}
-use Rattle.law_limits.specs.Bounds.{Sized, made}
+use Rattle.law_limits.specs.Bounds.{Sized}
 
 module _ {Y : Type 0} (s : Sized Y) where
   -- an end with its limits replaced

@@ -5,7 +5,7 @@ use Rattle.std.proofs.Math.Option.{Option, none, some}
 use Rattle.spec_rtl.specs.Rtl as R
 use Rattle.spec_rtl.specs.Rtl.{Unary, Binary}
 use Rattle.spec_model.specs.Words.{absent, Node, node, source, gate, Netlist, bit_word, used, count, arithmetic_key, comparison_key}
-use Rattle.spec_model.specs.Builder.{refused, done, and_then, Made, add_node, push, node_for_net, constant_value, is_constant, find, or_made, add_cached, add_constant, not_by, add_not, add_and, add_or, add_xor, mux_by, add_mux, also, each, both, from, add_nodes, add_recorded, add_input_port, add_output_port, ArithmeticOp, ComparisonOp, arithmetic_word, comparison_word, also_value, constant_values, carry_value, fold_constant_arithmetic, arithmetic_by, add_arithmetic, add_comparison}
+use Rattle.spec_model.specs.Builder.{refused, done, and_then, Made, add_node, push, node_for_net, constant_value, is_constant, find, or_made, add_cached, add_constant, not_by, add_not, add_and, add_or, add_xor, mux_by, add_mux, also, each, both, from, add_nodes, add_recorded, add_input_port, add_output_port, ArithmeticOp, ComparisonOp, arithmetic_word, comparison_word, fold_constant_arithmetic, arithmetic_by, add_arithmetic, add_comparison}
 use Rattle.spec_model.specs.WordCells.{find_cell, arithmetic, comparison}
 use Rattle.spec_model.specs.Ranges.{Gate, AndGate, OrGate, XorGate}
 use Rattle.spec_model.specs.Lowering.{add_gate, level, levels, reduce_tree, add_equal, equal_words, Shift, shifted, stages, shift, lower_unary, lower_binary}

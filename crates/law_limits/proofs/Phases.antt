@@ -1,15 +1,15 @@
 -- What is proved of specs/Phases: What each phase of the lowering, and the whole of it, comes to under limits. Assumes nothing.
 use Rattle.std.specs.Prelude.{◌≡◌, Bool}
-use Rattle.std.proofs.Math.Path.{refl, ap}
-use Rattle.std.proofs.Common.{sym, ap₂, arith}
+use Rattle.std.proofs.Math.Path.{ap}
+use Rattle.std.proofs.Common.{sym, arith}
 use mathlib.Core.List.{List, [], ◌∷◌, ◌++◌}
 use Rattle.std.proofs.Math.Option.{Option, none, some}
 use Prim.Native.Nat.{ℕ, zero, suc}
 use Rattle.spec_rtl.specs.Rtl as R
-use Rattle.spec_rtl.specs.Rtl.{Module, Sig, Dir, Control, Reset, Register, Port, Memory}
+use Rattle.spec_rtl.specs.Rtl.{Module, Sig, Dir, Reset, Register, Port, Memory}
 use Rattle.spec_model.specs.Words.{source, bit_word, low_word, control_words, reset_words, used}
 use Rattle.spec_model.specs.Builder.{Out, done, and_then, Made, node_for_net, constant_value, add_nodes, add_input_port, add_output_port, push}
-use Rattle.spec_model.specs.Lowering.{State, with_netlist, set_signal, signal_width, signal_bit, signal_net, signal_nets, whole, whole_nets, whole_net, signal_steps, memory_steps, register_steps, lower_all, start, reserve, reserve_input, reserve_inputs, reserve_bits, reserve_registers, reserve_second, reserve_memories, reserve_sources, net_control, option_control, push_record, port_words, ports_words, connect_memories, push_register, reset_by, register_bit, register_bits, connect_registers, connect_output, connect_outputs, lower_state, lower_with}
+use Rattle.spec_model.specs.Lowering.{State, with_netlist, set_signal, signal_width, signal_bit, signal_net, signal_nets, whole, whole_nets, whole_net, signal_steps, memory_steps, register_steps, lower_all, start, reserve, reserve_input, reserve_inputs, reserve_bits, reserve_registers, reserve_second, reserve_memories, reserve_sources, net_control, option_control, push_record, ports_words, connect_memories, push_register, reset_by, register_bit, register_bits, connect_registers, connect_output, connect_outputs, lower_state, lower_with}
 use Rattle.spec_answers.specs.Limits.{limited}
 use Rattle.law_limits.specs.Bounds.{lists, made, limited_state, states}
 use Rattle.law_limits.proofs.Bounds.{Bounds, bounds_done, bounds_refused, bounds_as, bounds_then}

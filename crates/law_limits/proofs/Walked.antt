@@ -1,20 +1,19 @@
 -- What is proved of specs/Walked: What the walk comes to under limits. Assumes nothing.
 use Rattle.std.specs.Prelude.{◌≡◌, Bool, cond, ℕ, zero, suc, ◌+◌, ◌-◌, length, take, drop, replicate}
-use Rattle.std.proofs.Math.Path.{refl, ap}
+use Rattle.std.proofs.Math.Path.{ap}
 use Rattle.std.proofs.Common.{sym, ap₂, arith}
 use Rattle.std.proofs.Math.Bool.{true, false}
 use mathlib.Core.List.{List, [], ◌∷◌, ◌++◌}
 use Rattle.std.proofs.Math.Option.{Option, none, some}
-use Rattle.std.proofs.Math.ListN.{get_or}
 use Rattle.spec_rtl.specs.Word.{bits}
 use Rattle.spec_rtl.specs.Rtl as R
 use Rattle.spec_rtl.specs.Rtl.{Module, Expr, Kind, Binary}
 use Rattle.spec_model.specs.Words.{absent, Netlist, used}
 use Rattle.spec_model.specs.Builder as B
-use Rattle.spec_model.specs.Builder.{Out, refused, done, and_then, Made, node_for_net, constant_value, is_value, add_constant, add_not, each, both}
+use Rattle.spec_model.specs.Builder.{Out, refused, done, and_then, Made, is_value, add_constant, add_not, each, both}
 use Rattle.spec_model.specs.WordCells.{arithmetic}
 use Rattle.spec_model.specs.Ranges.{expr_at, width_at, Gate, class_of, adder_width}
-use Rattle.spec_model.specs.Lowering.{add_gate, State, with_netlist, is_add, is_bit_not, Need, Bit, Whole, Range, Step, Always, Unless, Operands, operands_of, gate_of, Piece, cell, set_signal_bit, mark, set_whole, set_range, signal_bit, signal_net, signal_nets, whole, whole_nets, whole_net, range_by, range_nets, range_known, whole_steps, concat_pieces, range_steps_of, truncated, selected, driven_by, driven_net, resized, lower_binary, build_operands, build_binary, build_mux, part_nets, build_kind, build_whole, piece_nets, range_gate, range_kind, build_range, unless, lower_steps, driver_of, drive, resolve_signal_bit, keep_whole, lower_expression, keep_range, lower_expression_range, lower_by, lower_need, plenty, lower_all}
+use Rattle.spec_model.specs.Lowering.{add_gate, State, with_netlist, is_add, is_bit_not, Need, Bit, Whole, Range, Step, Always, Unless, Operands, operands_of, gate_of, cell, set_signal_bit, mark, set_whole, set_range, signal_bit, signal_net, signal_nets, whole, whole_nets, whole_net, range_nets, range_known, whole_steps, concat_pieces, range_steps_of, truncated, selected, driven_by, driven_net, resized, lower_binary, build_operands, build_binary, build_mux, part_nets, build_kind, build_whole, piece_nets, range_gate, range_kind, build_range, unless, lower_steps, driver_of, drive, resolve_signal_bit, keep_whole, lower_expression, keep_range, lower_expression_range, lower_by, lower_need, plenty, lower_all}
 use Rattle.spec_answers.specs.Limits.{limited}
 use Rattle.law_limits.specs.Bounds.{made, limited_state, states}
 use Rattle.law_limits.proofs.Bounds.{Bounds, bounds_done, bounds_refused, bounds_as, bounds_then}

@@ -1,8 +1,6 @@
 -- What a computation comes to under limits, told by what it comes to without them, and how that is shown along a computation. Assumes nothing.
-use Rattle.std.specs.Prelude.{◌≡◌, refl, Bool, true, false, cond, ℕ, ◌<◌, ◌≤◌, length}
-use Rattle.std.proofs.Common.{ap, subst, ◌∙◌, arith, le_refl}
+use Rattle.std.specs.Prelude.{◌≡◌, refl, ℕ, length}
 use Rattle.spec_model.specs.Words.{Netlist, used}
-use Rattle.spec_model.specs.Builder.{Out, refused, done, and_then}
 use Rattle.spec_model.specs.Lowering.{State, with_netlist}
 use Rattle.spec_answers.specs.Limits.{limited}
 

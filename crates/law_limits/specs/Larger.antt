@@ -1,8 +1,7 @@
 -- What a computation under limits tells of it without, and under larger ones. Assumes nothing.
-use Rattle.std.specs.Prelude.{◌≡◌, refl, ◌⊎◌, ℕ, ◌<◌, ◌≤◌}
-use Rattle.std.proofs.Common.{sym, ap, ◌∙◌, inl, inr, arith}
+use Rattle.std.specs.Prelude.{◌≡◌, ℕ}
+use Rattle.std.proofs.Common.{ap, arith}
 use Rattle.spec_model.specs.Builder.{Out, refused, done}
-use Rattle.law_limits.specs.Bounds.{Sized}
 
 -- ---- outcomes ----
 

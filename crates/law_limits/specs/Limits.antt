@@ -1,15 +1,12 @@
 -- The limits are met and nothing else: under limits N and P the lowering comes to what it comes to without them, if it makes at most N nets and P list words, and is
 -- refused 9 or 10 otherwise. So larger limits turn no answer into a refusal and change no netlist. Assumes nothing.
-use Rattle.std.specs.Prelude.{◌≡◌, refl, Bool, true, false, ℕ, ◌<◌, ◌≤◌, leb, length}
+use Rattle.std.specs.Prelude.{◌≡◌, refl, ℕ}
 use Rattle.std.proofs.Math.Path.{sym, ap}
-use Rattle.std.proofs.Common.{◌∙◌, inl, inr, arith, le_refl, leb-true, leb-false}
-use Rattle.spec_rtl.specs.Rtl.{Module}
-use Rattle.spec_model.specs.Words.{Netlist, used}
+use Rattle.std.proofs.Common.{◌∙◌}
+use Rattle.spec_model.specs.Words.{Netlist}
 use Rattle.spec_model.specs.Builder.{Out, refused, done}
-use Rattle.spec_model.specs.Lowering.{lower_with, lower}
-use Rattle.spec_answers.specs.Limits.{Content, content, netlist, limited, under, Freely}
-use Rattle.law_limits.specs.Bounds.{lists}
-use Rattle.law_limits.specs.Larger.{done_is, refused_is, not_done}
+use Rattle.spec_answers.specs.Limits.{Content, content, limited, under}
+use Rattle.law_limits.specs.Larger.{done_is, not_done}
 
 -- ---- the bounds of a lowering are its account without limits, and the other way round ----
 

@@ -1,16 +1,13 @@
 -- What is proved of specs/Further: Words that follow an image do not matter: those of a listed netlist are accepted, and read as the netlist, with any behind them. Assumes
 -- nothing.
 use Rattle.std.specs.Prelude.{ℕ, ◌≤◌, ◌<◌, ◌≡◌, List, ◌++◌}
-use Rattle.std.proofs.Common.{arith, ◌∙◌}
 use Rattle.spec_tests.specs.Rules.{Fine}
-use Rattle.spec_rules.specs.NetlistImage.{node_word}
 use Rattle.spec_model.specs.Words.{Netlist, words}
 use Rattle.net_view.specs.View.{Fit}
 use Rattle.law_nets.specs.Sound.{Sound}
-use Rattle.spec_netlist.specs.Accept.{nets, accepts}
+use Rattle.spec_netlist.specs.Accept.{accepts}
 use Rattle.spec_netlist.specs.Given.{Same}
-use Rattle.law_told.specs.Told.{Told, told, sixteen, whole}
-use Rattle.law_told.specs.Behind.{nets_same, net_word_law, records_same, accepted_behind}
+use Rattle.law_told.specs.Behind.{accepted_behind}
 use Rattle.law_written.specs.Written.{same}
 use Rattle.law_listed.specs.Listed.{Listed}
 use Rattle.law_listed.proofs.Fits.{listed_accepted}

@@ -1,10 +1,10 @@
 -- What is proved of specs/MemoryWords: Each word of a memory's record is right. Assumes nothing.
 use Prim.Native.Nat.{ℕ, zero, suc, ◌+◌, ◌-◌, ◌≤◌, ◌<◌}
-use Rattle.std.proofs.Common.{arith, ⊎_elim, sym, ap, ◌∙◌, length-append, get_or-take, get_or-append-add}
+use Rattle.std.proofs.Common.{arith, ⊎_elim, sym, ap, ◌∙◌, get_or-take}
 use Rattle.std.proofs.Math.Decide.{dec_lt, ℕ_discrete}
 use Rattle.std.specs.Prelude.{◌≡◌, refl, Bool, true, false, List, ◌∷◌, ◌++◌, length, take, drop}
 use Rattle.std.proofs.Math.Option.{Option, none, some}
-use Rattle.std.proofs.Math.ListN.{get_or, length-take, length-drop, get_or-append}
+use Rattle.std.proofs.Math.ListN.{get_or, length-take, length-drop}
 use Rattle.std.proofs.Math.Seq.{get_or-drop}
 use Rattle.spec_tests.specs.Rules.{◌<?◌, ◌≡?◌, ◌or◌, pick, outside}
 use Rattle.spec_tests.specs.Laws.{or_hit, or_skip, lt_yes, lt_no, eq_yes, eq_no, ne_no}
@@ -14,7 +14,6 @@ use Rattle.law_nets.specs.Sound.{Sound}
 use Rattle.spec_netlist.specs.Accept.{member, second_data, taken, count_of, wrong_level, no_net, no_optional, not_own_of, wrong_memory_port, wrong_memory}
 use Rattle.spec_netlist.specs.Given.{Same}
 use Rattle.law_told.specs.Told.{neither, pick_yes, pick_no}
-use Rattle.law_told.specs.Owned.{spot}
 use Rattle.law_listed.specs.Listed.{PortWords, MemoryRecord, Listed}
 use Rattle.law_listed.specs.Parts.{member_at, own_memory, number}
 use Rattle.law_listed.specs.Whose.{fresh}

@@ -1,31 +1,23 @@
 -- Each word of a port's, a register's and a cell's record is right. Assumes nothing.
 use Prim.Native.Nat.{ℕ, zero, suc, ◌+◌, ◌*◌, ◌-◌, ◌≤◌, ◌<◌}
-use Rattle.std.proofs.Common.{not-suc-le-zero, inl, inr, ⊎_elim, ◌∙◌, length-take, length-drop, get_or-take, take-add, drop-drop}
+use Rattle.std.proofs.Common.{not-suc-le-zero, inl, inr, ◌∙◌, length-drop, take-add, drop-drop}
 use native.Mathlib.Omega.{arith}
-use Rattle.std.proofs.Math.Decide.{dec_lt, ℕ_discrete}
+use Rattle.std.proofs.Math.Decide.{ℕ_discrete}
 use Rattle.std.specs.Prelude.{◌⊎◌, ◌≡◌, Bool, true, false, List, [], ◌∷◌, ◌++◌, length, take, drop}
-use Rattle.std.proofs.Math.Path.{refl, sym, ap}
+use Rattle.std.proofs.Math.Path.{refl, ap}
 use Rattle.std.proofs.Math.Bool.{not}
 use Rattle.std.proofs.Math.Option.{none, some}
-use Rattle.std.proofs.Math.ListN.{get_or, get_or-append}
-use Rattle.std.proofs.Math.Seq.{get_or-drop}
+use Rattle.std.proofs.Math.ListN.{get_or}
 use Rattle.std.proofs.lemmas.List.{take-append-le, drop-append-le}
-use Rattle.spec_tests.specs.Rules.{◌<?◌, ◌≡?◌, ◌≢?◌, ◌or◌, ◌and◌, pick, outside}
-use Rattle.spec_tests.specs.Laws.{and_miss, lt_yes, lt_no, eq_yes, eq_no, ne_no}
+use Rattle.spec_tests.specs.Rules.{◌<?◌, ◌≡?◌, ◌≢?◌, ◌or◌, ◌and◌, pick}
+use Rattle.spec_tests.specs.Laws.{lt_yes, lt_no, eq_yes, eq_no, ne_no}
 use Rattle.spec_rules.specs.Image.{optional}
-use Rattle.spec_rules.specs.NetlistImage as N
-use Rattle.spec_rules.specs.NetlistImage.{node_word, arithmetic_of, comparison_of}
-use Rattle.spec_model.specs.Words.{absent, Netlist}
-use Rattle.spec_model.specs.Builder.{node_for_net}
+use Rattle.spec_model.specs.Words.{absent}
 use Rattle.word_laws.specs.Widths.{AllBelow}
-use Rattle.law_nets.specs.Meaning.{decode}
-use Rattle.law_nets.specs.Sound.{count, CarryBelow, OfArithmetic, OfComparison, Sound}
-use Rattle.spec_netlist.specs.Accept.{nets, belongs, most_bit, taken, count_of, wrong_level, not_above, no_net, no_optional, not_own_of, wrong_port, wrong_register, wrong_arithmetic, wrong_comparison}
-use Rattle.spec_netlist.specs.Given.{Same}
+use Rattle.law_nets.specs.Sound.{CarryBelow}
+use Rattle.spec_netlist.specs.Accept.{wrong_level, not_above}
 use Rattle.law_told.specs.Told.{neither, pick_yes, pick_no}
-use Rattle.law_listed.specs.Listed.{Own, Optional, Level, PortRecord, RegisterRecord, Listed}
-use Rattle.law_listed.specs.Parts.{arithmetic_node, comparison_node, same_default, member_at, own_port, own_register, own_arithmetic, own_comparison, number}
-use Rattle.law_listed.specs.Whose.{fresh}
+use Rattle.law_listed.specs.Listed.{Level}
 
 pub level_right : (x v : ℕ) → Level x v → wrong_level x v ≡ false
 unfolding wrong_level

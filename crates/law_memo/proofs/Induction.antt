@@ -5,20 +5,15 @@ use Rattle.std.proofs.Math.Path.{ap, subst}
 use Rattle.std.proofs.Math.Bool.{true, false}
 use mathlib.Core.List.{List}
 use Rattle.std.proofs.Math.Option.{Option, none, some}
-use Rattle.spec_rtl.specs.Rtl.{Module, word}
+use Rattle.spec_rtl.specs.Rtl.{Module}
 use Rattle.spec_model.specs.Words.{Netlist}
-use Rattle.spec_model.specs.Builder.{Out, refused, done, and_then, Made}
+use Rattle.spec_model.specs.Builder.{Out, done, and_then}
 use Rattle.spec_model.specs.Ranges.{expr_at, width_at}
-use Rattle.spec_model.specs.Lowering.{State, Need, Bit, Whole, Range, cell, whole, with_netlist, set_whole, set_range, signal_bit, expression_net, whole_steps, range_steps_of, range_known, known_by, range_row, build_whole, build_range, lower_steps, driver_of, drive, resolve_signal_bit, keep_whole, lower_expression, keep_range, lower_expression_range, lower_need}
+use Rattle.spec_model.specs.Lowering.{State, Need, Bit, Whole, Range, cell, whole, with_netlist, set_whole, set_range, signal_bit, expression_net, whole_steps, range_steps_of, range_known, build_whole, build_range, lower_steps, keep_whole, keep_range, lower_need}
 use Rattle.law_walk.specs.Tables.{none_some, Has}
 use Rattle.law_walk.specs.Good.{Good}
 use Rattle.law_nets.specs.Run.{Meets}
-use Rattle.law_walk.specs.Kept.{Any, Inv, Walks, NetsGive, Makes}
-use Rattle.law_walk.specs.Writes.{holds_length}
-use Rattle.law_walk.proofs.Parts.{range_made as range-of-made}
-use Rattle.word_laws.specs.Values.{slice_wide}
-use Rattle.word_laws.specs.Widths.{word_width}
-use Rattle.spec_rtl.specs.Ops.{slice_w}
+use Rattle.law_walk.specs.Kept.{Any, Inv, Walks}
 use Rattle.law_walk.specs.Reads.{Asked, After, AllAfter}
 use Rattle.law_walk.specs.Walk.{whole_asked, range_asked}
 use Rattle.law_walk.proofs.Walk.{steps_walk, need_walk}

@@ -13,7 +13,7 @@ use Rattle.spec_rtl.specs.Rtl.{Module, Valuation, Kind, Binary}
 use Rattle.spec_model.specs.Words.{Netlist}
 use Rattle.spec_model.specs.Builder.{Out, done, and_then, constant_value, is_value, from}
 use Rattle.spec_model.specs.Ranges.{expr_at, width_at, class_of, Gate}
-use Rattle.spec_model.specs.Lowering.{State, Need, Bit, Whole, Range, Step, Always, Unless, whole, signal_bit, selected, unless, whole_nets, expression_net, gate_of, gate_steps, Operands, operands_of, operand_steps, wholes, backwards, signal_steps, pieces, concat_pieces, whole_steps, kind_steps, range_steps_of, kind_range_steps, lower_steps}
+use Rattle.spec_model.specs.Lowering.{State, Need, Whole, Range, Step, Always, Unless, whole, signal_bit, selected, unless, whole_nets, expression_net, gate_of, gate_steps, Operands, operands_of, operand_steps, wholes, backwards, signal_steps, pieces, concat_pieces, whole_steps, kind_steps, range_steps_of, kind_range_steps, lower_steps}
 use Rattle.word_laws.specs.Widths.{AllBelow, BelowE, Formed, WidthOk, sum_of}
 use Rattle.word_ranges.specs.Fusion.{CarryBelow}
 use Rattle.word_ranges.proofs.Fusion.{operands}

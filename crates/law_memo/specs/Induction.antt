@@ -1,40 +1,24 @@
 -- What has nets is lowered again, by induction on the fuel: it is done, makes nothing, and ends in a state with some of the nets that were there. Assumes nothing.
-use Rattle.std.specs.Prelude.{◌≡◌, refl, ◌⊎◌, Bool, ℕ, zero, suc, ◌+◌, ◌*◌, ◌≤◌, ◌<◌, length}
-use Rattle.std.proofs.Common.{sym, ◌∙◌, inl, inr, true≢false, arith}
+use Rattle.std.specs.Prelude.{◌≡◌, refl, Bool, ℕ, suc, ◌+◌, ◌≤◌, ◌<◌, length}
+use Rattle.std.proofs.Common.{arith}
 use Rattle.std.proofs.Math.Path.{ap, subst}
 use Rattle.std.proofs.Math.Bool.{true, false}
 use mathlib.Core.List.{List}
 use Rattle.std.proofs.Math.Option.{Option, none, some}
 use Rattle.spec_rtl.specs.Rtl.{Module, word}
 use Rattle.spec_model.specs.Words.{Netlist}
-use Rattle.spec_model.specs.Builder.{Out, refused, done, and_then, Made}
-use Rattle.spec_model.specs.Ranges.{expr_at, width_at}
-use Rattle.spec_model.specs.Lowering.{State, Need, Bit, Whole, Range, cell, whole, with_netlist, set_whole, set_range, signal_bit, expression_net, whole_steps, range_steps_of, range_known, known_by, range_row, build_whole, build_range, lower_steps, driver_of, drive, resolve_signal_bit, keep_whole, lower_expression, keep_range, lower_expression_range, lower_need}
-use Rattle.law_walk.specs.Tables.{none_some, Has}
+use Rattle.spec_model.specs.Builder.{refused, done, and_then, Made}
+use Rattle.spec_model.specs.Ranges.{width_at}
+use Rattle.spec_model.specs.Lowering.{State, Bit, Whole, Range, cell, whole, with_netlist, set_whole, set_range, signal_bit, whole_steps, range_steps_of, range_known, known_by, range_row, build_whole, build_range, lower_steps, driver_of, drive, resolve_signal_bit, keep_whole, lower_expression, keep_range, lower_expression_range, lower_need}
 use Rattle.law_walk.specs.Good.{Good}
-use Rattle.law_nets.specs.Run.{Meets}
-use Rattle.law_walk.specs.Kept.{Any, Inv, Walks, NetsGive, Makes}
+use Rattle.law_walk.specs.Kept.{Inv, NetsGive, Makes}
 use Rattle.law_walk.specs.Writes.{holds_length}
 use Rattle.law_walk.proofs.Parts.{range_made as range-of-made}
 use Rattle.word_laws.specs.Values.{slice_wide}
 use Rattle.word_laws.specs.Widths.{word_width}
 use Rattle.spec_rtl.specs.Ops.{slice_w}
-use Rattle.law_walk.specs.Reads.{Asked, After, AllAfter}
-use Rattle.law_walk.specs.Walk.{whole_asked, range_asked}
-use Rattle.law_walk.proofs.Walk.{steps_walk, need_walk}
+use Rattle.law_walk.specs.Reads.{AllAfter}
 use Rattle.law_phases.specs.Supply.{supply}
-use Rattle.law_repeats.specs.Again.{Stays, stays_refl}
-use Rattle.law_memo.specs.Along.{Along}
-use Rattle.law_memo.specs.Repeated.{Bits}
-use Rattle.law_memo.specs.Derived.{only_whole, KindBit, derived_single}
-use Rattle.law_memo.specs.Later.{Knows}
-use Rattle.law_memo.specs.Reads.{net_bit}
-use Rattle.law_memo.specs.Built.{Derives}
-use Rattle.law_memo.specs.Kinds.{whole_derived}
-use Rattle.law_memo.specs.Steady.{Onward, DerivedAt, derived_onward, whole_old, net_kept, range_old}
-use Rattle.law_memo.specs.Walked.{IsSteady, IsKept, need_keep, Ranged, ranged, stepped}
-use Rattle.law_memo.specs.Nothing.{Nothing, whole_nothing, range_nothing}
-use Rattle.law_memo.specs.Memo.{HasNets}
 
 -- a range of no bits is known
 pub no_bits : (st : State) (e lsb : ℕ) → range_known st e lsb 0 ≡ true

@@ -1,19 +1,13 @@
 -- What is proved of specs/Records: The records of the decoded module, each by its number: what it is in the image. Assumes nothing.
-use Rattle.std.specs.Prelude.{ℕ, zero, suc, ◌+◌, ◌<◌, Bool, true, false, List, ◌≡◌, length}
+use Rattle.std.specs.Prelude.{ℕ, ◌+◌, Bool, true, false, List, ◌≡◌}
 use Rattle.std.proofs.Math.Option.{none, some}
-use Rattle.std.proofs.Math.Path.{refl, ap}
-use Rattle.std.proofs.Common.{arith, add-zero, add-suc, suc-add, zero-add}
-use Rattle.std.proofs.Math.ListN.{get_elem?}
+use Rattle.std.proofs.Math.Path.{refl}
 use Rattle.spec_rtl.specs.Rtl as R
-use Rattle.spec_rtl.specs.Rtl.{dir_of}
-use Rattle.spec_tests.specs.Rules.{◌≡?◌, pick, each, list_of}
-use Rattle.spec_tests.specs.Laws.{yes_eq, no_eq}
+use Rattle.spec_tests.specs.Rules.{◌≡?◌, pick}
+use Rattle.spec_tests.specs.Laws.{no_eq}
 use Rattle.spec_rules.specs.Image as image
-use Rattle.spec_rules.specs.Image.{absent, decode, count_at_of, field, has_second, second_port}
-use Rattle.spec_model.specs.Ranges.{width_at}
-use Rattle.spec_model.specs.Lowering.{signal_width}
+use Rattle.spec_rules.specs.Image.{field, has_second, second_port}
 use Rattle.law_walk.specs.Tables.{none_some, some_eq}
-use Rattle.law_accepted.specs.Decode.{signal_decoded, expr_decoded, lengths}
 use Rattle.law_module.specs.Records.{Second}
 
 pub second_at : (s : List ℕ) (k : ℕ) (q : R.Port) → (image.memory_at s k).second ≡ some q → Second s k q

@@ -1,39 +1,25 @@
 -- What a refusal of the walk tells (flag false). 6: needs lead from what was to be lowered to the bit that it names, which is undriven. 7: to a
 -- bit that is driven by an expression and needs itself, or was open before: marked and without a net. Any other is for want of room.
 -- After a success no more bits are open than before. Assumes nothing.
-use Rattle.std.specs.Prelude.{◌≡◌, ◌⊎◌, Bool, cond, ltb, length}
-use Rattle.std.proofs.Math.Path.{refl, sym, ap₂, subst}
-use Rattle.std.proofs.Common.{ap, ◌∙◌, inl, inr, not-suc-le-zero, arith, ltb-true}
-use Rattle.std.proofs.Math.Logic.{⊎_elim}
+use Rattle.std.specs.Prelude.{◌≡◌, Bool, cond, ltb, length}
+use Rattle.std.proofs.Math.Path.{refl, subst}
+use Rattle.std.proofs.Common.{not-suc-le-zero, arith, ltb-true}
 use Rattle.std.proofs.Math.Bool.{true, false}
 use mathlib.Core.List.{List, [], ◌∷◌, map}
 use Rattle.std.proofs.Math.Option.{Option, none, some}
 use Prim.Native.Nat.{ℕ, zero, suc, ◌+◌, ◌-◌, ◌≤◌, ◌<◌, min, max}
 use Rattle.std.proofs.Math.Decide.{dec_lt}
 use Rattle.spec_rtl.specs.Rtl as R
-use Rattle.spec_rtl.specs.Rtl.{Module, Expr, Kind, Unary, driver}
-use Rattle.spec_model.specs.Words.{absent}
-use Rattle.spec_model.specs.Builder.{Out, refused, done, and_then, Made, from}
+use Rattle.spec_rtl.specs.Rtl.{Expr, Kind, Unary}
+use Rattle.spec_model.specs.Builder.{from}
 use Rattle.spec_model.specs.Ranges.{Gate, class_of, expr_at, width_at}
-use Rattle.spec_model.specs.Lowering.{State, Need, Bit, Whole, Range, Step, Always, Unless, cell, put, whole, set_signal_bit, mark, set_whole, set_range, signal_bit, range_known, driven_net, lower_steps, driver_of, drive, resolve_signal_bit, keep_whole, lower_expression, keep_range, lower_expression_range, lower_by, lower_need, signal_steps, wholes, Operands, operands_of, operand_steps, backwards, Piece, pieces, concat_pieces, gate_of, gate_steps, kind_steps, whole_steps, kind_range_steps, range_steps_of, build_whole, build_range}
+use Rattle.spec_model.specs.Lowering.{Need, Bit, Whole, Range, Step, Always, whole, signal_steps, wholes, Operands, operands_of, operand_steps, backwards, Piece, pieces, concat_pieces, gate_of, gate_steps, kind_steps, whole_steps, kind_range_steps, range_steps_of}
 use Rattle.word_laws.specs.Widths.{Formed}
-use Rattle.law_nets.specs.Run.{Meets, Limit}
-use Rattle.law_walk.specs.Tables.{none_some, same_cell, put_other, put_same}
-use Rattle.law_walk.specs.Good.{Good}
-use Rattle.law_walk.specs.Kept.{Inv, Walks}
-use Rattle.law_walk.specs.Reads.{Asked, After, need_of, AllAsked}
-use Rattle.law_walk.specs.Writes.{inv_mark}
-use Rattle.law_walk.specs.Gates.{Gates}
-use Rattle.law_walk.specs.Walk.{whole_asked, range_asked}
-use Rattle.law_walk.proofs.Walk.{assigned, driver_by, Lowers, need_walk}
-use Rattle.spec_needs.specs.Reads.{Place, bit_reads, whole_reads}
+use Rattle.law_walk.specs.Reads.{need_of}
+use Rattle.spec_needs.specs.Reads.{Place}
 use Rattle.spec_needs.specs.Reads as reads
-use Rattle.spec_needs.specs.Needs.{In, bit_needs, driven_needs, Needs}
-use Rattle.law_needs.specs.Room.{refused_by_law, whole_room, range_room}
-use Rattle.law_needs.specs.Safe.{Reaches, needs_first}
-use Rattle.law_needs.specs.Covers.{NeedOk, AllOk, in_left, in_right, whole_covered, range_covered}
-use Rattle.law_needs.specs.Inside.{Inside, Within, insides, Sourced, sourced_stays, sourced_mark, nothing_drives, Driven}
-use Rattle.law_needs.specs.Complete.{further_grew}
+use Rattle.spec_needs.specs.Needs.{In}
+use Rattle.law_needs.specs.Covers.{in_left, in_right}
 
 pub in_whole : (w : ℕ) (g : ℕ → List Place) (i : ℕ) (y : Place) → i < w → In y (g i) → In y (reads.whole w g)
 in_whole zero g i y h q = absurd (not-suc-le-zero h)

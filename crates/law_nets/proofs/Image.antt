@@ -1,10 +1,10 @@
 -- What is proved of specs/Image: The words of a netlist within its limits are read back as what it means. Assumes nothing.
 use Rattle.std.specs.Prelude.{◌≡◌, Bool}
-use Rattle.std.proofs.Math.Path.{refl, ap, ap₂, fun_ext}
-use Rattle.std.proofs.Common.{sym, ◌∙◌, arith}
+use Rattle.std.proofs.Math.Path.{refl, ap, fun_ext}
+use Rattle.std.proofs.Common.{sym, ◌∙◌}
 use Rattle.std.proofs.Math.Bool.{true, false, not}
-use mathlib.Core.List.{List, [], ◌∷◌, ◌++◌}
-use Prim.Native.Nat.{ℕ, zero, suc, ◌+◌, ◌*◌, ◌-◌, ◌<◌}
+use mathlib.Core.List.{List}
+use Prim.Native.Nat.{ℕ, ◌+◌, ◌*◌, ◌-◌, ◌<◌}
 use Rattle.std.proofs.Math.Nat.{add-zero}
 use Rattle.std.proofs.Math.ListN.{length, get_or}
 use Rattle.spec_tests.specs.Rules as Q
@@ -15,9 +15,9 @@ use Rattle.spec_rules.specs.NetlistImage.{netlist, node_word, records_of}
 use Rattle.spec_model.specs.Words.{Node, Netlist, words}
 use Rattle.spec_model.specs.Builder.{node_for_net}
 use Rattle.net_view.specs.View as Held
-use Rattle.net_view.specs.View.{Fit, nodes_of, netlist_of}
+use Rattle.net_view.specs.View.{Fit, netlist_of}
 use Rattle.net_view.specs.Laws.{words_view, node_there, length_nodes_of}
-use Rattle.law_nets.specs.Meaning.{decode, decoded, records_with, not_output, is_output_port, meaning_of}
+use Rattle.law_nets.specs.Meaning.{decoded, records_with, not_output, is_output_port, meaning_of}
 use Rattle.law_nets.specs.Sound.{Sound}
 use Rattle.law_nets.specs.Image.{nodes_are, offset_is, word_is}
 

@@ -1,19 +1,17 @@
 -- What is proved of specs/Lists: The lists of what a netlist means: ports, registers and memories stay as they were when nodes and records are added. Assumes nothing.
-use Rattle.std.specs.Prelude.{◌≡◌, refl, Bool, true, false, not, cond, ◌&&◌, ℕ, suc, ◌+◌, ◌<◌, eqb, length, get_or}
+use Rattle.std.specs.Prelude.{◌≡◌, ℕ, ◌+◌, length, get_or}
 use Rattle.std.proofs.Math.Path.{sym, ap}
-use Rattle.std.proofs.Common.{ap₂, ◌∙◌, suc-le-suc, le_trans, arith}
-use mathlib.Core.List.{List, [], ◌∷◌, ◌++◌, map, append-nil}
+use Rattle.std.proofs.Common.{◌∙◌, arith}
+use mathlib.Core.List.{List, [], ◌++◌, map, append-nil}
 use Rattle.std.proofs.Math.Option.{some}
-use Rattle.spec_tests.specs.Any.{any_ext}
-use Rattle.spec_tests.specs.Rules.{◌or◌, pick, first, only}
-use Rattle.spec_tests.specs.Laws.{lt_yes}
+use Rattle.spec_tests.specs.Rules.{◌or◌, first, only}
 use Rattle.spec_rules.specs.NetlistImage as N
 use Rattle.spec_rules.specs.NetlistImage.{out_port_of, register_bit_of, memory_of}
 use Rattle.spec_rules.specs.Step.{perhaps, data_width, find_memory, find_bit}
 use Rattle.spec_model.specs.Words.{Netlist}
-use Rattle.law_nets.specs.Meaning.{records_with, not_output, is_output_port, meaning_of}
-use Rattle.law_nets.specs.Sound.{count, PortNets, Sound, Grew, Later, Cells}
-use Rattle.law_nets.specs.Nodes.{node_grew, count_grew, with_append, only_append}
+use Rattle.law_nets.specs.Meaning.{records_with, is_output_port, meaning_of}
+use Rattle.law_nets.specs.Sound.{Sound, Grew, Later, Cells}
+use Rattle.law_nets.specs.Nodes.{with_append, only_append}
 use Rattle.law_nets.specs.Lists.{bit_append, map_append, memory_append, only_ext, port_grew}
 
 -- ---- the lists grow ----

@@ -1,22 +1,17 @@
 -- What is proved of specs/Nodes: Older nodes and records stay as they were, and a net's value is its node's rule at the values below it. Assumes nothing.
-use Rattle.std.specs.Prelude.{◌≡◌, refl, Bool, true, false, cond, List, [], ◌∷◌, ◌++◌, map, ℕ, zero, suc, ◌+◌, ◌-◌, ◌≤◌, ◌<◌, ltb, length, get_or}
-use Rattle.std.proofs.Common.{sym, ap, ap₂, ◌∙◌, append-nil, ⊎_elim, le_trans, eq-or-lt_of_le, not-suc-le-zero, le_of_suc-le-suc, arith, length-append, get_or-append-add, lt-ltb, ltb-true}
-use Rattle.std.proofs.Math.Option.{Option, none, some}
-use Rattle.std.proofs.Math.Decide.{ℕ_discrete}
-use Rattle.std.proofs.Math.ListN.{get_or-append}
-use Rattle.std.proofs.Math.Seq.{get_or-append_seam}
-use Rattle.spec_tests.specs.Rules.{◌≡?◌, pick, only}
-use Rattle.spec_tests.specs.Laws.{eq_yes, eq_no}
+use Rattle.std.specs.Prelude.{◌≡◌, refl, false, [], ℕ, suc, ◌-◌, ◌≤◌, ◌<◌, length, get_or}
+use Rattle.std.proofs.Common.{sym, ap, ◌∙◌, le_trans, not-suc-le-zero, arith}
+use Rattle.std.proofs.Math.Option.{none}
+use Rattle.spec_tests.specs.Rules.{only}
 use Rattle.spec_rtl.specs.Table.{Low, entry_is}
 use Rattle.spec_rules.specs.NetlistImage as N
 use Rattle.spec_rules.specs.NetlistImage.{arithmetic_of, comparison_of}
-use Rattle.spec_rules.specs.Step.{Setting, Contents, node_value, perhaps}
-use Rattle.spec_model.specs.Words.{absent, Node, gate, Netlist, used}
-use Rattle.spec_model.specs.Builder.{node_for_net, constant_of, constant_value}
+use Rattle.spec_rules.specs.Step.{Setting, Contents, node_value}
+use Rattle.spec_model.specs.Words.{absent, Node, Netlist, used}
 use Rattle.net_view.specs.Laws.{empty}
 use Rattle.word_laws.specs.Widths.{map_below}
 use Rattle.law_nets.specs.Meaning.{decode, decoded, node_at_of, records_with, meaning_of, net_value}
-use Rattle.law_nets.specs.Sound.{count, CarryBelow, arithmetic_record, comparison_record, ArithmeticCell, ComparisonCell, Wired, Sound, Grew, Later}
+use Rattle.law_nets.specs.Sound.{count, arithmetic_record, comparison_record, Wired, Sound, Grew, Later}
 use Rattle.law_nets.specs.Nodes.{at_grew, carry_below, count_grew, decoded_get, get_or_map_in, length_decoded, no_node, node_at, node_grew, with_more, with_old}
 
 -- ---- what is wired stays so ----

@@ -1,24 +1,19 @@
 -- The words of a netlist within its limits are read back as what it means. Assumes nothing.
-use Rattle.std.specs.Prelude.{◌≡◌, Bool}
-use Rattle.std.proofs.Math.Path.{refl, ap, ap₂, fun_ext}
-use Rattle.std.proofs.Common.{sym, ◌∙◌, arith}
-use Rattle.std.proofs.Math.Bool.{true, false, not}
+use Rattle.std.specs.Prelude.{◌≡◌}
+use Rattle.std.proofs.Math.Path.{refl, ap, ap₂}
+use Rattle.std.proofs.Common.{◌∙◌, arith}
 use mathlib.Core.List.{List, [], ◌∷◌, ◌++◌}
-use Prim.Native.Nat.{ℕ, zero, suc, ◌+◌, ◌*◌, ◌-◌, ◌<◌}
+use Prim.Native.Nat.{ℕ, zero, suc, ◌+◌, ◌*◌, ◌-◌}
 use Rattle.std.proofs.Math.Nat.{add-zero}
-use Rattle.std.proofs.Math.ListN.{length, get_or}
+use Rattle.std.proofs.Math.ListN.{get_or}
 use Rattle.spec_tests.specs.Rules as Q
-use Rattle.spec_tests.specs.Rules.{◌<?◌, ◌≢?◌, ◌or◌, any, list_of}
-use Rattle.spec_tests.specs.Laws.{yes_lt}
+use Rattle.spec_tests.specs.Rules.{◌or◌}
 use Rattle.spec_rules.specs.NetlistImage as N
-use Rattle.spec_rules.specs.NetlistImage.{netlist, node_word, records_of}
+use Rattle.spec_rules.specs.NetlistImage.{node_word}
 use Rattle.spec_model.specs.Words.{Node, Netlist, words}
-use Rattle.spec_model.specs.Builder.{node_for_net}
 use Rattle.net_view.specs.View as Held
-use Rattle.net_view.specs.View.{Fit, nodes_of, netlist_of}
-use Rattle.net_view.specs.Laws.{words_view, node_there, length_nodes_of}
-use Rattle.law_nets.specs.Meaning.{decode, decoded, records_with, not_output, is_output_port, meaning_of}
-use Rattle.law_nets.specs.Sound.{Sound}
+use Rattle.net_view.specs.View.{nodes_of}
+use Rattle.law_nets.specs.Meaning.{decode, decoded}
 
 each_none : {A : Type 0} (f : ℕ → A) → Q.each f 0 0 ≡ []
 unfolding Q.each

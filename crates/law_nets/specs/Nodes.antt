@@ -7,16 +7,12 @@ use Rattle.std.proofs.Math.ListN.{get_or-append}
 use Rattle.std.proofs.Math.Seq.{get_or-append_seam}
 use Rattle.spec_tests.specs.Rules.{◌≡?◌, pick, only}
 use Rattle.spec_tests.specs.Laws.{eq_yes, eq_no}
-use Rattle.spec_rtl.specs.Table.{Low, entry_is}
 use Rattle.spec_rules.specs.NetlistImage as N
-use Rattle.spec_rules.specs.NetlistImage.{arithmetic_of, comparison_of}
-use Rattle.spec_rules.specs.Step.{Setting, Contents, node_value, perhaps}
-use Rattle.spec_model.specs.Words.{absent, Node, gate, Netlist, used}
+use Rattle.spec_rules.specs.Step.{perhaps}
+use Rattle.spec_model.specs.Words.{absent, Node, gate, Netlist}
 use Rattle.spec_model.specs.Builder.{node_for_net, constant_of, constant_value}
-use Rattle.net_view.specs.Laws.{empty}
-use Rattle.word_laws.specs.Widths.{map_below}
-use Rattle.law_nets.specs.Meaning.{decode, decoded, node_at_of, records_with, meaning_of, net_value}
-use Rattle.law_nets.specs.Sound.{count, CarryBelow, arithmetic_record, comparison_record, ArithmeticCell, ComparisonCell, Wired, Sound, Grew, Later}
+use Rattle.law_nets.specs.Meaning.{decode, decoded, node_at_of, records_with}
+use Rattle.law_nets.specs.Sound.{count, CarryBelow, ArithmeticCell, ComparisonCell, Grew}
 
 -- ---- nodes ----
 

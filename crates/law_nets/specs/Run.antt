@@ -1,13 +1,10 @@
 -- A program logic for the builder's calls: an outcome is a refusal for want of room, or an answer in a later netlist. Assumes nothing.
-use Rattle.std.specs.Prelude.{◌≡◌, refl, Bool, List, [], ◌∷◌, ◌++◌, map, ℕ, ◌+◌, ◌≤◌, ◌<◌, length}
-use Rattle.std.proofs.Common.{sym, ap, ◌∙◌, append_assoc, append-nil, le_trans, arith, length-append}
-use Rattle.std.proofs.lemmas.List.{length-map}
-use Rattle.spec_rules.specs.Step.{Setting, Contents}
+use Rattle.std.specs.Prelude.{refl, List, [], ◌∷◌, ◌++◌, ℕ, ◌+◌, ◌≤◌}
+use Rattle.std.proofs.Common.{sym, ◌∙◌, append_assoc, append-nil, le_trans}
 use Rattle.spec_model.specs.Words.{Netlist}
 use Rattle.spec_model.specs.Builder.{Out, refused, done, and_then, Made}
 use Rattle.word_laws.specs.Widths.{AllBelow}
-use Rattle.law_nets.specs.Meaning.{net_value}
-use Rattle.law_nets.specs.Sound.{count, Sound, Grew, Later, Cells, At, Stands, StandsAll}
+use Rattle.law_nets.specs.Sound.{Grew, Later, Cells}
 
 -- ---- later ----
 

@@ -1,17 +1,15 @@
 -- What is proved of specs/Shifts: Shifts by stages of muxes. Assumes nothing.
-use Rattle.std.specs.Prelude.{◌≡◌, refl, Bool, true, false, cond, ℕ, zero, suc, pred, ◌+◌, ◌*◌, ◌-◌, ◌^◌, ◌<◌, min, ltb, length, get_or}
-use Rattle.std.proofs.Common.{sym, ◌∙◌, add_comm, add-zero, zero-add, arith}
+use Rattle.std.specs.Prelude.{◌≡◌, refl, Bool, true, false, cond, ℕ, suc, pred, ◌*◌, ◌-◌, ◌^◌, min, ltb, length, get_or}
+use Rattle.std.proofs.Common.{sym, ◌∙◌, arith}
 use Rattle.std.proofs.Math.Path.{ap}
 use mathlib.Core.List.{List, [], ◌∷◌, map}
 use Rattle.std.proofs.Math.ListN.{length-map, get_or-map}
 use Rattle.spec_rtl.specs.Word.{value}
-use Rattle.spec_rtl.specs.Ops.{tab, top, shl, shr}
+use Rattle.spec_rtl.specs.Ops.{top, shl, shr}
 use Rattle.spec_model.specs.Words.{Netlist}
-use Rattle.spec_model.specs.Builder.{from}
-use Rattle.spec_model.specs.Lowering.{Shift, LeftS, RightS, ArithmeticS, moved_down, shifted, stages, shift}
-use Rattle.word_laws.specs.Runs.{length_from}
+use Rattle.spec_model.specs.Lowering.{Shift, LeftS, RightS, ArithmeticS, shifted, stages, shift}
 use Rattle.word_laws.specs.Widths.{AllBelow}
-use Rattle.word_laws.specs.Shift.{tab_ext, stages_l, stages_l_shl, stages_r, stages_r_shr, stages_a, stages_a_shr}
+use Rattle.word_laws.specs.Shift.{tab_ext, stages_l_shl, stages_r_shr, stages_a_shr}
 use Rattle.law_nets.specs.Meaning.{net_value}
 use Rattle.law_nets.specs.Sound.{count, Sound, Stands, StandsAll}
 use Rattle.law_nets.specs.Run.{below_more, Run}

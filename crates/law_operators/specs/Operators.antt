@@ -1,25 +1,20 @@
 -- `lower_binary` and the unary arm of `lower_expression`: the nets given stand for the operator's word. Assumes nothing.
-use Rattle.std.proofs.Math.Path.{refl, sym, ap}
-use Rattle.std.proofs.Common.{◌∙◌, add-zero}
-use Rattle.std.specs.Prelude.{Bool, not, List, map, ℕ, length}
-use Rattle.std.proofs.Math.Option.{none}
-use Rattle.spec_rtl.specs.Word.{bits}
+use Rattle.std.proofs.Math.Path.{ap}
+use Rattle.std.specs.Prelude.{Bool, not, List, map, ℕ}
 use Rattle.spec_rtl.specs.Rtl as R
 use Rattle.spec_rtl.specs.Rtl.{unary, binary}
 use Rattle.spec_model.specs.Words.{Netlist}
 use Rattle.spec_model.specs.Builder as B
 use Rattle.spec_model.specs.Builder.{Made, add_not, each}
 use Rattle.spec_model.specs.Ranges.{AndGate, OrGate, XorGate}
-use Rattle.spec_model.specs.Lowering.{LeftS, RightS, ArithmeticS, lower_unary, lower_binary}
-use Rattle.word_laws.specs.Widths.{AllBelow, BinWidth}
+use Rattle.spec_model.specs.Lowering.{lower_unary}
+use Rattle.word_laws.specs.Widths.{AllBelow}
 use Rattle.law_nets.specs.Meaning.{net_value}
 use Rattle.law_nets.specs.Sound.{count, Sound, At, StandsAll}
 use Rattle.law_nets.specs.Run.{Run}
 use Rattle.law_nets.proofs.Run.{later_trans, all_as, run_bind, run_map}
 use Rattle.law_gates.specs.Many.{nots_run}
-use Rattle.law_cells.proofs.Arithmetic.{arithmetic_run}
-use Rattle.law_cells.proofs.Comparison.{comparison_run}
-use Rattle.law_operators.specs.Trees.{gates_run, reduce_run, equal_words_run}
+use Rattle.law_operators.specs.Trees.{reduce_run}
 
 abbrev pub Unary : R.Unary → List ℕ → At (List Bool)
 Unary op xs h s c = unary op (map (net_value h s c) xs)

@@ -1,23 +1,15 @@
 -- Shifts by stages of muxes. Assumes nothing.
-use Rattle.std.specs.Prelude.{◌≡◌, refl, Bool, true, false, cond, ℕ, zero, suc, pred, ◌+◌, ◌*◌, ◌-◌, ◌^◌, ◌<◌, min, ltb, length, get_or}
+use Rattle.std.specs.Prelude.{◌≡◌, refl, Bool, true, false, cond, ℕ, zero, suc, pred, ◌+◌, ◌-◌, ◌<◌, ltb, length, get_or}
 use Rattle.std.proofs.Common.{sym, ◌∙◌, add_comm, add-zero, zero-add, arith}
 use Rattle.std.proofs.Math.Path.{ap}
 use mathlib.Core.List.{List, [], ◌∷◌, map}
 use Rattle.std.proofs.Math.ListN.{length-map, get_or-map}
-use Rattle.spec_rtl.specs.Word.{value}
 use Rattle.spec_rtl.specs.Ops.{tab, top, shl, shr}
-use Rattle.spec_model.specs.Words.{Netlist}
 use Rattle.spec_model.specs.Builder.{from}
-use Rattle.spec_model.specs.Lowering.{Shift, LeftS, RightS, ArithmeticS, moved_down, shifted, stages, shift}
+use Rattle.spec_model.specs.Lowering.{Shift, LeftS, RightS, ArithmeticS, moved_down, shifted}
 use Rattle.word_laws.specs.Runs.{length_from}
 use Rattle.word_laws.specs.Widths.{AllBelow}
-use Rattle.word_laws.specs.Shift.{tab_ext, stages_l, stages_l_shl, stages_r, stages_r_shr, stages_a, stages_a_shr}
-use Rattle.law_nets.specs.Meaning.{net_value}
-use Rattle.law_nets.specs.Sound.{count, Sound, Stands, StandsAll}
-use Rattle.law_nets.specs.Run.{below_more, Run}
-use Rattle.law_nets.proofs.Run.{later_trans, later_count, stands_later, all_self, all_as, run_here, run_bind, run_map}
-use Rattle.law_gates.specs.Gates.{constant_run}
-use Rattle.law_gates.proofs.Many.{muxes_run}
+use Rattle.word_laws.specs.Shift.{tab_ext, stages_l, stages_r, stages_a}
 
 -- ---- a word moved, and the nets of it ----
 

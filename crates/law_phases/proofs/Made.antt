@@ -1,23 +1,22 @@
 -- What is proved of specs/Made: What the records of memories, registers and output ports are to the module's, and that it stays so as the lowering goes on. Assumes nothing.
-use Rattle.std.specs.Prelude.{◌≡◌, false, cond, ◌&&◌, List, [], ◌∷◌, ◌++◌, ℕ, suc, ◌≤◌, ◌<◌, eqb, length, get_or}
+use Rattle.std.specs.Prelude.{◌≡◌, cond, ◌&&◌, List, [], ◌∷◌, ◌++◌, ℕ, suc, ◌≤◌, ◌<◌, eqb}
 use Rattle.std.proofs.Common.{sym, ap, ◌∙◌, arith, eq-eqb, ne_eqb}
 use Rattle.std.proofs.Math.Option.{Option, none, some}
 use Rattle.std.proofs.Math.Decide.{ℕ_discrete}
 use Rattle.std.proofs.Math.ListN.{get_elem?}
 use Rattle.spec_rtl.specs.Ops.{tab}
 use Rattle.spec_rtl.specs.Rtl as R
-use Rattle.spec_rtl.specs.Rtl.{Module, Valuation, Control, word, dir_of}
+use Rattle.spec_rtl.specs.Rtl.{Module, Control, dir_of}
 use Rattle.spec_rules.specs.NetlistImage as N
-use Rattle.spec_rules.specs.Step.{Setting, Contents}
 use Rattle.spec_model.specs.Words.{Netlist}
 use Rattle.spec_model.specs.Lowering.{State, signal_width}
-use Rattle.law_nets.specs.Meaning.{meaning_of, net_value}
+use Rattle.law_nets.specs.Meaning.{meaning_of}
 use Rattle.law_nets.specs.Sound.{Later}
 use Rattle.law_nets.proofs.Run.{later_trans}
 use Rattle.law_nets.proofs.Lists.{memories_same, registers_same, outputs_same}
 use Rattle.law_walk.specs.Tables.{some_eq}
-use Rattle.law_walk.specs.Kept.{Table, Agrees, More, more_refl, agrees_less, NetsGive, holds_later, Inv, Grew}
-use Rattle.law_records.specs.Find.{find, find_old, find_last}
+use Rattle.law_walk.specs.Kept.{Table, More, more_refl, agrees_less, NetsGive, holds_later, Inv, Grew}
+use Rattle.law_records.specs.Find.{find_old, find_last}
 use Rattle.law_phases.specs.Made.{Connected, Found, Memories, Outputs, Registers, SameBit, SameControl, SameMemory, SamePort, SameReset, SameSecond, bit_in, found_map, limited_later, memory_in, port_in}
 
 module _ (m : Module) {l l' : Netlist} {t t' : Table} (a : Later l l') (w : More t t') where

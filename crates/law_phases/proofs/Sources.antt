@@ -1,44 +1,23 @@
 -- What is proved of specs/Sources: `reserve_sources`: each bit of an input, a register's target and a read data has its net, and the net its value. Assumes nothing.
-use Rattle.std.specs.Prelude.{◌≡◌, refl, ◌⊎◌, Bool, true, set, replicate}
-use Rattle.std.proofs.Math.Path.{sym, ap}
-use Rattle.std.proofs.Common.{◌∙◌, inl, inr, not-suc-le-zero, le_of_suc-le-suc, zero-add, lt-ltb, le-ltb, get_or-set_same, get_or-set_other}
-use Rattle.std.proofs.Math.Logic.{⊎_elim}
+use Rattle.std.specs.Prelude.{◌≡◌, refl}
+use Rattle.std.proofs.Math.Path.{sym}
+use Rattle.std.proofs.Common.{◌∙◌, not-suc-le-zero}
 use Rattle.std.proofs.Math.Bool.{false}
-use mathlib.Core.List.{List, [], ◌∷◌, map}
-use Rattle.std.proofs.Math.Option.{Option, none, some}
-use Prim.Native.Nat.{ℕ, zero, suc, ◌+◌, ◌-◌, ◌≤◌, ◌<◌, suc-le-suc}
-use Rattle.std.proofs.Math.Decide.{ℕ_discrete}
-use native.Mathlib.Omega.{arith}
-use Rattle.std.proofs.Math.ListN.{length, get_or, get_elem?, length-map, length-set}
-use Rattle.std.proofs.lemmas.List.{length-replicate}
-use Rattle.spec_tests.specs.Rules.{only}
-use Rattle.spec_rtl.specs.Ops.{tab}
+use mathlib.Core.List.{[]}
+use Rattle.std.proofs.Math.Option.{none}
+use Prim.Native.Nat.{ℕ, zero, suc, ◌-◌, ◌<◌}
+use Rattle.std.proofs.Math.ListN.{get_or, length-map}
 use Rattle.spec_rtl.specs.Rtl as R
-use Rattle.spec_rtl.specs.Rtl.{Module, Sig, Dir, Register, Memory, Port, Valuation, driver, dir_of}
-use Rattle.spec_rules.specs.NetlistImage.{memory_of, register_bit_of}
-use Rattle.spec_rules.specs.Step.{Setting, Contents, bit_by, rounds, memory_bit, data_width}
-use Rattle.spec_model.specs.Words.{Netlist, absent, source}
-use Rattle.spec_model.specs.Builder.{refused, done, Made, add_nodes, add_input_port}
+use Rattle.spec_rtl.specs.Rtl.{Module, Sig, Valuation}
+use Rattle.spec_rules.specs.Step.{Setting, Contents, rounds}
+use Rattle.spec_model.specs.Words.{Netlist}
 use Rattle.spec_model.specs.Ranges.{width_at}
-use Rattle.spec_model.specs.Lowering.{State, cell, whole, with_netlist, set_signal, signal_width, start, reserve, reserve_input, reserve_inputs, reserve_bits, reserve_registers, reserve_second, reserve_memories, reserve_sources}
-use Rattle.word_laws.specs.Shift.{length_tab}
-use Rattle.law_nets.specs.Meaning.{meaning_of, records_with, net_value}
-use Rattle.law_nets.specs.Sound.{count, Sound, Later, At, StandsAll}
-use Rattle.law_nets.specs.Run.{Meets, meets_bind, meets_map, Limit, Built}
-use Rattle.law_nets.proofs.Run.{later_refl, later_trans, later_count}
-use Rattle.law_nets.specs.Nodes.{get_or_map_in}
-use Rattle.law_nets.proofs.Nodes.{sound_empty}
-use Rattle.law_nets.proofs.Lists.{memories_same, registers_same, outputs_same}
-use Rattle.law_gates.specs.Added.{recorded_others}
-use Rattle.law_gates.specs.Sources.{register_run, memory_run}
-use Rattle.law_gates.specs.Ports.{InputPort, input_nodes}
-use Rattle.law_gates.proofs.Ports.{input_port_run, input_outputs}
-use Rattle.law_walk.specs.Tables.{none_some, some_eq, Shaped, filled}
-use Rattle.law_walk.specs.Good.{Good}
-use Rattle.law_walk.specs.Kept.{Any, Agrees, Wide}
-use Rattle.law_walk.specs.Reads.{below_at, map_at}
-use Rattle.law_phases.specs.Made.{Limited, limited_later, Connected}
-use Rattle.law_phases.specs.Drivers.{input_driver, register_driver, first_driver, second_driver}
+use Rattle.spec_model.specs.Lowering.{State, whole, signal_width}
+use Rattle.law_nets.specs.Meaning.{net_value}
+use Rattle.law_nets.specs.Sound.{Later}
+use Rattle.law_walk.specs.Tables.{none_some, filled}
+use Rattle.law_walk.specs.Kept.{Agrees, Wide}
+use Rattle.law_phases.specs.Made.{Connected}
 use Rattle.law_phases.specs.Sources.{Reserved, blank, none_at, shaped}
 
 -- ---- what the walk starts from ----

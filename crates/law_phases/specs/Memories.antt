@@ -1,29 +1,15 @@
 -- `connect_memories`: each memory's record has the nets of its addresses, data and controls. Assumes nothing.
 use Rattle.std.specs.Prelude.{◌≡◌, refl, Bool}
-use Rattle.std.proofs.Common.{ap, ap₂}
-use mathlib.Core.List.{List, [], ◌∷◌, ◌++◌, append_assoc}
+use mathlib.Core.List.{List, ◌++◌, append_assoc}
 use Rattle.std.proofs.Math.Option.{Option, none, some}
-use Prim.Native.Nat.{ℕ, suc, ◌+◌}
-use native.Mathlib.Omega.{arith}
-use Rattle.std.proofs.Math.ListN.{length, get_elem?}
+use Prim.Native.Nat.{ℕ, ◌+◌}
 use Rattle.spec_rtl.specs.Rtl.{Module, Memory, Port}
 use Rattle.spec_rules.specs.NetlistImage as N
-use Rattle.spec_rules.specs.NetlistImage.{memory_of}
-use Rattle.spec_model.specs.Lowering.{State, signal_width, signal_net, signal_nets, whole_nets, net_control, option_control, word_steps, enable_steps, bit_step, control_steps, second_steps, memory_steps, port_words, ports_words, push_record, lower_all, connect_memories}
-use Rattle.net_view.specs.View.{Formed}
-use Rattle.net_view.specs.Formed.{Ported, formed_memory, formed_memory₂}
-use Rattle.net_view.specs.Laws.{with_record}
-use Rattle.law_nets.specs.Run.{Meets, meets_bind}
-use Rattle.law_walk.specs.Good.{Good, GoodPort}
-use Rattle.law_walk.specs.Kept.{Any, more_refl, Inv, WalkedTo}
-use Rattle.law_walk.specs.Writes.{inv_netlist}
+use Rattle.spec_model.specs.Lowering.{State, signal_width, signal_net, signal_nets, whole_nets, net_control, option_control, word_steps, enable_steps, bit_step, control_steps, second_steps, memory_steps, port_words}
+use Rattle.law_walk.specs.Good.{GoodPort}
 use Rattle.law_walk.specs.Reads.{AllAsked, AllAfter}
-use Rattle.law_walk.proofs.ReadsLaws.{read_whole}
-use Rattle.law_walk.specs.Gates.{Gates}
-use Rattle.law_walk.proofs.Walk.{all_walk}
-use Rattle.law_records.specs.Back.{memory_port, words_of, ported, port_back, memory_back, memory_back₂}
-use Rattle.law_phases.specs.Made.{limited_later, SamePort, SameSecond, SameMemory, Connected}
-use Rattle.law_phases.specs.Pushed.{asked_append, after_append, control_asked, bit_is, control_same, control_there, nets_length, memories_one, registers_left, outputs_left, pushed}
+use Rattle.law_records.specs.Back.{memory_port, words_of}
+use Rattle.law_phases.specs.Pushed.{asked_append, after_append, control_asked}
 
 -- a port as it is recorded
 abbrev pub cell_of : Module → State → Port → N.MemoryPort

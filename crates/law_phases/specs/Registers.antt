@@ -1,39 +1,19 @@
 -- `connect_registers`: each bit of each register has its record, with the nets of its next value and controls. Assumes nothing.
 use Rattle.std.specs.Prelude.{◌≡◌, Bool, true, eqb, length}
-use Rattle.std.proofs.Math.Path.{refl, sym, ap}
-use Rattle.std.proofs.Common.{◌∙◌, eq-eqb, ne_eqb}
-use Rattle.std.proofs.Math.Bool.{false, cond}
-use mathlib.Core.List.{List, [], ◌∷◌, ◌++◌}
+use Rattle.std.proofs.Math.Path.{refl}
+use Rattle.std.proofs.Math.Bool.{false}
+use mathlib.Core.List.{[], ◌∷◌, ◌++◌}
 use Rattle.std.proofs.Math.Option.{Option, none, some}
-use Prim.Native.Nat.{ℕ, zero, suc, ◌+◌, ◌≤◌, ◌<◌}
-use Rattle.std.proofs.Math.Decide.{ℕ_discrete, dec_lt}
-use native.Mathlib.Omega.{arith}
-use Rattle.std.proofs.Math.ListN.{get_or, get_elem?}
-use Rattle.spec_rtl.specs.Rtl.{Module, Control, Reset, Register, Valuation, word}
-use Rattle.spec_rules.specs.NetlistImage.{register_bit_of}
-use Rattle.spec_rules.specs.Step.{Setting, Contents, perhaps}
-use Rattle.spec_model.specs.Words.{Netlist, absent, bit_word, low_word, control_words, reset_words}
-use Rattle.spec_model.specs.Builder.{constant_value}
-use Rattle.spec_model.specs.Ranges.{width_at}
-use Rattle.spec_model.specs.Lowering.{State, whole, signal_width, signal_net, whole_net, whole_nets, net_control, option_control, wholes, bit_step, control_steps, reset_steps, register_steps, push_register, reset_by, register_bit, register_bits, lower_all, connect_registers}
-use Rattle.net_view.specs.Formed.{formed_register}
-use Rattle.net_view.specs.Laws.{with_record}
-use Rattle.law_nets.specs.Meaning.{net_value}
-use Rattle.law_nets.specs.Sound.{count, Later}
-use Rattle.law_nets.specs.Run.{Meets, meets_bind, meets_map}
-use Rattle.law_gates.specs.Gates.{constant_later}
+use Prim.Native.Nat.{ℕ, ◌+◌, ◌<◌}
+use Rattle.std.proofs.Math.ListN.{get_elem?}
+use Rattle.spec_rtl.specs.Rtl.{Module, Control, Reset, Register}
+use Rattle.spec_rules.specs.Step.{perhaps}
+use Rattle.spec_model.specs.Words.{bit_word, control_words, reset_words}
+use Rattle.spec_model.specs.Lowering.{State, whole, signal_width, wholes, bit_step, control_steps, reset_steps, register_steps}
 use Rattle.law_walk.specs.Tables.{Has}
-use Rattle.law_walk.specs.Good.{Good, GoodRegister}
-use Rattle.law_walk.specs.Kept.{Any, Agrees, more_refl, NetsGive, Inv, WalkedTo}
-use Rattle.law_walk.specs.Writes.{inv_netlist}
-use Rattle.law_walk.specs.Reads.{AllAsked, AllAfter, below_at, map_at}
-use Rattle.law_walk.proofs.ReadsLaws.{whole_length}
-use Rattle.law_walk.proofs.ReadsLaws.{read_whole}
-use Rattle.law_walk.specs.Gates.{Gates}
-use Rattle.law_walk.proofs.Walk.{all_walk}
-use Rattle.law_records.specs.Back.{ThereReset, register_back}
-use Rattle.law_phases.specs.Made.{limited_later, IsConstant, SameReset, SameBit, Connected}
-use Rattle.law_phases.specs.Pushed.{asked_append, after_append, control_asked, all_after_netlist, bit_is, net_there, control_same, control_there, memories_left, registers_one, outputs_left, pushed}
+use Rattle.law_walk.specs.Good.{GoodRegister}
+use Rattle.law_walk.specs.Reads.{AllAsked, AllAfter}
+use Rattle.law_phases.specs.Pushed.{asked_append, after_append, control_asked}
 
 reset_asked : (m : Module) (o : Option Reset) → ((x : Reset) → o ≡ some x → x.value < length m.exprs) → AllAsked m (reset_steps o)
 reset_asked m none h = tt

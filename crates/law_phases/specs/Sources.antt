@@ -19,8 +19,7 @@ use Rattle.spec_rules.specs.NetlistImage.{memory_of, register_bit_of}
 use Rattle.spec_rules.specs.Step.{Setting, Contents, bit_by, rounds, memory_bit, data_width}
 use Rattle.spec_model.specs.Words.{Netlist, absent, source}
 use Rattle.spec_model.specs.Builder.{refused, done, Made, add_nodes, add_input_port}
-use Rattle.spec_model.specs.Ranges.{width_at}
-use Rattle.spec_model.specs.Lowering.{State, cell, whole, with_netlist, set_signal, signal_width, start, reserve, reserve_input, reserve_inputs, reserve_bits, reserve_registers, reserve_second, reserve_memories, reserve_sources}
+use Rattle.spec_model.specs.Lowering.{State, cell, with_netlist, set_signal, signal_width, start, reserve, reserve_input, reserve_inputs, reserve_bits, reserve_registers, reserve_second, reserve_memories, reserve_sources}
 use Rattle.word_laws.specs.Shift.{length_tab}
 use Rattle.law_nets.specs.Meaning.{meaning_of, records_with, net_value}
 use Rattle.law_nets.specs.Sound.{count, Sound, Later, At, StandsAll}
@@ -33,11 +32,11 @@ use Rattle.law_gates.specs.Added.{recorded_others}
 use Rattle.law_gates.specs.Sources.{register_run, memory_run}
 use Rattle.law_gates.specs.Ports.{InputPort, input_nodes}
 use Rattle.law_gates.proofs.Ports.{input_port_run, input_outputs}
-use Rattle.law_walk.specs.Tables.{none_some, some_eq, Shaped, filled}
+use Rattle.law_walk.specs.Tables.{none_some, some_eq, Shaped}
 use Rattle.law_walk.specs.Good.{Good}
 use Rattle.law_walk.specs.Kept.{Any, Agrees, Wide}
 use Rattle.law_walk.specs.Reads.{below_at, map_at}
-use Rattle.law_phases.specs.Made.{Limited, limited_later, Connected}
+use Rattle.law_phases.specs.Made.{Limited, limited_later}
 use Rattle.law_phases.specs.Drivers.{input_driver, register_driver, first_driver, second_driver}
 
 -- ---- lists ----

@@ -1,31 +1,26 @@
 -- What is proved of specs/Constants: Where the lowering comes to its end under some limits, no register has a reset bit that is not a constant net, under whatever limits that is
 -- asked. Assumes nothing.
-use Rattle.std.specs.Prelude.{◌≡◌, refl, Bool, length, get_or, take}
-use Rattle.std.proofs.Common.{sym, ◌∙◌, not-suc-le-zero, le_of_suc-le-suc}
+use Rattle.std.specs.Prelude.{◌≡◌, Bool, length}
+use Rattle.std.proofs.Common.{sym, ◌∙◌}
 use Rattle.std.proofs.Math.Path.{ap, subst}
 use Rattle.std.proofs.Math.Bool.{false}
-use mathlib.Core.List.{List, [], ◌∷◌}
+use mathlib.Core.List.{List}
 use Rattle.std.proofs.Math.Option.{Option, none, some}
 use Prim.Native.Nat.{ℕ, zero, suc, ◌+◌, ◌-◌, ◌≤◌, ◌<◌}
 use Rattle.std.proofs.Math.Decide.{ℕ_discrete}
 use native.Mathlib.Omega.{arith}
-use Rattle.std.proofs.Math.ListN.{get_elem?}
 use Rattle.spec_rtl.specs.Rtl.{Module, Reset, Register}
-use Rattle.spec_model.specs.Words.{absent}
 use Rattle.spec_model.specs.Builder.{Out, refused, done, and_then, constant_value, node_for_net}
 use Rattle.spec_model.specs.Lowering.{State, whole, whole_nets, whole_net, signal_width, register_steps, lower_all, start, reserve_sources, reset_by, register_bit, register_bits, connect_memories, connect_registers, lower_state}
 use Rattle.spec_answers.specs.Refusals.{before, up_to, NotConstant}
 use Rattle.law_nets.specs.Run.{Meets}
-use Rattle.law_walk.specs.Tables.{none_some, some_eq}
 use Rattle.law_walk.specs.Good.{Good}
 use Rattle.law_needs.specs.Inside.{Within}
 use Rattle.law_limits.specs.Bounds.{states, limited_state}
-use Rattle.law_limits.proofs.Bounds.{Bounds}
 use Rattle.law_limits.specs.Larger.{not_done}
 use Rattle.law_limits.proofs.Larger.{larger}
 use Rattle.law_phases.specs.Sources.{inside}
-use Rattle.law_limits.proofs.Walked.{walks_then, all_walks}
-use Rattle.law_limits.proofs.Phases.{sources_walk, connect_memories_walk, connect_registers_walk, from_start, limits}
+use Rattle.law_limits.proofs.Phases.{limits}
 use Rattle.law_refused.specs.Phases.{Pushed}
 use Rattle.law_refused.proofs.Phases.{same_constant, BitFault, bit_pushed, connect_one, before_more}
 use Rattle.law_refused.specs.Constants.{done_first, get_or_is, take_all, there, up_to_bounds}

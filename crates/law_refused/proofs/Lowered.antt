@@ -1,15 +1,15 @@
 -- What is proved of specs/Lowered: The whole lowering: what its refusals tell; where it comes to its end, every needed bit has a net, is driven, by an expression lowered whole,
 -- and does not need itself. Assumes nothing.
 use Rattle.std.proofs.Math.Path.{◌≡◌, sym}
-use Rattle.std.specs.Prelude.{refl, Bool, List, [], ◌∷◌, map, ℕ, zero, suc, ◌+◌, ◌≤◌, get_or, replicate}
+use Rattle.std.specs.Prelude.{refl, Bool, ℕ, ◌+◌, ◌≤◌}
 use Rattle.std.proofs.Common.{subst, ◌∙◌, zero-add, arith}
 use Rattle.std.proofs.Math.Bool.{true, false}
 use Rattle.std.proofs.Math.ListN.{length}
 use Rattle.spec_rtl.specs.Rtl as R
-use Rattle.spec_rtl.specs.Rtl.{Module, Sig}
+use Rattle.spec_rtl.specs.Rtl.{Module}
 use Rattle.spec_model.specs.Words.{absent}
 use Rattle.spec_model.specs.Builder.{Out, refused, done}
-use Rattle.spec_model.specs.Lowering.{State, cell, whole, start, reserve_sources, connect_memories, connect_registers, connect_outputs, lower_state, signal_steps}
+use Rattle.spec_model.specs.Lowering.{State, whole, start, reserve_sources, connect_memories, connect_registers, connect_outputs, lower_state, signal_steps}
 use Rattle.spec_needs.specs.Reads.{Place}
 use Rattle.spec_needs.specs.Needs.{In, starts, Needed}
 use Rattle.spec_answers.specs.Refusals.{before, Undriven, Looping}

@@ -1,5 +1,5 @@
 -- What is proved of specs/Phases: Memories, registers and outputs, one after another: each refusal told, and what they need served where there is none. Assumes nothing.
-use Rattle.std.specs.Prelude.{◌≡◌, Bool, true, cond, leb, ltb, get_or, take}
+use Rattle.std.specs.Prelude.{◌≡◌, Bool, cond, ltb, get_or, take}
 use Rattle.std.proofs.Math.Path.{refl, ap, fun_ext}
 use Rattle.std.proofs.Common.{sym, subst, ◌∙◌, not-suc-le-zero, le_of_suc-le-suc}
 use Rattle.std.proofs.Math.Bool.{false}
@@ -10,12 +10,11 @@ use native.Mathlib.Omega.{arith}
 use Rattle.std.proofs.Math.ListN.{length, get_elem?}
 use Rattle.spec_rtl.specs.Rtl as R
 use Rattle.spec_rtl.specs.Rtl.{Module, Sig, Dir, Reset, Register, Memory}
-use Rattle.spec_model.specs.Words.{Node, Netlist, absent, gate, used, bit_word}
-use Rattle.spec_model.specs.Builder.{Out, refused, done, and_then, Made, push, node_for_net, constant_of, constant_value, add_output_port}
+use Rattle.spec_model.specs.Words.{Node, absent, gate, bit_word}
+use Rattle.spec_model.specs.Builder.{Out, refused, done, and_then, Made, node_for_net, constant_of, constant_value, add_output_port}
 use Rattle.spec_model.specs.Lowering.{State, start, reserve_sources, reset_steps, control_steps, bit_step, wholes, whole, whole_nets, whole_net, with_netlist, signal_width, signal_nets, signal_steps, memory_steps, register_steps, ports_words, lower_all, push_record, net_control, push_register, reset_by, register_bit, register_bits, connect_memories, connect_registers, connect_output, connect_outputs}
 use Rattle.spec_answers.specs.Refusals.{before, NotConstant}
-use Rattle.net_view.specs.Laws.{with_record}
-use Rattle.law_nets.specs.Run.{Meets, meets_bind, meets_map, Limit, list}
+use Rattle.law_nets.specs.Run.{Meets, meets_bind, meets_map, Limit}
 use Rattle.law_walk.specs.Tables.{none_some, Has}
 use Rattle.law_walk.specs.Good.{Good}
 use Rattle.law_walk.specs.Kept.{Any}
@@ -23,7 +22,6 @@ use Rattle.law_walk.specs.Reads.{AllAfter}
 use Rattle.law_walk.proofs.ReadsLaws.{whole_length}
 use Rattle.law_needs.specs.Room.{Roomy, refused_by_law, output_room}
 use Rattle.law_needs.specs.Inside.{Within}
-use Rattle.law_needs.specs.Complete.{Further}
 use Rattle.law_phases.specs.Supply.{supply}
 use Rattle.law_phases.specs.Made.{Connected}
 use Rattle.law_phases.proofs.Made.{connected_grew}

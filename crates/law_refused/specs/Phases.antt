@@ -1,39 +1,22 @@
 -- Memories, registers and outputs, one after another: each refusal told, and what they need served where there is none. Assumes nothing.
-use Rattle.std.specs.Prelude.{◌≡◌, Bool, true, cond, leb, ltb, get_or, take}
-use Rattle.std.proofs.Math.Path.{refl, ap, fun_ext}
-use Rattle.std.proofs.Common.{sym, subst, ◌∙◌, not-suc-le-zero, le_of_suc-le-suc}
+use Rattle.std.specs.Prelude.{◌≡◌, Bool, true, cond, leb}
+use Rattle.std.proofs.Math.Path.{refl, ap}
+use Rattle.std.proofs.Common.{sym, subst, ◌∙◌}
 use Rattle.std.proofs.Math.Bool.{false}
-use mathlib.Core.List.{List, [], ◌∷◌, ◌++◌}
-use Rattle.std.proofs.Math.Option.{Option, none, some}
-use Prim.Native.Nat.{ℕ, zero, suc, ◌+◌, ◌-◌, ◌≤◌, ◌<◌}
+use mathlib.Core.List.{List, [], ◌∷◌}
+use Rattle.std.proofs.Math.Option.{some}
+use Prim.Native.Nat.{ℕ, zero, suc, ◌+◌}
 use native.Mathlib.Omega.{arith}
 use Rattle.std.proofs.Math.ListN.{length, get_elem?}
-use Rattle.spec_rtl.specs.Rtl as R
-use Rattle.spec_rtl.specs.Rtl.{Module, Sig, Dir, Reset, Register, Memory}
-use Rattle.spec_model.specs.Words.{Node, Netlist, absent, gate, used, bit_word}
-use Rattle.spec_model.specs.Builder.{Out, refused, done, and_then, Made, push, node_for_net, constant_of, constant_value, add_output_port}
-use Rattle.spec_model.specs.Lowering.{State, start, reserve_sources, reset_steps, control_steps, bit_step, wholes, whole, whole_nets, whole_net, with_netlist, signal_width, signal_nets, signal_steps, memory_steps, register_steps, ports_words, lower_all, push_record, net_control, push_register, reset_by, register_bit, register_bits, connect_memories, connect_registers, connect_output, connect_outputs}
-use Rattle.spec_answers.specs.Refusals.{before, NotConstant}
+use Rattle.spec_rtl.specs.Rtl.{Module}
+use Rattle.spec_model.specs.Words.{Netlist, used}
+use Rattle.spec_model.specs.Builder.{Out, refused, done, and_then, push}
+use Rattle.spec_model.specs.Lowering.{State, with_netlist, push_record}
 use Rattle.net_view.specs.Laws.{with_record}
 use Rattle.law_nets.specs.Run.{Meets, meets_bind, meets_map, Limit, list}
-use Rattle.law_walk.specs.Tables.{none_some, Has}
-use Rattle.law_walk.specs.Good.{Good}
-use Rattle.law_walk.specs.Kept.{Any}
-use Rattle.law_walk.specs.Reads.{AllAfter}
-use Rattle.law_walk.proofs.ReadsLaws.{whole_length}
-use Rattle.law_needs.specs.Room.{Roomy, refused_by_law, output_room}
-use Rattle.law_needs.specs.Inside.{Within}
+use Rattle.law_walk.specs.Tables.{none_some}
 use Rattle.law_needs.specs.Complete.{Further}
-use Rattle.law_phases.specs.Supply.{supply}
-use Rattle.law_phases.specs.Made.{Connected}
-use Rattle.law_phases.proofs.Made.{connected_grew}
-use Rattle.law_phases.specs.Sources.{got}
-use Rattle.law_phases.proofs.Memories.{memory_pushed}
-use Rattle.law_phases.proofs.Registers.{Done, bits_run}
-use Rattle.law_phases.proofs.Outputs.{port_run}
-use Rattle.law_phases.proofs.Outputs.{no_output}
-use Rattle.law_refused.specs.Stands.{Strays, room, Stands, stands_netlist, AllGot, got_split, AllServed, served_stays, further_refl, further_trans, further_netlist, LoweredTo, all_lowered}
-use Rattle.law_refused.specs.Starts.{memory_starting, register_starting, output_starting}
+use Rattle.law_refused.specs.Stands.{Stands, stands_netlist, further_refl, further_trans, further_netlist}
 
 -- ---- two claims of one outcome ----
 

@@ -1,19 +1,12 @@
 -- What is proved of specs/Added: All stays where a node is added that was not found or is never looked for, and where a record is pushed that is no arithmetic cell or one
 -- that is not folded: so where an output port is made or the record of a register's bit or of a memory is pushed. Assumes nothing.
-use Rattle.std.specs.Prelude.{◌≡◌, refl, Bool, true, false, cond, List, [], ◌∷◌, ◌++◌, ℕ, ◌+◌, ◌≤◌, ltb, get_or}
-use Rattle.std.proofs.Common.{sym, ap₂, subst, ◌∙◌, arith, eq-eqb}
-use Rattle.std.proofs.Math.Option.{Option, none, some}
+use Rattle.std.specs.Prelude.{◌≡◌, Bool, true, false, cond, List, [], ◌∷◌, ℕ, ltb, get_or}
+use Rattle.std.proofs.Common.{arith}
 use Rattle.std.proofs.Math.ListN.{length}
-use Rattle.spec_model.specs.Words.{absent, Node, node, Netlist, used, arithmetic_key}
-use Rattle.spec_model.specs.Builder.{Out, refused, done, and_then, Made, add_node, push, same, find, each, both, from, add_nodes, add_recorded, add_output_port, ArithmeticOp, arithmetic_word, fold_constant_arithmetic}
-use Rattle.spec_model.specs.WordCells.{begins}
-use Rattle.net_view.specs.Laws.{with_node, with_record}
-use Rattle.net_index.specs.Laws.{Same, same_true, find_hit, find_miss}
-use Rattle.net_index.specs.CellLaws.{begins_miss, snoc_miss}
-use Rattle.law_nets.specs.Run.{grew_trans, Meets, Limit}
-use Rattle.law_gates.specs.Nodes.{grew_node}
-use Rattle.law_gates.specs.Added.{grew_record, pushed}
-use Rattle.law_repeats.specs.Again.{Looked, Stays, stays_refl, stays_trans}
+use Rattle.spec_model.specs.Words.{absent, Node, node, Netlist}
+use Rattle.spec_model.specs.Builder.{refused, done, add_node, push, from, add_nodes, add_output_port}
+use Rattle.net_view.specs.Laws.{with_node}
+use Rattle.law_repeats.specs.Again.{Looked, Stays, stays_refl}
 use Rattle.law_repeats.specs.Added.{DoneStays, Keeps, keeps_both, keeps_done, keeps_each, keeps_recorded, other_kind, push_other, stays_node}
 
 pub keeps_node : (x : Node) (l : Netlist) → (Looked x → ⊥) → Keeps l (add_node x l)

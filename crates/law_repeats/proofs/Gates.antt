@@ -1,18 +1,17 @@
 -- What is proved of specs/Gates: Constants and gates made again, one of them, a list, and one for each pair of two lists. Assumes nothing.
-use Rattle.std.specs.Prelude.{◌≡◌, refl, Bool, not, cond, ◌||◌, List, [], ◌∷◌, ℕ, suc, ◌<◌, min, max, eqb, ltb, length}
-use Rattle.std.proofs.Common.{ap, ap₂, le_trans, arith}
+use Rattle.std.specs.Prelude.{◌≡◌, refl, Bool, not, cond, List, [], ◌∷◌, ℕ, ◌<◌, min, max, eqb, ltb, length}
+use Rattle.std.proofs.Common.{ap, le_trans, arith}
 use Rattle.std.proofs.Math.Bool.{true, false}
 use Rattle.std.proofs.Math.Option.{Option, none, some}
-use Rattle.std.proofs.Math.ListN.{get_elem?}
 use Rattle.spec_model.specs.Words.{absent, Node, node, gate, Netlist, bit_word}
-use Rattle.spec_model.specs.Builder.{refused, done, and_then, Made, add_node, node_for_net, is_value, is_constant, find, or_made, add_cached, add_constant, not_by, add_not, add_and, add_or, add_xor, mux_by, add_mux, also, each, both}
+use Rattle.spec_model.specs.Builder.{refused, done, add_node, node_for_net, find, or_made, add_cached, add_constant, not_by, add_not, add_and, add_or, add_xor, mux_by, add_mux, each, both}
 use Rattle.spec_model.specs.Ranges.{Gate, AndGate, OrGate, XorGate}
 use Rattle.spec_model.specs.Lowering.{add_gate}
 use Rattle.net_view.specs.Laws.{with_node}
 use Rattle.word_laws.specs.Widths.{AllBelow}
 use Rattle.law_nets.specs.Sound.{count}
 use Rattle.law_nets.specs.Nodes.{count_grew}
-use Rattle.law_repeats.specs.Again.{Looked, Stays, stays_refl, below_stays, value_stays, Repeats, Again, again_here, again_bind, again_if, again_value, again_node}
+use Rattle.law_repeats.specs.Again.{Looked, stays_refl, below_stays, Repeats, Again, again_here, again_if, again_value, again_node}
 use Rattle.law_repeats.specs.Added.{find_made, stays_node}
 use Rattle.law_repeats.specs.Gates.{again_both, again_cons, again_each, again_either, again_eq, again_is}
 

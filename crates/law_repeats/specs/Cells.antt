@@ -1,24 +1,13 @@
 -- Arithmetic and comparison cells made again: a cell that was found, or made, is found; one that is folded is folded to the same constants,
 -- since no cell that is made begins with its key. Assumes nothing.
-use Rattle.std.specs.Prelude.{◌≡◌, refl, Bool, true, false, ℕ, ◌≤◌, ◌<◌, length, drop}
-use Rattle.std.proofs.Common.{sym, ap, subst, ◌∙◌, le_trans, arith, drop_at}
-use mathlib.Core.List.{List, ◌++◌, map}
+use Rattle.std.specs.Prelude.{◌≡◌, refl, Bool, ℕ, ◌<◌}
+use Rattle.std.proofs.Common.{le_trans, arith}
+use mathlib.Core.List.{List}
 use Rattle.std.proofs.Math.Option.{Option, none, some}
-use Rattle.spec_rules.specs.NetlistImage as N
-use Rattle.spec_rules.specs.NetlistImage.{arithmetic_of}
-use Rattle.spec_model.specs.Words as W
-use Rattle.spec_model.specs.Words.{absent, Node, source, Netlist, arithmetic_key, comparison_key}
-use Rattle.spec_model.specs.Builder.{refused, done, Made, or_made, each, from, add_nodes, add_recorded, add_constant, ArithmeticOp, ComparisonOp, arithmetic_word, comparison_word, constant_value, constant_values, carry_value, fold_by, fold_constant_arithmetic, add_arithmetic, add_comparison}
-use Rattle.spec_model.specs.WordCells.{begins, find_cell, arithmetic, comparison}
-use Rattle.net_index.specs.CellLaws.{begins_self, snoc_new}
+use Rattle.spec_model.specs.Words.{absent, Netlist}
+use Rattle.spec_model.specs.Builder.{ArithmeticOp, constant_value, constant_values, carry_value, fold_by, fold_constant_arithmetic}
 use Rattle.law_nets.specs.Sound.{count, CarryBelow, Sound}
 use Rattle.law_nets.specs.Nodes.{constant_there}
-use Rattle.law_nets.specs.Run.{Meets, Limit}
-use Rattle.law_gates.specs.Added.{with_nodes, nodes_limits, nodes_added, Recorded, recorded}
-use Rattle.law_cells.specs.Records.{arithmetic_of_law}
-use Rattle.law_cells.specs.Cells.{begins_is}
-use Rattle.law_repeats.specs.Again.{Looked, fold_grew, cell_grew, stays_refl, Repeats, Again, again_as}
-use Rattle.law_repeats.specs.Added.{Other, other_kind, keeps_done, keeps_recorded}
 
 -- ---- arithmetic ----
 

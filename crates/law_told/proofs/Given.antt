@@ -1,19 +1,19 @@
 -- What is proved of specs/Given: The list of an accepted image is its records one after the other, and what is given of nodes and records one by one is them. Assumes
 -- nothing.
-use Rattle.std.specs.Prelude.{ℕ, zero, suc, ◌+◌, ◌-◌, ◌≤◌, ◌<◌, ◌≡◌, refl, true, false, not, List, [], ◌∷◌, ◌++◌, take, drop, get_or}
+use Rattle.std.specs.Prelude.{ℕ, zero, suc, ◌+◌, ◌-◌, ◌≤◌, ◌<◌, ◌≡◌, refl, true, false, List, [], ◌∷◌, ◌++◌, take, drop}
 use native.Mathlib.Omega.{arith}
 use Rattle.std.proofs.Math.Path.{sym}
-use Rattle.std.proofs.Common.{ap, subst, ◌∙◌, append_assoc, take-append-drop, length-take, length-drop, length-append}
-use Rattle.std.proofs.Math.ListN.{length, get_or-append}
-use Rattle.std.proofs.Math.Seq.{take-append_seam, drop-append_seam}
-use Rattle.spec_tests.specs.Rules.{◌<?◌, ◌≡?◌, ◌or◌, ◌and◌, pick, first, Fine}
-use Rattle.spec_tests.specs.Laws.{or_no, and_miss, no_lt, lt_yes, lt_no}
-use Rattle.spec_rules.specs.NetlistImage.{node_word, record_length, split, records_of}
-use Rattle.spec_model.specs.Words.{Node, Netlist, list_words}
+use Rattle.std.proofs.Common.{ap, subst, ◌∙◌, take-append-drop, length-take, length-drop, length-append}
+use Rattle.std.proofs.Math.ListN.{length}
+use Rattle.std.proofs.Math.Seq.{drop-append_seam}
+use Rattle.spec_tests.specs.Rules.{◌<?◌, ◌or◌, ◌and◌, first, Fine}
+use Rattle.spec_tests.specs.Laws.{and_miss, lt_no}
+use Rattle.spec_rules.specs.NetlistImage.{record_length, split, records_of}
+use Rattle.spec_model.specs.Words.{Netlist, list_words}
 use Rattle.spec_model.specs.Builder.{node_for_net}
 use Rattle.spec_netlist.specs.Accept.{nets, used, list_at_of, wrong_word, judged, list_answer, accepts}
-use Rattle.spec_netlist.specs.Given.{list_from, record_from, is_node, node_given, is_record, record_given, Same}
-use Rattle.law_told.specs.Told.{pick_fine, none_of, both, pick_yes, pick_no, Told, told, whole, length_some}
+use Rattle.spec_netlist.specs.Given.{list_from, is_node, node_given, is_record, Same}
+use Rattle.law_told.specs.Told.{pick_fine, none_of, Told, told, whole, length_some}
 use Rattle.law_told.proofs.Told.{fits}
 use Rattle.law_told.specs.If.{Rights}
 use Rattle.law_told.specs.Walked.{list_whole}

@@ -1,13 +1,13 @@
 -- What is proved of specs/Told: What an accepted netlist image tells: no word of it is wrong. Assumes nothing.
-use Rattle.std.specs.Prelude.{ℕ, zero, suc, ◌+◌, ◌*◌, ◌-◌, ◌/◌, ◌%◌, ◌≤◌, ◌<◌, min, ◌≡◌, refl, Bool, true, false, not, List, [], ◌∷◌, ◌++◌, take, drop, get_or}
+use Rattle.std.specs.Prelude.{ℕ, zero, suc, ◌+◌, ◌-◌, ◌≤◌, ◌<◌, ◌≡◌, refl, Bool, true, false, not, List, [], ◌∷◌, ◌++◌, take, drop, get_or}
 use native.Mathlib.Omega.{arith}
-use Rattle.std.proofs.Common.{sym, ap, subst, ◌∙◌, true≢false, append_assoc, take-append-drop, length-take}
+use Rattle.std.proofs.Common.{sym, ap, ◌∙◌, take-append-drop, length-take}
 use Rattle.std.proofs.Math.Decide.{ℕ_discrete}
 use Rattle.std.proofs.Math.ListN.{length}
-use Rattle.spec_tests.specs.Rules.{◌<?◌, ◌≡?◌, ◌or◌, ◌and◌, pick, first, Answer, Fine, Refused, and_then}
-use Rattle.spec_tests.specs.Laws.{or_no, or_skip, and_skip, no_lt, no_ne, eq_yes, eq_no, inside, first_most, none as first_none}
-use Rattle.spec_rules.specs.NetlistImage.{node_word, port_length, record_length, split, records_of}
-use Rattle.spec_netlist.specs.Accept.{nets, used, list_at_of, limit, wrong_header, wrong_node_word, belongs, ports_length, extent, member, own_nets, taken, wrong_memory, wrong_word, judged, first_wrong, header_answer, length_answer, nodes_answer, list_answer, alone, alone_answer, wrong_count, counts_answer, body_answer, accepts}
+use Rattle.spec_tests.specs.Rules.{◌<?◌, ◌≡?◌, ◌or◌, ◌and◌, pick, first, Fine}
+use Rattle.spec_tests.specs.Laws.{or_no, no_lt}
+use Rattle.spec_rules.specs.NetlistImage.{node_word, record_length, split, records_of}
+use Rattle.spec_netlist.specs.Accept.{nets, used, list_at_of, belongs, extent, taken, wrong_word, judged, list_answer, alone}
 use Rattle.law_told.specs.Told.{Owner, Right, RightHere, Told, and_second, find_owner, is_owned, length_some, memory_extent, memory_length_law, none_of, other_extent, pick_fine, ports_right, untrue}
 
 -- a record whose port count, if it is a memory's, is right takes as many words as its length says

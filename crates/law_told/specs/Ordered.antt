@@ -4,13 +4,13 @@ use Rattle.std.proofs.Common.{not-suc-le-zero, arith, sym, ap, ◌∙◌, length
 use Rattle.std.proofs.Math.Bool.{true}
 use Rattle.std.proofs.Math.Option.{Option, none, some}
 use Rattle.std.proofs.Math.ListN.{get_or, get_or-append}
-use Rattle.spec_tests.specs.Rules.{◌<?◌, ◌≡?◌, ◌≢?◌, ◌or◌, ◌and◌, pick, each, list_of, only, Fine}
+use Rattle.spec_tests.specs.Rules.{◌<?◌, ◌≡?◌, ◌≢?◌, ◌or◌, ◌and◌, pick, each, only}
 use Rattle.spec_tests.specs.Laws.{or_no, no_lt, yes_lt, no_eq, eq_yes, eq_no, ne_yes, lt_yes}
 use Rattle.spec_rules.specs.Image.{absent, optional}
 use Rattle.spec_rules.specs.NetlistImage as N
-use Rattle.spec_rules.specs.NetlistImage.{Netlist, node_word, node_of, node_at_of, records_of, records_with, arithmetic_of, comparison_of, netlist}
-use Rattle.spec_netlist.specs.Accept.{nets, belongs, input_count, wrong_input, wrong_node_word, member, own_nets, count_of, not_above, wrong_word, accepts}
-use Rattle.law_told.specs.Told.{untrue, both, and_second, pick_yes, pick_no, Told, told, few, node_right, RightHere, Owner}
+use Rattle.spec_rules.specs.NetlistImage.{Netlist, node_word, node_of, records_of, records_with, arithmetic_of, comparison_of}
+use Rattle.spec_netlist.specs.Accept.{nets, belongs, input_count, wrong_input, wrong_node_word, member, own_nets, count_of, not_above, wrong_word}
+use Rattle.law_told.specs.Told.{untrue, both, and_second, pick_yes, pick_no, Told, few, node_right, RightHere, Owner}
 use Rattle.law_told.specs.Members.{no_member, member_split, member_one}
 use Rattle.law_told.specs.Owned.{not_false, Within, within, word_in, CellOwn, register_own, port_own, arithmetic_own, comparison_own, memory_own}
 

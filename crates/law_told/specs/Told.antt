@@ -1,13 +1,13 @@
 -- What an accepted netlist image tells: no word of it is wrong. Assumes nothing.
-use Rattle.std.specs.Prelude.{ℕ, zero, suc, ◌+◌, ◌*◌, ◌-◌, ◌/◌, ◌%◌, ◌≤◌, ◌<◌, min, ◌≡◌, refl, Bool, true, false, not, List, [], ◌∷◌, ◌++◌, take, drop, get_or}
+use Rattle.std.specs.Prelude.{ℕ, ◌+◌, ◌*◌, ◌/◌, ◌%◌, ◌≤◌, ◌<◌, min, ◌≡◌, refl, Bool, true, false, List, [], ◌∷◌, ◌++◌, drop, get_or}
 use native.Mathlib.Omega.{arith}
-use Rattle.std.proofs.Common.{sym, ap, subst, ◌∙◌, true≢false, append_assoc, take-append-drop, length-take}
+use Rattle.std.proofs.Common.{sym, ap, subst, ◌∙◌, true≢false, append_assoc}
 use Rattle.std.proofs.Math.Decide.{ℕ_discrete}
 use Rattle.std.proofs.Math.ListN.{length}
 use Rattle.spec_tests.specs.Rules.{◌<?◌, ◌≡?◌, ◌or◌, ◌and◌, pick, first, Answer, Fine, Refused, and_then}
 use Rattle.spec_tests.specs.Laws.{or_no, or_skip, and_skip, no_lt, no_ne, eq_yes, eq_no, inside, first_most, none as first_none}
-use Rattle.spec_rules.specs.NetlistImage.{node_word, port_length, record_length, split, records_of}
-use Rattle.spec_netlist.specs.Accept.{nets, used, list_at_of, limit, wrong_header, wrong_node_word, belongs, ports_length, extent, member, own_nets, taken, wrong_memory, wrong_word, judged, first_wrong, header_answer, length_answer, nodes_answer, list_answer, alone, alone_answer, wrong_count, counts_answer, body_answer, accepts}
+use Rattle.spec_rules.specs.NetlistImage.{port_length, record_length}
+use Rattle.spec_netlist.specs.Accept.{nets, used, list_at_of, limit, wrong_header, wrong_node_word, ports_length, extent, member, own_nets, taken, wrong_memory, wrong_word, first_wrong, header_answer, length_answer, nodes_answer, list_answer, alone, alone_answer, wrong_count, counts_answer, body_answer, accepts}
 
 -- ---- answers ----
 

@@ -1,17 +1,13 @@
 -- The records of an accepted image, given one by one, are those that `netlist` reads. Assumes nothing.
-use Prim.Native.Nat.{ℕ, zero, suc, ◌+◌, ◌-◌, ◌≤◌, ◌<◌}
+use Prim.Native.Nat.{ℕ, zero, suc, ◌+◌, ◌-◌}
 use native.Mathlib.Omega.{arith}
 use Rattle.std.specs.Prelude.{◌≡◌}
 use Rattle.std.proofs.Math.Path.{refl, ap}
-use Rattle.std.proofs.Common.{sym, ◌∙◌, length-drop, drop-drop}
-use mathlib.Core.List.{List, [], ◌∷◌, ◌++◌}
-use Rattle.std.proofs.Math.ListN.{length, take, drop, length-take}
-use Rattle.spec_tests.specs.Rules.{◌<?◌, ◌or◌, pick, first, Fine}
-use Rattle.spec_tests.specs.Laws.{lt_yes, lt_no}
-use Rattle.spec_rules.specs.NetlistImage.{record_length, split, records_of}
-use Rattle.spec_netlist.specs.Accept.{used, list_at_of, wrong_word, judged, list_answer}
-use Rattle.spec_netlist.specs.Given.{list_from, record_from, walked, WalkedAll}
-use Rattle.law_told.specs.Told.{pick_fine, none_of, pick_yes, pick_no, told, whole}
+use Rattle.std.proofs.Common.{◌∙◌}
+use mathlib.Core.List.{List, [], ◌∷◌}
+use Rattle.std.proofs.Math.ListN.{take, drop}
+use Rattle.spec_netlist.specs.Accept.{used, list_at_of}
+use Rattle.spec_netlist.specs.Given.{list_from}
 
 pub drop_take : (k m : ℕ) (l : List ℕ) → drop k (take m l) ≡ take (m - k) (drop k l)
 drop_take zero m l = let e : m ≡ m - 0 = omega arith in ap (λ (z : ℕ). take z l) e

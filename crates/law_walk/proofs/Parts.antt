@@ -2,28 +2,27 @@
 use Rattle.std.specs.Prelude.{◌≡◌, Bool, true, false, not, cond, ltb, length, get_or, take, drop}
 use Rattle.std.proofs.Math.Path.{refl, sym, ap}
 use Rattle.std.proofs.Common.{◌∙◌, arith, ltb-true, ltb-false}
-use mathlib.Core.List.{List, [], ◌∷◌, ◌++◌, map, append_assoc, append-nil}
+use mathlib.Core.List.{List, [], ◌∷◌, ◌++◌}
 use Rattle.std.proofs.Math.Option.{Option, none, some}
 use Prim.Native.Nat.{ℕ, ◌+◌, ◌-◌, ◌≤◌, ◌<◌, min, max}
-use Rattle.std.proofs.Math.Decide.{dec_lt}
 use Rattle.std.proofs.Math.Seq.{take-nil, drop-nil}
 use Rattle.spec_rtl.specs.Word.{bits}
-use Rattle.spec_rtl.specs.Ops.{join_w, slice_w, map2}
+use Rattle.spec_rtl.specs.Ops.{slice_w}
 use Rattle.spec_rtl.specs.Rtl as R
-use Rattle.spec_rtl.specs.Rtl.{Module, Valuation, Kind, Unary, Binary, word, word1, binary}
+use Rattle.spec_rtl.specs.Rtl.{Module, Valuation, Kind, Unary, Binary, word, word1}
 use Rattle.spec_model.specs.Words.{Netlist}
-use Rattle.spec_model.specs.Ranges.{expr_at, width_at, class_of, Gate, AndGate, OrGate, XorGate}
-use Rattle.spec_model.specs.Lowering.{State, Step, Always, Range, Piece, pieces, concat_pieces, backwards, gate_of, gate_steps, whole, range_nets, piece_nets, range_gate, kind_range_steps, range_steps_of, range_kind, build_range}
+use Rattle.spec_model.specs.Ranges.{expr_at, width_at, class_of, Gate}
+use Rattle.spec_model.specs.Lowering.{State, Range, pieces, concat_pieces, backwards, gate_of, gate_steps, whole, range_nets, piece_nets, range_gate, kind_range_steps, range_steps_of, range_kind, build_range}
 use Rattle.word_laws.specs.Shift.{tab_ext}
 use Rattle.word_laws.specs.Slices.{map_slice, map2_slice, cond_slice, tab_slice, slice_slice, append_slice}
 use Rattle.word_laws.specs.Values.{slice_wide}
 use Rattle.word_laws.specs.Widths.{AllBelow, BelowE, Formed, WidthOk, word_is, word_width}
 use Rattle.law_nets.specs.Run.{cells_refl}
 use Rattle.law_nets.proofs.Run.{later_refl}
-use Rattle.law_walk.specs.Tables.{none_some, some_eq, Has}
+use Rattle.law_walk.specs.Tables.{Has}
 use Rattle.law_walk.specs.Kept.{NetsGive, Inv, Makes, makes_done, makes_map}
 use Rattle.law_walk.specs.Writes.{holds_length}
-use Rattle.law_walk.specs.Reads.{After, AllAsked, AllAfter, holds_as, holds_nil, holds_append}
+use Rattle.law_walk.specs.Reads.{After, AllAfter, holds_as, holds_nil, holds_append}
 use Rattle.law_walk.proofs.ReadsLaws.{read_range, whole_after}
 use Rattle.law_walk.proofs.ReadsLaws.{read_bits}
 use Rattle.law_walk.specs.Gates.{Gates, gate_op, gives_holds}

@@ -12,27 +12,22 @@ use native.Mathlib.Omega.{arith}
 use Rattle.std.proofs.Math.ListN.{length, get_elem?}
 use Rattle.spec_rtl.specs.Ops.{slice_w}
 use Rattle.spec_rtl.specs.Rtl as R
-use Rattle.spec_rtl.specs.Rtl.{Valuation, Module, Kind, Unary, Binary, Assign, word, by_assign, by_memory, by_register_of, by_dir, of_port, driver, dir_of}
-use Rattle.spec_model.specs.Words.{Netlist, absent}
-use Rattle.spec_model.specs.Builder.{Out, refused, done, and_then, Made, from, is_value}
-use Rattle.spec_model.specs.Ranges.{expr_at, width_at, class_of, Gate}
-use Rattle.spec_model.specs.Lowering.{selected, unless, driven_by, driven_net, range_nets, State, Need, Bit, Whole, Range, Step, Always, Unless, cell, whole, whole_nets, whole_net, with_netlist, set_signal_bit, mark, signal_bit, signal_width, range_known, Operands, operands_of, operand_steps, wholes, signal_steps, backwards, gate_of, gate_steps, concat_pieces, kind_steps, whole_steps, kind_range_steps, range_steps_of, build_whole, build_range, lower_steps, expr_driver, driver_of, drive, resolve_signal_bit, keep_whole, lower_expression, keep_range, lower_expression_range, lower_by, lower_need, plenty, lower_all}
+use Rattle.spec_rtl.specs.Rtl.{Module, Assign, word, by_assign, by_memory, by_register_of, by_dir, of_port, driver, dir_of}
+use Rattle.spec_model.specs.Words.{absent}
+use Rattle.spec_model.specs.Builder.{Out, refused, done, and_then, Made, is_value}
+use Rattle.spec_model.specs.Ranges.{width_at}
+use Rattle.spec_model.specs.Lowering.{selected, unless, driven_by, driven_net, range_nets, State, Need, Bit, Whole, Range, Step, Always, Unless, cell, whole, whole_nets, whole_net, with_netlist, set_signal_bit, mark, signal_bit, signal_width, range_known, wholes, whole_steps, range_steps_of, build_whole, build_range, lower_steps, expr_driver, driver_of, drive, resolve_signal_bit, keep_whole, lower_expression, keep_range, lower_expression_range, lower_by, lower_need, plenty, lower_all}
 use Rattle.word_laws.specs.Values.{slice_wide}
-use Rattle.word_laws.specs.Widths.{AllBelow, BelowE, Formed, WidthOk, word_width}
-use Rattle.word_ranges.specs.Fusion.{CarryBelow}
-use Rattle.word_ranges.proofs.Fusion.{operands}
-use Rattle.law_nets.specs.Meaning.{net_value}
-use Rattle.law_nets.specs.Sound.{count}
+use Rattle.word_laws.specs.Widths.{word_width}
 use Rattle.law_walk.specs.Tables.{none_some, some_eq}
 use Rattle.law_walk.specs.Good.{Good, GoodAssign, Undriven}
-use Rattle.law_walk.specs.Kept.{Table, Grew, NetsGive, Inv, grew_refl, grew_trans, Walks, walks_refused, walks_done, walks_map, walks_bind, Makes}
+use Rattle.law_walk.specs.Kept.{Grew, NetsGive, Inv, grew_refl, grew_trans, Walks, walks_refused, walks_done, walks_map, walks_bind, Makes}
 use Rattle.law_walk.specs.Writes.{holds_length, inv_netlist, grew_netlist, inv_whole, grew_whole, has_whole, inv_range, grew_range, has_range, inv_mark, marked, inv_bit, grew_bit, has_bit}
-use Rattle.law_walk.specs.Reads.{StepAfter, holds_as, Asked, After, after_grew, AllAsked, AllAfter, map_at, below_at}
+use Rattle.law_walk.specs.Reads.{StepAfter, holds_as, Asked, After, after_grew, AllAsked, AllAfter}
 use Rattle.law_walk.proofs.ReadsLaws.{read_range, whole_length, known_after}
 use Rattle.law_walk.proofs.ReadsLaws.{step_stays, read_whole}
 use Rattle.law_walk.specs.Gates.{Gates}
 use Rattle.law_walk.proofs.Wholes.{whole_made}
-use Rattle.law_walk.specs.Parts.{gate_wide, below_turned, pieces_asked}
 use Rattle.law_walk.proofs.Parts.{range_made}
 use Rattle.law_walk.specs.Walk.{Assigned, first_of, head_eq, one_of, whole_asked}
 

@@ -1,30 +1,20 @@
 -- What is made of a range of an expression, once its steps are done, stands for the slice of its word. Assumes nothing.
-use Rattle.std.specs.Prelude.{◌≡◌, Bool, true, false, not, cond, ltb, length, get_or, take, drop}
-use Rattle.std.proofs.Math.Path.{refl, sym, ap}
-use Rattle.std.proofs.Common.{◌∙◌, arith, ltb-true, ltb-false}
+use Rattle.std.specs.Prelude.{◌≡◌, Bool, true, false, cond, ltb, length}
+use Rattle.std.proofs.Math.Path.{refl, sym}
+use Rattle.std.proofs.Common.{◌∙◌, arith, ltb-true}
 use mathlib.Core.List.{List, [], ◌∷◌, ◌++◌, map, append_assoc, append-nil}
-use Rattle.std.proofs.Math.Option.{Option, none, some}
+use Rattle.std.proofs.Math.Option.{some}
 use Prim.Native.Nat.{ℕ, ◌+◌, ◌-◌, ◌≤◌, ◌<◌, min, max}
 use Rattle.std.proofs.Math.Decide.{dec_lt}
-use Rattle.std.proofs.Math.Seq.{take-nil, drop-nil}
-use Rattle.spec_rtl.specs.Word.{bits}
-use Rattle.spec_rtl.specs.Ops.{join_w, slice_w, map2}
+use Rattle.spec_rtl.specs.Ops.{join_w, map2}
 use Rattle.spec_rtl.specs.Rtl as R
-use Rattle.spec_rtl.specs.Rtl.{Module, Valuation, Kind, Unary, Binary, word, word1, binary}
-use Rattle.spec_model.specs.Words.{Netlist}
-use Rattle.spec_model.specs.Ranges.{expr_at, width_at, class_of, Gate, AndGate, OrGate, XorGate}
-use Rattle.spec_model.specs.Lowering.{State, Step, Always, Range, Piece, pieces, concat_pieces, backwards, gate_of, gate_steps, whole, range_nets, piece_nets, range_gate, kind_range_steps, range_steps_of, range_kind, build_range}
-use Rattle.word_laws.specs.Shift.{tab_ext}
-use Rattle.word_laws.specs.Slices.{map_slice, map2_slice, cond_slice, tab_slice, slice_slice, append_slice}
-use Rattle.word_laws.specs.Values.{slice_wide}
-use Rattle.word_laws.specs.Widths.{AllBelow, BelowE, Formed, WidthOk, word_is, word_width}
-use Rattle.law_nets.specs.Run.{cells_refl}
-use Rattle.law_nets.proofs.Run.{later_refl}
-use Rattle.law_walk.specs.Tables.{none_some, some_eq, Has}
-use Rattle.law_walk.specs.Kept.{NetsGive, Inv, Makes, makes_done, makes_map}
-use Rattle.law_walk.specs.Writes.{holds_length}
-use Rattle.law_walk.specs.Reads.{After, AllAsked, AllAfter, holds_as, holds_nil, holds_append}
-use Rattle.law_walk.specs.Gates.{Gates, gate_op, gives_holds}
+use Rattle.spec_rtl.specs.Rtl.{Module, Binary, binary}
+use Rattle.spec_model.specs.Ranges.{width_at, class_of, Gate, AndGate, OrGate, XorGate}
+use Rattle.spec_model.specs.Lowering.{Step, Always, Range, Piece, pieces, backwards, gate_of}
+use Rattle.word_laws.specs.Widths.{AllBelow, WidthOk}
+use Rattle.law_walk.specs.Tables.{none_some, some_eq}
+use Rattle.law_walk.specs.Reads.{AllAsked}
+use Rattle.law_walk.specs.Gates.{gate_op}
 
 -- ---- the numbers of a piece: a part of n bits that begins at bit at ----
 

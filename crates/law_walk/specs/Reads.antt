@@ -1,26 +1,23 @@
 -- What is asked before something is lowered, what is there after it, and that the nets read back have the bits meant. Assumes nothing.
-use Rattle.std.specs.Prelude.{◌≡◌, ◌⊎◌, Bool, false, length, take, drop}
-use Rattle.std.proofs.Math.Path.{refl, ap}
-use Rattle.std.proofs.Common.{sym, ◌∙◌, inl, inr, not-suc-le-zero, le_of_suc-le-suc, add-zero, arith}
+use Rattle.std.specs.Prelude.{◌≡◌, ◌⊎◌, Bool, length, take, drop}
+use Rattle.std.proofs.Math.Path.{refl}
+use Rattle.std.proofs.Common.{◌∙◌, not-suc-le-zero, le_of_suc-le-suc}
 use Rattle.std.proofs.Math.Bool.{true}
 use mathlib.Core.List.{List, [], ◌∷◌, ◌++◌, map}
-use Rattle.std.proofs.Math.Option.{Option, none, some}
+use Rattle.std.proofs.Math.Option.{none, some}
 use Prim.Native.Nat.{ℕ, zero, suc, ◌+◌, ◌-◌, ◌≤◌, ◌<◌}
 use Rattle.std.proofs.Math.ListN.{get_or}
-use Rattle.spec_rtl.specs.Ops.{slice_w, tab}
-use Rattle.spec_rtl.specs.Rtl.{Module, Valuation, word}
-use Rattle.spec_model.specs.Words.{Netlist, absent}
-use Rattle.spec_model.specs.Builder.{constant_value, is_value, from}
+use Rattle.spec_rtl.specs.Ops.{slice_w}
+use Rattle.spec_rtl.specs.Rtl.{Module, Valuation}
+use Rattle.spec_model.specs.Words.{Netlist}
+use Rattle.spec_model.specs.Builder.{is_value}
 use Rattle.spec_model.specs.Ranges.{width_at}
-use Rattle.spec_model.specs.Lowering.{selected, whole_net, nets_of, State, Need, Bit, Whole, Range, Step, Always, Unless, cell, whole, whole_nets, range_nets, range_by, range_known, all_some, signal_bit, signal_net, signal_nets, signal_steps, wholes}
-use Rattle.word_laws.specs.Shift.{tab_ext}
-use Rattle.word_laws.specs.Widths.{AllBelow, Formed, word_width}
+use Rattle.spec_model.specs.Lowering.{selected, whole_net, State, Need, Bit, Whole, Range, Step, Always, Unless, cell, whole, whole_nets, wholes}
+use Rattle.word_laws.specs.Widths.{AllBelow}
 use Rattle.law_nets.specs.Meaning.{net_value}
-use Rattle.law_nets.specs.Sound.{count, Sound, Later}
-use Rattle.law_nets.specs.Nodes.{constant_there, constant_grew}
-use Rattle.law_walk.specs.Tables.{none_some, Has, Known, row_slice, row_below, all_known}
-use Rattle.law_walk.specs.Kept.{Table, NetsGive, Held, Inv, Grew}
-use Rattle.law_walk.specs.Writes.{holds_length}
+use Rattle.law_nets.specs.Sound.{count}
+use Rattle.law_walk.specs.Tables.{Has}
+use Rattle.law_walk.specs.Kept.{Table, NetsGive, Held, Grew}
 
 -- a range stays inside its expression
 abbrev pub Asked : Module → Need → Type 0

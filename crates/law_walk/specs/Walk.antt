@@ -1,33 +1,28 @@
 -- The walk: one step of it from what is lowered below, then all of it by induction on the bound. Assumes nothing.
-use Rattle.std.specs.Prelude.{◌≡◌, Bool, cond, ◌&&◌, eqb, leb, ltb, get_or}
+use Rattle.std.specs.Prelude.{◌≡◌, Bool, get_or}
 use Rattle.std.proofs.Math.Path.{refl, ap}
-use Rattle.std.proofs.Common.{sym, ◌∙◌, inl, eqb-true, leb-true, ltb-true}
-use Rattle.std.proofs.Math.Logic.{inr}
-use Rattle.std.proofs.Math.Bool.{true, false}
+use Rattle.std.proofs.Common.{sym, ◌∙◌}
+use Rattle.std.proofs.Math.Bool.{false}
 use mathlib.Core.List.{List, [], ◌∷◌}
 use Rattle.std.proofs.Math.Option.{Option, none, some}
-use Prim.Native.Nat.{ℕ, zero, suc, ◌+◌, ◌-◌, ◌≤◌, ◌<◌}
+use Prim.Native.Nat.{ℕ, zero, suc, ◌+◌, ◌≤◌, ◌<◌}
 use native.Mathlib.Omega.{arith}
-use Rattle.std.proofs.Math.ListN.{length, get_elem?}
+use Rattle.std.proofs.Math.ListN.{length}
 use Rattle.spec_rtl.specs.Ops.{slice_w}
 use Rattle.spec_rtl.specs.Rtl as R
-use Rattle.spec_rtl.specs.Rtl.{Valuation, Module, Kind, Unary, Binary, Assign, word, by_assign, by_memory, by_register_of, by_dir, of_port, driver, dir_of}
-use Rattle.spec_model.specs.Words.{Netlist, absent}
-use Rattle.spec_model.specs.Builder.{Out, refused, done, and_then, Made, from, is_value}
+use Rattle.spec_rtl.specs.Rtl.{Valuation, Module, Kind, Unary, Binary, by_assign}
+use Rattle.spec_model.specs.Words.{Netlist}
+use Rattle.spec_model.specs.Builder.{from}
 use Rattle.spec_model.specs.Ranges.{expr_at, width_at, class_of, Gate}
-use Rattle.spec_model.specs.Lowering.{selected, unless, driven_by, driven_net, range_nets, State, Need, Bit, Whole, Range, Step, Always, Unless, cell, whole, whole_nets, whole_net, with_netlist, set_signal_bit, mark, signal_bit, signal_width, range_known, Operands, operands_of, operand_steps, wholes, signal_steps, backwards, gate_of, gate_steps, concat_pieces, kind_steps, whole_steps, kind_range_steps, range_steps_of, build_whole, build_range, lower_steps, expr_driver, driver_of, drive, resolve_signal_bit, keep_whole, lower_expression, keep_range, lower_expression_range, lower_by, lower_need, plenty, lower_all}
-use Rattle.word_laws.specs.Values.{slice_wide}
-use Rattle.word_laws.specs.Widths.{AllBelow, BelowE, Formed, WidthOk, word_width}
+use Rattle.spec_model.specs.Lowering.{signal_width, Operands, operands_of, operand_steps, wholes, signal_steps, backwards, gate_of, gate_steps, concat_pieces, kind_steps, whole_steps, kind_range_steps, range_steps_of}
+use Rattle.word_laws.specs.Widths.{AllBelow, BelowE, Formed, WidthOk}
 use Rattle.word_ranges.specs.Fusion.{CarryBelow}
 use Rattle.word_ranges.proofs.Fusion.{operands}
 use Rattle.law_nets.specs.Meaning.{net_value}
 use Rattle.law_nets.specs.Sound.{count}
-use Rattle.law_walk.specs.Tables.{none_some, some_eq}
-use Rattle.law_walk.specs.Good.{Good, GoodAssign, Undriven}
-use Rattle.law_walk.specs.Kept.{Table, Grew, NetsGive, Inv, grew_refl, grew_trans, Walks, walks_refused, walks_done, walks_map, walks_bind, Makes}
-use Rattle.law_walk.specs.Writes.{holds_length, inv_netlist, grew_netlist, inv_whole, grew_whole, has_whole, inv_range, grew_range, has_range, inv_mark, marked, inv_bit, grew_bit, has_bit}
-use Rattle.law_walk.specs.Reads.{StepAfter, holds_as, Asked, After, after_grew, AllAsked, AllAfter, map_at, below_at}
-use Rattle.law_walk.specs.Gates.{Gates}
+use Rattle.law_walk.specs.Good.{Undriven}
+use Rattle.law_walk.specs.Kept.{Table, NetsGive}
+use Rattle.law_walk.specs.Reads.{AllAsked, map_at, below_at}
 use Rattle.law_walk.specs.Parts.{gate_wide, below_turned, pieces_asked}
 
 -- ---- what the steps ask ----

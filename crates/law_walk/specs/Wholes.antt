@@ -1,32 +1,21 @@
 -- What is made of a whole expression, once its steps are done, stands for its word. Assumes nothing.
-use Rattle.std.specs.Prelude.{◌≡◌, ◌⊎◌, Bool, true, cond, ℕ, zero, suc, ◌-◌, ◌<◌, length, take, replicate}
-use Rattle.std.proofs.Math.Path.{refl, sym, ap}
-use Rattle.std.proofs.Common.{◌∙◌, inl, inr, arith, length-take}
+use Rattle.std.specs.Prelude.{◌≡◌, Bool, true, cond, ℕ, zero, suc, ◌-◌, ◌<◌, length, take, replicate}
+use Rattle.std.proofs.Math.Path.{refl, sym}
+use Rattle.std.proofs.Common.{◌∙◌, arith, length-take}
 use Rattle.std.proofs.Math.Bool.{false}
-use mathlib.Core.List.{List, [], ◌∷◌, ◌++◌, map}
+use mathlib.Core.List.{List, [], ◌∷◌, map}
 use Rattle.std.proofs.Math.Option.{Option, none, some}
-use Rattle.std.proofs.Math.ListN.{get_or}
-use Rattle.spec_rtl.specs.Word.{bits, length_bits}
-use Rattle.spec_rtl.specs.Ops.{join_w}
+use Rattle.spec_rtl.specs.Word.{length_bits}
 use Rattle.spec_rtl.specs.Rtl as R
-use Rattle.spec_rtl.specs.Rtl.{Module, Valuation, Kind, Binary, word, word1}
-use Rattle.spec_rules.specs.Step.{Setting, Contents}
-use Rattle.spec_model.specs.Words.{Netlist, absent}
-use Rattle.spec_model.specs.Builder.{Made, done, and_then, add_constant, constant_value, is_value}
-use Rattle.spec_model.specs.Ranges.{expr_at, width_at, class_of, adder_width}
-use Rattle.spec_model.specs.Lowering.{selected, build_mux, State, is_add, add_operands, carry_lsb, Operands, fused, operands_of, whole, whole_nets, whole_net, wholes, operand_steps, backwards, kind_steps, whole_steps, truncated, resized, build_operands, build_binary, part_nets, build_kind, build_whole}
-use Rattle.word_laws.specs.Widths.{AllBelow, BelowE, BinWidth, Formed, WidthOk, word_is, word_width}
-use Rattle.word_ranges.specs.Fusion.{cell_word, carry_bit, Operate, Narrowed}
-use Rattle.word_ranges.proofs.Fusion.{operands, narrowed}
-use Rattle.law_nets.specs.Meaning.{net_value}
-use Rattle.law_nets.specs.Sound.{count, Later}
-use Rattle.law_nets.specs.Run.{cells_refl}
-use Rattle.law_nets.proofs.Run.{later_refl}
+use Rattle.spec_rtl.specs.Rtl.{Valuation, Binary}
+use Rattle.spec_model.specs.Words.{Netlist}
+use Rattle.spec_model.specs.Ranges.{class_of, adder_width}
+use Rattle.spec_model.specs.Lowering.{State, is_add, add_operands, carry_lsb, Operands, fused, operands_of, whole, backwards, truncated}
+use Rattle.word_laws.specs.Widths.{AllBelow, BinWidth}
+use Rattle.word_ranges.specs.Fusion.{cell_word}
 use Rattle.law_walk.specs.Tables.{none_some, Has}
-use Rattle.law_walk.specs.Kept.{Table, Agrees, more_refl, NetsGive, holds_later, Inv, Makes, makes_done, makes_map, makes_bind}
-use Rattle.law_walk.specs.Writes.{holds_length}
-use Rattle.law_walk.specs.Reads.{AllAfter, map_append, map_at, below_at, below_append, holds_as, holds_nil, holds_append, holds_slice}
-use Rattle.law_walk.specs.Gates.{Gates, gives_holds}
+use Rattle.law_walk.specs.Kept.{Table, NetsGive}
+use Rattle.law_walk.specs.Reads.{holds_slice}
 
 -- an operator that is an Add
 pub add_only : (op : Binary) → is_add (class_of op) ≡ true → op ≡ R.Add

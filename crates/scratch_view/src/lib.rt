@@ -3,6 +3,7 @@
 // Fixed words: the limit of nets, the signal bits, where the rows of the expressions start, where their nets start, the flag
 // `resolve_observable_dependencies`; so many there are.
 #![tactic(auto)]
+
 pub const LIMIT: usize = 0;
 
 pub const SIGNAL_BITS: usize = 1;

@@ -1,19 +1,16 @@
 -- What is proved of specs/Examples: Demand 3 is no empty claim. The smallest image, y = ~a: its checks, listing, module; demand 3 holds for its netlist words and
 -- fails for words in which the output reads a where it should read ~a. A register: a netlist right at the start only fails it.
-use Rattle.std.specs.Prelude.{ℕ, zero, suc, ◌≡◌, refl, Bool, true, false, List, [], ◌∷◌, ltb, eqb}
-use Rattle.std.proofs.Common.{sym, subst, ap, ◌∙◌, arith}
+use Rattle.std.specs.Prelude.{ℕ, zero, suc, ◌≡◌, refl, true, false, [], ◌∷◌, ltb, eqb}
+use Rattle.std.proofs.Common.{sym, subst, ap, ◌∙◌}
 use Rattle.std.proofs.Math.Path.{fun_ext}
-use Rattle.std.proofs.Math.Option.{Option, none, some, none-ne-some, some-injective}
+use Rattle.std.proofs.Math.Option.{some, none-ne-some, some-injective}
 use Rattle.std.proofs.Math.Dec.{leb-suc-suc, leb-suc-zero, eqb-suc-suc, eqb-zero-suc}
 use Rattle.std.proofs.Math.ListN.{get_elem?}
 use Rattle.spec_rtl.specs.Rtl as R
-use Rattle.spec_tests.specs.Rules.{Fine, Refused, ◌<?◌, ◌≡?◌, ◌≢?◌, ◌or◌, ◌and◌, pick, outside, up_to, first, any, sum_to, each, list_of, only, same_text, and_then}
-use Rattle.spec_rules.specs.Image.{word_at, size_of, most_of, count_at_of, offset_at, bytes_of, start_of, part, field, list_word, name_of, signal_width, expr_width, direction, unary_of, binary_of, constant_words, constant_of, kind_of, control_of, optional, signal_at, expr_at, assign_at, register_of, register_at, port_of, memory_at, decode}
-use Rattle.spec_rules.specs.Checks.{wrong_count, wrong_field, first_field, header, bad_name, name_taken, no_signal, no_expr, bad_bit, bad_control, not_zero, bad_optional, is_input, assigned, targeted, read_into, driven, bad_signal, bad_unary, bad_binary, late, bad_concat, bad_kind, bad_expr, bad_assign, bad_value, bad_reset, bad_register, bad_address, bad_port, bad_second, bad_memory, section, records, netlist_need, signal_bits, expr_bits, scratch_need, refuse, checked}
-use Rattle.spec_rules.specs.NetlistImage as N
-use Rattle.spec_rules.specs.NetlistImage.{node_word, node_of, node_at_of, port_lists, port_length, record_length, split, records_of, records_with, register_bit_of, memory_port_of, memory_of, arithmetic_of, comparison_of, out_port_of, not_output, is_output_port, netlist}
-use Rattle.spec_rules.specs.Step.{Setting, Contents, Machine, Seen, act, clashing, no_end, onward, run, of_module, of_netlist, IsInput, Ported, Demand3}
-use Rattle.spec_rules.specs.Listing.{text, digits, decimal, line, together, kind_word, bit_name, signal_name, register_name, memory_name, owned, inputs, net_line, record_line, listing}
+use Rattle.spec_tests.specs.Rules.{◌<?◌, ◌or◌, ◌and◌, pick, up_to, first}
+use Rattle.spec_rules.specs.Image.{decode}
+use Rattle.spec_rules.specs.NetlistImage.{netlist}
+use Rattle.spec_rules.specs.Step.{Setting, Contents, clashing, no_end, run, of_module, of_netlist, IsInput, Ported, Demand3}
 use Rattle.spec_rules.specs.Examples.{differ, empty, held, image, m, n, q, r, right, run_alike, shown, the_module, the_netlist, the_other, wrong}
 
 holds_here : Demand3 m (n 1)

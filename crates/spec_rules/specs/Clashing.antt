@@ -1,13 +1,10 @@
 -- Q-6 by example: when a step has no defined end, and that module and netlist of one image meet it in the same step.
-use Rattle.std.specs.Prelude.{ℕ, zero, suc, ◌≡◌, refl, Bool, true, false, List, [], ◌∷◌, map, length, get_or, set}
-use Rattle.std.proofs.Common.{arith, sym, ap, ◌∙◌}
-use Rattle.std.proofs.Math.Option.{none, some, none-ne-some, some-injective}
-use Rattle.std.proofs.Math.ListN.{get_elem?}
-use Rattle.spec_rtl.specs.Rtl as R
+use Rattle.std.specs.Prelude.{ℕ, zero, ◌≡◌, refl, Bool, true, false, List, [], ◌∷◌, map, length, get_or, set}
+use Rattle.std.proofs.Math.Option.{none, some}
 use Rattle.spec_tests.specs.Rules.{◌<?◌, ◌≡?◌, ◌≢?◌, ◌or◌, ◌and◌, pick, outside, up_to, first, any, sum_to, each, list_of, only, same_text, and_then}
 use Rattle.spec_rules.specs.Image.{word_at, size_of, most_of, count_at_of, offset_at, bytes_of, start_of, part, field, list_word, name_of, signal_width, expr_width, direction, unary_of, binary_of, constant_words, constant_of, kind_of, control_of, optional, signal_at, expr_at, assign_at, register_of, register_at, port_of, memory_at, decode}
 use Rattle.spec_rules.specs.NetlistImage.{node_word, node_of, node_at_of, port_lists, port_length, record_length, split, records_of, records_with, register_bit_of, memory_port_of, memory_of, arithmetic_of, comparison_of, out_port_of, not_output, is_output_port, netlist}
-use Rattle.spec_rules.specs.Step.{Setting, Contents, Access, Accesses, Reads, clashes, clashing, no_end, run, of_module, of_netlist, IsInput, Ported, Demand3}
+use Rattle.spec_rules.specs.Step.{Setting, Contents, Access, Accesses, Reads, clashes, clashing, no_end, run, of_module, of_netlist}
 
 -- all that is computed
 unfoldable pub computing : ℕ

@@ -1,17 +1,16 @@
 -- What is proved of specs/Standing: Where a run stands, and what a line makes of its tables. Assumes nothing.
 use Rattle.std.specs.Prelude.{ℕ, ◌+◌, ◌≤◌, ◌<◌, ◌≡◌, length}
-use Rattle.std.proofs.Common.{arith, sym, subst, ◌∙◌}
-use Rattle.std.proofs.Math.Path.{refl, ap}
+use Rattle.std.proofs.Common.{arith, subst, ◌∙◌}
+use Rattle.std.proofs.Math.Path.{ap}
 use mathlib.Core.List.{List}
 use Rattle.spec_rules.specs.Step.{Setting, Contents}
-use Rattle.spec_trace.specs.Trace.{setting_of, Now, Before, At, reached, clash_at}
+use Rattle.spec_trace.specs.Trace.{setting_of, Now, Before, At, reached}
 use Rattle.trace_cells.specs.Digits.{Bits}
 use Rattle.trace_pass.specs.Plan.{size, Plan, Loaded, Valued}
 use Rattle.trace_step.specs.Words.{spread, registers_done, memories_read, memories_written}
 use Rattle.trace_clash.specs.Words.{lowest_clash}
-use Rattle.trace_clash.specs.Lowest.{lowest_is}
-use Rattle.trace_line.specs.State.{Prepared, Sized, Holds, fit_of}
-use Rattle.trace_line.specs.Step.{char, Next, inputs_loaded, next_line, first_line_law}
+use Rattle.trace_line.specs.State.{Prepared, Sized, Holds}
+use Rattle.trace_line.specs.Step.{char, Next, next_line, first_line_law}
 use Rattle.trace_line.specs.Standing.{After, Standing, Taken, clashes_at}
 
 -- the tables before the plan is run, wherever the run stands

@@ -1,17 +1,14 @@
 -- Where a run stands, and what a line makes of its tables. Assumes nothing.
-use Rattle.std.specs.Prelude.{ℕ, ◌+◌, ◌≤◌, ◌<◌, ◌≡◌, length}
+use Rattle.std.specs.Prelude.{ℕ, ◌+◌, ◌≤◌, ◌<◌, ◌≡◌}
 use Rattle.std.proofs.Common.{arith, sym, subst, ◌∙◌}
 use Rattle.std.proofs.Math.Path.{refl, ap}
 use mathlib.Core.List.{List}
-use Rattle.spec_rules.specs.Step.{Setting, Contents}
 use Rattle.spec_trace.specs.Trace.{setting_of, Now, Before, At, reached, clash_at}
-use Rattle.trace_cells.specs.Digits.{Bits}
-use Rattle.trace_pass.specs.Plan.{size, Plan, Loaded, Valued}
-use Rattle.trace_step.specs.Words.{spread, registers_done, memories_read, memories_written}
+use Rattle.trace_step.specs.Words.{spread}
 use Rattle.trace_clash.specs.Words.{lowest_clash}
 use Rattle.trace_clash.specs.Lowest.{lowest_is}
 use Rattle.trace_line.specs.State.{Prepared, Sized, Holds, fit_of}
-use Rattle.trace_line.specs.Step.{char, Next, inputs_loaded, next_line, first_line_law}
+use Rattle.trace_line.specs.Step.{char, inputs_loaded}
 
 module _ (ws steps : List ℕ) (count : ℕ) (inputs outputs registers : List ℕ) (nr : ℕ) (memories : List ℕ) (nm k : ℕ) where
   pub record Standing (values memory : List ℕ) : Type 0 where

@@ -1,9 +1,9 @@
 -- What is proved of specs/Gates: A gate as a table of eight bits: its chosen bit is the node's value, and a gate's step of an accepted netlist is right. Assumes nothing.
-use Rattle.std.specs.Prelude.{ℕ, ◌≤◌, ◌<◌, ◌≡◌, Bool, true, false, ◌&&◌, ◌||◌, List, [], ◌∷◌, eqb, get_or}
-use Rattle.std.proofs.Common.{arith, sym, ap, ◌∙◌, subst}
+use Rattle.std.specs.Prelude.{ℕ, ◌≤◌, ◌<◌, ◌≡◌, Bool, ◌&&◌, ◌||◌, List, get_or}
+use Rattle.std.proofs.Common.{arith, sym, ap, ◌∙◌}
 use Rattle.std.proofs.Math.Path.{refl}
 use Rattle.std.proofs.Math.Bool.{not, cond}
-use Rattle.spec_rtl.specs.Word.{bit, bit_eqb}
+use Rattle.spec_rtl.specs.Word.{bit}
 use Rattle.spec_rtl.specs.Ops.{xor_b}
 use Rattle.spec_tests.specs.Rules.{pick, ◌≡?◌}
 use Rattle.spec_rules.specs.NetlistImage as N

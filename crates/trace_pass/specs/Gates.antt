@@ -1,20 +1,14 @@
 -- A gate as a table of eight bits: its chosen bit is the node's value, and a gate's step of an accepted netlist is right. Assumes nothing.
 use Rattle.std.specs.Prelude.{ℕ, ◌≤◌, ◌<◌, ◌≡◌, Bool, true, false, ◌&&◌, ◌||◌, List, [], ◌∷◌, eqb, get_or}
-use Rattle.std.proofs.Common.{arith, sym, ap, ◌∙◌, subst}
+use Rattle.std.proofs.Common.{subst}
 use Rattle.std.proofs.Math.Path.{refl}
 use Rattle.std.proofs.Math.Bool.{not, cond}
 use Rattle.spec_rtl.specs.Word.{bit, bit_eqb}
 use Rattle.spec_rtl.specs.Ops.{xor_b}
 use Rattle.spec_tests.specs.Rules.{pick, ◌≡?◌}
-use Rattle.spec_rules.specs.NetlistImage as N
-use Rattle.spec_rules.specs.NetlistImage.{Netlist, netlist, node_word, node_at_of}
-use Rattle.spec_rules.specs.Step.{Setting, Contents, net, node_value}
+use Rattle.spec_rules.specs.NetlistImage.{node_word}
 use Rattle.spec_netlist.specs.Accept.{input_count}
-use Rattle.law_told.specs.Ordered.{Ordered}
-use Rattle.law_reads.specs.Reads.{net_is}
-use Rattle.law_reads.specs.Reads as D
-use Rattle.trace_cells.specs.Digits.{Bits}
-use Rattle.trace_pass.specs.Plan.{size, chosen, word, Settled, gate_of}
+use Rattle.trace_pass.specs.Plan.{size, chosen, word}
 
 -- the tables of And, Or, Xor, Not, Mux and an output node; a constant's is all zeros or all ones
 unfoldable pub table_of : ℕ → ℕ → ℕ

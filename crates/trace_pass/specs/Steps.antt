@@ -15,8 +15,8 @@ use Rattle.law_reads.specs.Reads.{net_is, member_there}
 use Rattle.spec_netlist.specs.Accept.{input_count, member}
 use Rattle.trace_cells.specs.Digits.{Bits}
 use Rattle.trace_cells.specs.Cells.{left_of, right_of_of, outs_of, total_of, lesser_of, greater_of, answer_of}
-use Rattle.trace_pass.specs.Plan.{size, word, place, Settled, GateStep, ArithmeticStep, ComparisonStep}
-use Rattle.trace_pass.specs.Gates.{GateWords, Computed, constant, and_gate, or_gate, xor_gate, not_gate, mux, output}
+use Rattle.trace_pass.specs.Plan.{size, word, place, Settled, ArithmeticStep, ComparisonStep}
+use Rattle.trace_pass.specs.Gates.{Computed, constant, and_gate, or_gate, xor_gate, not_gate, mux, output}
 use Rattle.trace_pass.specs.Sums.{Agree, arithmetic_bit, comparison_bit}
 
 -- the size is the header's net count, and a node is read from its six words

@@ -1,7 +1,7 @@
 -- What each way of keeping gives. Assumes nothing.
 use mathlib.Core.Path.{◌≡◌, refl, sym, subst}
 use mathlib.Core.List.{List}
-use Prim.Native.Nat.{ℕ, ◌-◌}
+use Prim.Native.Nat.{ℕ}
 use Rattle.spec_model.specs.Lowering.{State}
 use Rattle.net_fold.specs.declared.Filled.{Filled}
 use Rattle.net_fold.specs.declared.Filled.TheVariants as F

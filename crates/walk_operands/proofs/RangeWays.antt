@@ -25,7 +25,6 @@ use Rattle.image_records.specs.declared.UnaryOp.{UnaryOp}
 use Rattle.image_records.specs.declared.UnaryOp.TheVariants as U
 use Rattle.image_records.specs.declared.BinaryOp.{BinaryOp}
 use Rattle.image_records.specs.declared.BinaryOp.TheVariants as B
-use Rattle.image_records.specs.contracts.BinaryOp.{the_type as binary-type}
 use Rattle.image_records.specs.contracts.UnaryOp.{the_type as unary_type}
 use Rattle.image_records.specs.OpClass.{bitwise}
 use Rattle.expr_laws.specs.Exprs.{exprs_of}

@@ -2,6 +2,7 @@
 
 // Done, or a refusal with its place: 6, 7, 8, 9, 10.
 #![tactic(auto)]
+
 #[derive(Clone, Copy)]
 pub enum Lowered {
     Done,

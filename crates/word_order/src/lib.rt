@@ -1,5 +1,6 @@
 // The smaller and the larger of two numbers.
 #![tactic(auto)]
+
 ghost use Rattle.std.specs.Prelude.{◌≡◌, min, max};
 
 pub fn smaller(a: u32, b: u32) -> u32

@@ -1,15 +1,15 @@
 -- What is proved of specs/Fusion: What a Binary's operands give, fused or not, narrowed or not: the expression's word, for every valuation of the signals. Assumes nothing.
-use Rattle.std.specs.Prelude.{◌≡◌, Bool, cond, List, ◌++◌, ℕ, ◌-◌, ◌^◌, ◌≤◌, ◌<◌, T, length, get_or, take, replicate}
+use Rattle.std.specs.Prelude.{◌≡◌, Bool, cond, List, ℕ, ◌^◌, ◌≤◌, ◌<◌, length, get_or, take}
 use Rattle.std.proofs.Math.Path.{refl}
-use Rattle.std.proofs.Common.{sym, ◌∙◌, arith, length-take}
+use Rattle.std.proofs.Common.{sym, ◌∙◌, arith}
 use Rattle.std.proofs.Math.Bool.{true, false}
 use Rattle.std.proofs.Math.Option.{Option, none, some}
 use Rattle.spec_rtl.specs.Word.{value}
-use Rattle.spec_rtl.specs.Ops.{add_w, add_c}
+use Rattle.spec_rtl.specs.Ops.{add_w}
 use Rattle.spec_rtl.specs.Rtl as R
-use Rattle.spec_rtl.specs.Rtl.{Expr, Kind, Binary, Valuation, word, binary}
+use Rattle.spec_rtl.specs.Rtl.{Expr, Binary, Valuation, word, binary}
 use Rattle.spec_model.specs.Ranges.{expr_at, width_at, class_of, adder_width}
-use Rattle.spec_model.specs.Lowering.{is_add, add_kind, add_operands, carry_lsb, Operands, fused, operands_of}
+use Rattle.spec_model.specs.Lowering.{is_add, add_operands, carry_lsb, Operands, fused, operands_of}
 use Rattle.word_laws.specs.Add.{fuse, fuse_r, narrow_add, narrow_carry}
 use Rattle.word_laws.specs.Widths.{BelowE, WidthOk, Formed, word_is, word_width}
 use Rattle.word_ranges.proofs.Sound.{narrow_fits}

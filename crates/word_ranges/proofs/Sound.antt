@@ -1,19 +1,19 @@
 -- What is proved of specs/Sound: Every range of the table holds what its expression's word can be, for every valuation of the signals; so an Add's word is below
 -- 2 to the width that it is narrowed to. Assumes nothing.
-use Rattle.std.specs.Prelude.{◌≡◌, Bool, true, false, cond, ◌||◌, List, [], ◌∷◌, ◌++◌, map, ℕ, zero, suc, ◌+◌, ◌*◌, ◌^◌, ◌≤◌, ◌<◌, max, eqb, leb, ltb, length, get_or}
+use Rattle.std.specs.Prelude.{◌≡◌, Bool, false, cond, ◌||◌, List, [], map, ℕ, zero, suc, ◌^◌, ◌≤◌, ◌<◌, leb, length, get_or}
 use Rattle.std.proofs.Math.Path.{refl}
-use Rattle.std.proofs.Common.{sym, ◌∙◌, subst, append-nil, not-suc-le-zero, arith, eqb→eq, leb→le, ltb→lt, pow_mono}
+use Rattle.std.proofs.Common.{◌∙◌, append-nil, not-suc-le-zero, arith, leb→le}
 use Rattle.std.proofs.Math.Option.{Option, none, some}
 use Rattle.spec_rtl.specs.Word.{value, length_bits, value_bits}
 use Rattle.spec_rtl.specs.Ops.{xor_b, join_w, slice_w}
 use Rattle.spec_rtl.specs.Table.{entry_is}
 use Rattle.spec_rtl.specs.Rtl as R
 use Rattle.spec_rtl.specs.Rtl.{Expr, Kind, Valuation, word, word1, binary}
-use Rattle.spec_model.specs.Ranges.{expr_at, width_at, Range, point, hull, is_point, mux_range, slice_range_of, one, two, join_by, join_range, kind_range, range_rule, range_at, binary_range, class_of, bit_len, narrow_by, adder_width}
+use Rattle.spec_model.specs.Ranges.{expr_at, width_at, Range, point, mux_range, slice_range_of, one, two, join_range, kind_range, range_rule, range_at, binary_range, class_of, adder_width}
 use Rattle.word_laws.specs.Shift.{length_tab}
 use Rattle.word_laws.specs.Values.{slice_wide}
-use Rattle.word_laws.specs.Widths.{AllBelow, BelowE, BinWidth, WidthOk, Formed, un_width, bin_width, cond_width, join_width, word_is, word_width}
-use Rattle.word_ranges.specs.Rows.{Sound, full_sound, point_sound, choose, and_l, and_r, add_sound, sub_sound, and_sound, or_sound, hull_sound, slice_sound, join_step, join_l, join_l_is, bit_len_fits}
+use Rattle.word_laws.specs.Widths.{BelowE, BinWidth, WidthOk, Formed, un_width, bin_width, cond_width, join_width, word_is, word_width}
+use Rattle.word_ranges.specs.Rows.{Sound, full_sound, point_sound, choose, add_sound, sub_sound, and_sound, or_sound, slice_sound, join_l, join_l_is}
 use Rattle.word_ranges.specs.Sound.{SoundO, at_width, join_sound, low_r, mux_sound, narrowed, small}
 
 bin_sound : (op : R.Binary) (w : ℕ) (l r : Range) (a b : List Bool) → w ≤ 64 → BinWidth op w (length a) (length b) → Sound (length a) l a → Sound (length b) r b → Sound w (binary_range (class_of op) w l r) (binary op a b)

@@ -1,19 +1,15 @@
 -- Every range of the table holds what its expression's word can be, for every valuation of the signals; so an Add's word is below
 -- 2 to the width that it is narrowed to. Assumes nothing.
-use Rattle.std.specs.Prelude.{◌≡◌, Bool, true, false, cond, ◌||◌, List, [], ◌∷◌, ◌++◌, map, ℕ, zero, suc, ◌+◌, ◌*◌, ◌^◌, ◌≤◌, ◌<◌, max, eqb, leb, ltb, length, get_or}
+use Rattle.std.specs.Prelude.{◌≡◌, Bool, true, false, cond, List, [], ◌∷◌, ◌++◌, map, ℕ, ◌+◌, ◌*◌, ◌^◌, ◌≤◌, ◌<◌, max, eqb, leb, ltb, length, get_or}
 use Rattle.std.proofs.Math.Path.{refl}
-use Rattle.std.proofs.Common.{sym, ◌∙◌, subst, append-nil, not-suc-le-zero, arith, eqb→eq, leb→le, ltb→lt, pow_mono}
+use Rattle.std.proofs.Common.{sym, subst, arith, eqb→eq, leb→le, ltb→lt, pow_mono}
 use Rattle.std.proofs.Math.Option.{Option, none, some}
-use Rattle.spec_rtl.specs.Word.{value, length_bits, value_bits}
-use Rattle.spec_rtl.specs.Ops.{xor_b, join_w, slice_w}
-use Rattle.spec_rtl.specs.Table.{entry_is}
+use Rattle.spec_rtl.specs.Word.{value}
 use Rattle.spec_rtl.specs.Rtl as R
-use Rattle.spec_rtl.specs.Rtl.{Expr, Kind, Valuation, word, word1, binary}
-use Rattle.spec_model.specs.Ranges.{expr_at, width_at, Range, point, hull, is_point, mux_range, slice_range_of, one, two, join_by, join_range, kind_range, range_rule, range_at, binary_range, class_of, bit_len, narrow_by, adder_width}
-use Rattle.word_laws.specs.Shift.{length_tab}
-use Rattle.word_laws.specs.Values.{slice_wide}
-use Rattle.word_laws.specs.Widths.{AllBelow, BelowE, BinWidth, WidthOk, Formed, un_width, bin_width, cond_width, join_width, word_is, word_width}
-use Rattle.word_ranges.specs.Rows.{Sound, full_sound, point_sound, choose, and_l, and_r, add_sound, sub_sound, and_sound, or_sound, hull_sound, slice_sound, join_step, join_l, join_l_is, bit_len_fits}
+use Rattle.spec_rtl.specs.Rtl.{Kind}
+use Rattle.spec_model.specs.Ranges.{Range, point, hull, is_point, mux_range, join_by, join_range, kind_range, bit_len, narrow_by}
+use Rattle.word_laws.specs.Widths.{AllBelow, BelowE}
+use Rattle.word_ranges.specs.Rows.{Sound, choose, and_l, and_r, hull_sound, join_step, join_l, bit_len_fits}
 
 abbrev pub SoundO : ℕ → Option Range → List Bool → Type 0
 SoundO w none a = Unit {0}

@@ -3,7 +3,6 @@ use mathlib.Core.Path.{sym, ◌∙◌}
 use Rattle.spec_tests.specs.Laws.{or_hit, or_skip, ne_yes, ne_no, no_lt, inside}
 use Rattle.check_references.specs.Good.{is_signal}
 use Rattle.check_assignments.specs.Assign.{bad_assign_of}
-use borrow.Author.Rules.{rules}
 use Rattle.check_assignments.proofs.bad_assign_of.Goals as goal
 
 pub returns-then-no_signal : goal.returns-then-no_signal
@@ -55,14 +54,13 @@ returns-then-is_input c =
     (or_hit _ (sym c.is_input.ensures ∙ c.if-is_input.true))))))
 
 pub is_assigned-requires : goal.is_assigned-requires
-is_assigned-requires c =
-    (
-      c.requires.0,
-      c.requires.1,
-      is_signal _ _ (sym c.no_signal.ensures ∙ c.if-no_signal.false),
-      (inside _ _ _ (sym c.is_outside.ensures ∙ c.if-is_outside.false)).0,
-      no_lt _ _ (sym (rw c.signal_width.ensures at c.below_sum.ensures) ∙ c.if-below_sum.false),
-    )
+is_assigned-requires c = (
+  c.requires.0,
+  c.requires.1,
+  is_signal _ _ (sym c.no_signal.ensures ∙ c.if-no_signal.false),
+  (inside _ _ _ (sym c.is_outside.ensures ∙ c.if-is_outside.false)).0,
+  no_lt _ _ (sym (rw c.signal_width.ensures at c.below_sum.ensures) ∙ c.if-below_sum.false),
+)
 
 pub returns : goal.returns
 unfolding bad_assign_of

@@ -1,14 +1,12 @@
 -- `check_assignments::first_assign` meets its contract. The loop's invariant: no record below r breaks a rule, and the bits of these are marked. Assumes nothing.
-use mathlib.Core.Path.{◌≡◌, refl, sym, ◌∙◌, subst}
-use Prim.Native.Nat.{ℕ, ◌-◌, ◌≤◌}
-use native.Mathlib.Omega.{arith}
+use mathlib.Core.Path.{◌≡◌}
+use Prim.Native.Nat.{◌-◌, ◌≤◌}
 use lib.ListN.{length}
 use Rattle.spec_tests.specs.Rules.{first}
-use Rattle.spec_tests.specs.Laws.{from, begins, passed, found, ended}
+use Rattle.spec_tests.specs.Laws.{from}
 use Rattle.spec_rules.specs.Image.{count_at_of}
 use Rattle.spec_rules.specs.Checks.{bad_assign}
 use Rattle.check_drivers.specs.Bits.{Marks}
-use borrow.Author.Rules.{rules}
 use Rattle.check_assignments.proofs.first_assign.Given as goal
 
 abbrev pub invariant-loop-r : goal.invariant-loop-r

@@ -1,11 +1,9 @@
 -- `check_drivers::any_marked` meets its contract. The loop's invariant: no bit before the i-th is marked. Assumes nothing.
-use mathlib.Core.Path.{◌≡◌, sym, ◌∙◌}
-use Prim.Native.Nat.{◌+◌, ◌-◌, ◌≤◌}
+use mathlib.Core.Path.{sym, ◌∙◌}
+use Prim.Native.Nat.{◌-◌}
 use native.Mathlib.Omega.{arith}
-use Rattle.spec_tests.specs.Rules.{first}
-use Rattle.spec_tests.specs.Laws.{eq_yes, eq_no, from, begins, passed, any_yes, any_no}
+use Rattle.spec_tests.specs.Laws.{eq_yes, eq_no, begins, passed, any_yes, any_no}
 use Rattle.check_drivers.specs.Bits.{marked}
-use borrow.Author.Rules.{rules}
 use Rattle.check_drivers.proofs.any_marked.Goals as goal
 
 pub loop-i-init : goal.loop-i-init

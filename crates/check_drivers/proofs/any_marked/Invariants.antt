@@ -1,11 +1,9 @@
 -- `check_drivers::any_marked` meets its contract. The loop's invariant: no bit before the i-th is marked. Assumes nothing.
-use mathlib.Core.Path.{◌≡◌, sym, ◌∙◌}
+use mathlib.Core.Path.{◌≡◌}
 use Prim.Native.Nat.{◌+◌, ◌-◌, ◌≤◌}
-use native.Mathlib.Omega.{arith}
 use Rattle.spec_tests.specs.Rules.{first}
-use Rattle.spec_tests.specs.Laws.{eq_yes, eq_no, from, begins, passed, any_yes, any_no}
+use Rattle.spec_tests.specs.Laws.{from}
 use Rattle.check_drivers.specs.Bits.{marked}
-use borrow.Author.Rules.{rules}
 use Rattle.check_drivers.proofs.any_marked.Given as goal
 
 abbrev pub invariant-loop-i : goal.invariant-loop-i

@@ -1,6 +1,5 @@
 -- `check_drivers::is_assigned` meets its contract. Assumes nothing.
 use Rattle.check_drivers.specs.Bits.{answers_assigned}
-use borrow.Author.Rules.{rules}
 use Rattle.check_drivers.proofs.is_assigned.Goals as goal
 
 pub returns : goal.returns

@@ -3,7 +3,6 @@ use mathlib.Core.Path.{sym, ◌∙◌}
 use native.Mathlib.Omega.{arith}
 use Rattle.spec_tests.specs.Laws.{or_hit, or_skip}
 use Rattle.spec_rules.specs.Checks.{driven}
-use borrow.Author.Rules.{rules}
 use Rattle.check_drivers.proofs.is_driven.Goals as goal
 
 pub returns-then-is_input : goal.returns-then-is_input

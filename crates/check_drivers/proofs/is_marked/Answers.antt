@@ -4,7 +4,6 @@ use Prim.Native.Nat.{ℕ, ◌+◌}
 use native.Mathlib.Omega.{arith}
 use Rattle.spec_tests.specs.Rules.{any}
 use Rattle.check_drivers.specs.Bits.{marked, signal_ends, answers}
-use borrow.Author.Rules.{rules}
 use Rattle.check_drivers.proofs.is_marked.Goals as goal
 
 pub any_marked-requires : goal.any_marked-requires

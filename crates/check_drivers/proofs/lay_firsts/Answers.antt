@@ -1,14 +1,13 @@
 -- `check_drivers::lay_firsts` meets its contract. The loop's invariant: the sum is that of the widths below p, and the words below p are in place. Assumes nothing.
 use mathlib.Core.Path.{◌≡◌, refl, sym, ap, ◌∙◌}
-use Prim.Native.Nat.{ℕ, ◌-◌, ◌≤◌, ◌<◌}
+use Prim.Native.Nat.{◌-◌, ◌<◌}
 use native.Mathlib.Omega.{arith}
-use lib.ListN.{length, get_or, length-set}
+use lib.ListN.{length-set}
 use Rattle.spec_tests.specs.Rules.{sum_to}
 use Rattle.spec_tests.specs.Laws.{sum_none, sum_more}
 use Rattle.spec_rules.specs.Image.{count_at_of, signal_width}
 use Rattle.spec_rules.specs.Checks.{signal_bits}
 use Rattle.check_drivers.specs.Bits.{signal_ends, first_more}
-use borrow.Author.Rules.{rules}
 use Rattle.check_drivers.proofs.lay_firsts.Goals as goal
 
 pub loop-p-init : goal.loop-p-init

@@ -1,14 +1,9 @@
 -- `check_drivers::lay_firsts` meets its contract. The loop's invariant: the sum is that of the widths below p, and the words below p are in place. Assumes nothing.
-use mathlib.Core.Path.{◌≡◌, refl, sym, ap, ◌∙◌}
+use mathlib.Core.Path.{◌≡◌}
 use Prim.Native.Nat.{ℕ, ◌-◌, ◌≤◌, ◌<◌}
-use native.Mathlib.Omega.{arith}
-use lib.ListN.{length, get_or, length-set}
+use lib.ListN.{length, get_or}
 use Rattle.spec_tests.specs.Rules.{sum_to}
-use Rattle.spec_tests.specs.Laws.{sum_none, sum_more}
 use Rattle.spec_rules.specs.Image.{count_at_of, signal_width}
-use Rattle.spec_rules.specs.Checks.{signal_bits}
-use Rattle.check_drivers.specs.Bits.{signal_ends, first_more}
-use borrow.Author.Rules.{rules}
 use Rattle.check_drivers.proofs.lay_firsts.Given as goal
 
 abbrev pub invariant-loop-p : goal.invariant-loop-p

@@ -1,8 +1,6 @@
 -- `check_drivers::mark` meets its contract. The loop's invariant: i bits are marked. Assumes nothing.
 use Prim.Native.Nat.{◌-◌, ◌≤◌}
-use native.Mathlib.Omega.{arith}
-use Rattle.check_drivers.specs.Bits.{Marked, mark_none, mark_more, mark_end}
-use borrow.Author.Rules.{rules}
+use Rattle.check_drivers.specs.Bits.{Marked}
 use Rattle.check_drivers.proofs.mark.Given as goal
 
 abbrev pub invariant-loop-i : goal.invariant-loop-i

@@ -1,7 +1,6 @@
 -- `check_drivers::mark_bits` meets its contract. Assumes nothing.
 use native.Mathlib.Omega.{arith}
 use Rattle.check_drivers.specs.Bits.{signal_ends}
-use borrow.Author.Rules.{rules}
 use Rattle.check_drivers.proofs.mark_bits.Goals as goal
 
 pub mark-requires : goal.mark-requires

@@ -1,5 +1,4 @@
 -- `check_drivers::mark_signal` meets its contract. Assumes nothing.
-use borrow.Author.Rules.{rules}
 use Rattle.check_drivers.proofs.mark_signal.Goals as goal
 
 pub returns : goal.returns

@@ -1,7 +1,6 @@
 -- `check_drivers::place` meets its contract. Assumes nothing.
 use native.Mathlib.Omega.{arith}
 use Rattle.check_drivers.specs.Bits.{signal_ends}
-use borrow.Author.Rules.{rules}
 use Rattle.check_drivers.proofs.place.Goals as goal
 
 pub overflow_cast-result-2 : goal.overflow_cast-result-2

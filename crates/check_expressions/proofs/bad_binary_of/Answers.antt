@@ -1,6 +1,5 @@
 -- `check_expressions::bad_binary_of` meets its contract. Assumes nothing.
 use mathlib.Core.Path.{sym, ap₂, ◌∙◌}
-use borrow.Author.Rules.{rules}
 use Rattle.spec_tests.specs.Laws.{or_hit, or_skip}
 use Rattle.spec_rules.specs.Checks.{bad_binary}
 use Rattle.check_expressions.specs.Kinds.{bad_binary_of}

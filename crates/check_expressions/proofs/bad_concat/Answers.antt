@@ -1,7 +1,6 @@
 -- `check_expressions::bad_concat` meets its contract. Assumes nothing.
 use mathlib.Core.Path.{refl, sym, ◌∙◌}
 use native.Mathlib.Omega.{arith}
-use borrow.Author.Rules.{rules}
 use Rattle.spec_tests.specs.Laws.{or_hit, or_skip, eq_yes, eq_no, no_lt, ne_same}
 use Rattle.spec_rules.specs.Checks.{bad_concat}
 use Rattle.check_expressions.specs.Kinds.{late_word, part_width}

@@ -1,6 +1,5 @@
 -- `check_expressions::bad_constant` meets its contract. Assumes nothing.
 use mathlib.Core.Path.{refl, sym, ◌∙◌}
-use borrow.Author.Rules.{rules}
 use Rattle.spec_tests.specs.Laws.{or_hit, or_skip, ne_yes, ne_no, ne_same}
 use Rattle.spec_rules.specs.Image.{constant_words}
 use Rattle.check_expressions.specs.Kinds.{bad_constant}

@@ -1,7 +1,6 @@
 -- `check_expressions::bad_expr` meets its contract. Assumes nothing.
 use mathlib.Core.Path.{sym, ◌∙◌}
 use native.Mathlib.Omega.{arith}
-use borrow.Author.Rules.{rules}
 use Rattle.spec_tests.specs.Laws.{or_hit, or_skip, lt_yes, lt_no, inside, sum_more}
 use Rattle.spec_rules.specs.Image.{expr_width}
 use Rattle.spec_rules.specs.Checks.{bad_expr}

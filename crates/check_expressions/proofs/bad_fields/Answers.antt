@@ -1,5 +1,4 @@
 -- `check_expressions::bad_fields` meets its contract. Assumes nothing.
-use borrow.Author.Rules.{rules}
 use Rattle.check_expressions.specs.Kinds.{bad_fields}
 use Rattle.check_expressions.proofs.bad_fields.Goals as goal
 

@@ -1,6 +1,5 @@
 -- `check_expressions::bad_mux` meets its contract. Assumes nothing.
 use mathlib.Core.Path.{refl, sym, ◌∙◌}
-use borrow.Author.Rules.{rules}
 use Rattle.spec_tests.specs.Laws.{or_hit, or_skip, ne_yes, ne_no, ne_same}
 use Rattle.check_expressions.specs.Kinds.{bad_mux}
 use Rattle.check_expressions.proofs.bad_mux.Goals as goal

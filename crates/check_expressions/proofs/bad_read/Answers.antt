@@ -1,6 +1,5 @@
 -- `check_expressions::bad_read` meets its contract. Assumes nothing.
 use mathlib.Core.Path.{refl, sym, ◌∙◌}
-use borrow.Author.Rules.{rules}
 use Rattle.spec_tests.specs.Laws.{or_hit, or_skip, ne_same}
 use Rattle.check_expressions.specs.Kinds.{bad_read}
 use Rattle.check_expressions.proofs.bad_read.Goals as goal

@@ -1,6 +1,5 @@
 -- `check_expressions::bad_unary_of` meets its contract. Assumes nothing.
 use mathlib.Core.Path.{refl, sym, ◌∙◌}
-use borrow.Author.Rules.{rules}
 use Rattle.spec_tests.specs.Laws.{or_hit, or_skip, ne_same}
 use Rattle.check_expressions.specs.Kinds.{bad_unary_of}
 use Rattle.check_expressions.proofs.bad_unary_of.Goals as goal

@@ -1,12 +1,10 @@
 -- `check_expressions::first_expr` meets its contract. Assumes nothing.
-use mathlib.Core.Path.{◌≡◌, sym, ap, ap₂, ◌∙◌}
-use Prim.Native.Nat.{◌+◌, ◌-◌, ◌≤◌}
-use native.Mathlib.Omega.{arith}
+use mathlib.Core.Path.{◌≡◌}
+use Prim.Native.Nat.{◌-◌, ◌≤◌}
 use Rattle.spec_tests.specs.Rules.{first, sum_to}
-use Rattle.spec_tests.specs.Laws.{from, begins, passed, found, ended, sum_none, sum_more}
+use Rattle.spec_tests.specs.Laws.{from}
 use Rattle.spec_rules.specs.Image.{expr_width}
 use Rattle.spec_rules.specs.Checks.{bad_expr}
-use Rattle.check_expressions.specs.Good.{good_expr}
 use Rattle.check_expressions.proofs.first_expr.Given as goal
 
 abbrev pub invariant-loop-r : goal.invariant-loop-r

@@ -1,9 +1,8 @@
 -- `check_expressions::has_late_part` meets its contract. Assumes nothing.
-use mathlib.Core.Path.{◌≡◌, sym, ◌∙◌}
-use Prim.Native.Nat.{◌-◌, ◌≤◌}
+use mathlib.Core.Path.{sym, ◌∙◌}
+use Prim.Native.Nat.{◌-◌}
 use native.Mathlib.Omega.{arith}
-use Rattle.spec_tests.specs.Rules.{first}
-use Rattle.spec_tests.specs.Laws.{from, begins, passed, any_yes, any_no}
+use Rattle.spec_tests.specs.Laws.{begins, passed, any_yes, any_no}
 use Rattle.check_expressions.specs.Kinds.{late_word}
 use Rattle.check_expressions.proofs.has_late_part.Goals as goal
 

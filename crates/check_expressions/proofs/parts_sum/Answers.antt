@@ -1,6 +1,6 @@
 -- `check_expressions::parts_sum` meets its contract. Assumes nothing.
-use mathlib.Core.Path.{◌≡◌, sym, ap, ap₂, ◌∙◌}
-use Prim.Native.Nat.{◌+◌, ◌*◌, ◌-◌, ◌≤◌}
+use mathlib.Core.Path.{sym, ap, ap₂, ◌∙◌}
+use Prim.Native.Nat.{◌+◌, ◌-◌}
 use native.Mathlib.Omega.{arith}
 use Rattle.spec_tests.specs.Rules.{sum_to}
 use Rattle.spec_tests.specs.Laws.{sum_none, sum_more}

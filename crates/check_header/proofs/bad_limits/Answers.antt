@@ -1,5 +1,4 @@
 -- `check_header::bad_limits` meets its contract. Assumes nothing.
-use borrow.Author.Rules.{rules}
 use mathlib.Core.Path.{sym, ◌∙◌}
 use Rattle.spec_tests.specs.Laws.{or_hit, or_skip}
 use Rattle.check_header.proofs.bad_limits.Goals as goal

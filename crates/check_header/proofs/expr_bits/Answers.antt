@@ -1,5 +1,4 @@
 -- `check_header::expr_bits` meets its contract. Assumes nothing.
-use borrow.Author.Rules.{rules}
 use Rattle.spec_rules.specs.Image.{expr_width}
 use Rattle.spec_rules.specs.Checks.{expr_bits}
 use Rattle.check_header.specs.Header.{field_of}

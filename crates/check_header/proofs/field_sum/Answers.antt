@@ -1,7 +1,6 @@
 -- `check_header::field_sum` meets its contract. The loop's invariant: the sum is that of the fields below r, each below 2 ^ 32. Assumes nothing.
-use borrow.Author.Rules.{rules}
-use Prim.Native.Nat.{◌≤◌, ◌-◌, ◌*◌}
-use mathlib.Core.Path.{◌≡◌, sym, ap, ◌∙◌}
+use Prim.Native.Nat.{◌-◌}
+use mathlib.Core.Path.{sym, ap, ◌∙◌}
 use native.Mathlib.Omega.{arith}
 use Rattle.spec_tests.specs.Rules.{sum_to}
 use Rattle.spec_tests.specs.Laws.{sum_none, sum_more}

@@ -1,10 +1,7 @@
 -- `check_header::field_sum` meets its contract. The loop's invariant: the sum is that of the fields below r, each below 2 ^ 32. Assumes nothing.
-use borrow.Author.Rules.{rules}
 use Prim.Native.Nat.{◌≤◌, ◌-◌, ◌*◌}
-use mathlib.Core.Path.{◌≡◌, sym, ap, ◌∙◌}
-use native.Mathlib.Omega.{arith}
+use mathlib.Core.Path.{◌≡◌}
 use Rattle.spec_tests.specs.Rules.{sum_to}
-use Rattle.spec_tests.specs.Laws.{sum_none, sum_more}
 use Rattle.check_header.specs.Header.{field_of}
 use Rattle.check_header.proofs.field_sum.Given as goal
 

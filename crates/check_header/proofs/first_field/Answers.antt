@@ -1,11 +1,8 @@
 -- `check_header::first_field` meets its contract. The loop's invariant: no field below i is wrong. Assumes nothing.
-use borrow.Author.Rules.{rules}
-use Prim.Native.Nat.{◌≤◌, ◌-◌}
-use mathlib.Core.Path.{◌≡◌, refl, sym, ◌∙◌}
+use Prim.Native.Nat.{◌-◌}
+use mathlib.Core.Path.{refl, sym, ◌∙◌}
 use native.Mathlib.Omega.{arith}
-use lib.ListN.{length}
-use Rattle.spec_tests.specs.Rules.{first}
-use Rattle.spec_tests.specs.Laws.{from, begins, passed, found, ended, pick_hit, pick_skip, lt_yes, lt_no}
+use Rattle.spec_tests.specs.Laws.{begins, passed, found, ended, pick_hit, pick_skip, lt_yes, lt_no}
 use Rattle.spec_rules.specs.Checks.{wrong_field, first_field}
 use Rattle.check_header.proofs.first_field.Goals as goal
 

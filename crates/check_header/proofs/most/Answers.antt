@@ -1,5 +1,4 @@
 -- `check_header::most` meets its contract. Assumes nothing.
-use borrow.Author.Rules.{rules}
 use mathlib.Core.Path.{refl}
 use Rattle.spec_rules.specs.Image.{most_of}
 use Rattle.check_header.proofs.most.Goals as goal

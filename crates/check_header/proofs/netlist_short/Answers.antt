@@ -1,5 +1,4 @@
 -- `check_header::netlist_short` meets its contract. Assumes nothing.
-use borrow.Author.Rules.{rules}
 use mathlib.Core.Path.{refl}
 use Rattle.spec_tests.specs.Laws.{lt_same}
 use Rattle.spec_rules.specs.Checks.{netlist_need}

@@ -1,5 +1,4 @@
 -- `check_header::scratch_short` meets its contract. Assumes nothing.
-use borrow.Author.Rules.{rules}
 use Rattle.spec_tests.specs.Laws.{lt_same}
 use mathlib.Core.Path.{refl}
 use native.Mathlib.Omega.{arith}

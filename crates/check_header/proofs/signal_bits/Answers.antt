@@ -1,5 +1,4 @@
 -- `check_header::signal_bits` meets its contract. Assumes nothing.
-use borrow.Author.Rules.{rules}
 use Rattle.spec_rules.specs.Image.{signal_width}
 use Rattle.spec_rules.specs.Checks.{signal_bits}
 use Rattle.check_header.specs.Header.{field_of}

@@ -1,6 +1,5 @@
 -- `check_header::start` meets its contract. The loop's invariant: at is where section j has to start. Assumes nothing.
-use borrow.Author.Rules.{rules}
-use Prim.Native.Nat.{◌≤◌, ◌-◌, ◌+◌, ◌*◌}
+use Prim.Native.Nat.{◌-◌, ◌*◌}
 use mathlib.Core.Path.{◌≡◌, sym, ap, ◌∙◌}
 use native.Mathlib.Omega.{arith}
 use Rattle.spec_rules.specs.Image.{start_of, bytes_of}

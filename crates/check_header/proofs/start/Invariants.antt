@@ -1,11 +1,7 @@
 -- `check_header::start` meets its contract. The loop's invariant: at is where section j has to start. Assumes nothing.
-use borrow.Author.Rules.{rules}
 use Prim.Native.Nat.{◌≤◌, ◌-◌, ◌+◌, ◌*◌}
-use mathlib.Core.Path.{◌≡◌, sym, ap, ◌∙◌}
-use native.Mathlib.Omega.{arith}
-use Rattle.spec_rules.specs.Image.{start_of, bytes_of}
-use Rattle.image_fields.specs.Fields.{scaled}
-use Rattle.check_header.specs.Header.{start_more, start_none}
+use mathlib.Core.Path.{◌≡◌}
+use Rattle.spec_rules.specs.Image.{start_of}
 use Rattle.check_header.proofs.start.Given as goal
 
 abbrev pub invariant-loop-j : goal.invariant-loop-j

@@ -1,5 +1,4 @@
 -- `check_header::wrong_count` meets its contract. Assumes nothing.
-use borrow.Author.Rules.{rules}
 use mathlib.Core.Path.{refl}
 use native.Mathlib.Omega.{arith}
 use Rattle.spec_tests.specs.Laws.{or_hit, or_skip, and_miss, and_skip, lt_yes, lt_no, eq_yes, eq_no, ne_same}

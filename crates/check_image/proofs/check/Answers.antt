@@ -1,5 +1,4 @@
 -- `check_image::check` meets its contract. The checks that are passed are fine, the first that is not gives the answer. Assumes nothing.
-use borrow.Author.Rules.{rules}
 use mathlib.Core.Path.{sym, ◌∙◌}
 use Rattle.spec_rules.specs.Checks as rule
 use Rattle.check_header.specs.Header.{header_tells}

@@ -1,7 +1,6 @@
 -- `check_image::check_bits` meets its contract. Assumes nothing.
 use native.Mathlib.Omega.{arith}
 use Rattle.check_drivers.specs.Bits.{marks_none}
-use borrow.Author.Rules.{rules}
 use Rattle.check_image.proofs.check_bits.Goals as goal
 
 pub check_sections-requires : goal.check_sections-requires

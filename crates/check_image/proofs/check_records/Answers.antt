@@ -1,5 +1,4 @@
 -- `check_image::check_records` meets its contract. Each section that is passed is fine; their width sums bound the bits. Assumes nothing.
-use borrow.Author.Rules.{rules}
 use Rattle.check_image.specs.Checked.{answer_of, records_then, then_fine, then_refused, section_bad, section_fine, all_good}
 use Rattle.check_image.specs.Accepted.{signals_fit, expr_bits_law}
 use Rattle.check_image.proofs.check_records.Goals as goal

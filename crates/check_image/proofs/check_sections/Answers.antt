@@ -2,7 +2,6 @@
 use mathlib.Core.Path.{sym, ◌∙◌}
 use native.Mathlib.Omega.{arith}
 use Rattle.check_image.specs.Checked.{answer_of, drivers_then, then_fine, then_refused, refuse_yes, refuse_no, section_bad, section_fine}
-use borrow.Author.Rules.{rules}
 use Rattle.check_image.proofs.check_sections.Goals as goal
 
 pub returns-then-a-count : goal.returns-then-a-count

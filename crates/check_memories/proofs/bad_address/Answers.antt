@@ -1,6 +1,5 @@
 -- `check_memories::bad_address` meets its contract. Assumes nothing.
 use mathlib.Core.Path.{sym, ◌∙◌}
-use borrow.Author.Rules.{rules}
 use Rattle.spec_tests.specs.Laws.{or_hit, or_skip}
 use Rattle.spec_rules.specs.Checks.{bad_address}
 use Rattle.check_memories.proofs.bad_address.Goals as goal

@@ -2,7 +2,6 @@
 use mathlib.Core.Path.{sym, ◌∙◌}
 use Rattle.spec_tests.specs.Laws.{or_hit, or_skip}
 use Rattle.check_memories.specs.Memory.{port_halves, read_there}
-use borrow.Author.Rules.{rules}
 use Rattle.check_memories.proofs.bad_port.Goals as goal
 
 pub returns-then-bad_read : goal.returns-then-bad_read

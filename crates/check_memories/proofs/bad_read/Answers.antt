@@ -1,6 +1,5 @@
 -- `check_memories::bad_read` meets its contract. Assumes nothing.
 use mathlib.Core.Path.{sym, ◌∙◌}
-use borrow.Author.Rules.{rules}
 use Rattle.spec_tests.specs.Laws.{or_hit, or_skip, ne_yes, ne_no}
 use Rattle.check_memories.specs.Memory.{bad_read}
 use Rattle.check_memories.proofs.bad_read.Goals as goal

@@ -2,7 +2,6 @@
 use mathlib.Core.Path.{refl, sym, ◌∙◌}
 use Rattle.spec_tests.specs.Laws.{pick_hit, pick_skip, or_hit, or_skip, eq_yes, eq_no, eq_same}
 use Rattle.spec_rules.specs.Checks.{bad_second}
-use borrow.Author.Rules.{rules}
 use Rattle.check_memories.proofs.bad_second.Goals as goal
 
 pub returns-then-k-eq0 : goal.returns-then-k-eq0

@@ -2,7 +2,6 @@
 use mathlib.Core.Path.{refl, sym, ◌∙◌}
 use Rattle.spec_tests.specs.Laws.{or_hit, or_skip, lt_yes, lt_no, ne_yes, ne_no, ne_same}
 use Rattle.check_memories.specs.Memory.{bad_shape}
-use borrow.Author.Rules.{rules}
 use Rattle.check_memories.proofs.bad_shape.Goals as goal
 
 pub returns-then-is_outside : goal.returns-then-is_outside

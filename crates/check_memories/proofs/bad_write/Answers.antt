@@ -1,6 +1,5 @@
 -- `check_memories::bad_write` meets its contract. Assumes nothing.
 use mathlib.Core.Path.{refl, sym, ◌∙◌}
-use borrow.Author.Rules.{rules}
 use Rattle.spec_tests.specs.Laws.{or_hit, or_skip, lt_same}
 use Rattle.check_memories.specs.Memory.{bad_write}
 use Rattle.check_memories.proofs.bad_write.Goals as goal

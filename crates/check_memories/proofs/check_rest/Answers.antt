@@ -1,7 +1,6 @@
 -- `check_memories::check_rest` meets its contract. Assumes nothing.
 use mathlib.Core.Bool.{true≢false}
 use mathlib.Core.Path.{sym, ◌∙◌}
-use borrow.Author.Rules.{rules}
 use Rattle.check_memories.proofs.check_rest.Goals as goal
 
 pub returns-then-bad_rest : goal.returns-then-bad_rest

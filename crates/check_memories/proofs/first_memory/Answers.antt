@@ -2,7 +2,6 @@
 use mathlib.Core.Path.{sym, ap₂, ◌∙◌}
 use Rattle.check_memories.specs.Memory.{first_earlier}
 use Rattle.check_names.specs.Earlier.{earlier_of}
-use borrow.Author.Rules.{rules}
 use Rattle.check_memories.proofs.first_memory.Goals as goal
 
 pub returns : goal.returns

@@ -1,13 +1,8 @@
 -- `check_memories::first_rest` meets its contract. The loop's invariant: no record below r breaks a rule, and the read data of these are marked. Assumes nothing.
-use mathlib.Core.Path.{◌≡◌, refl, sym, ◌∙◌}
-use Prim.Native.Nat.{◌-◌, ◌≤◌}
+use mathlib.Core.Path.{refl, sym, ◌∙◌}
+use Prim.Native.Nat.{◌-◌}
 use native.Mathlib.Omega.{arith}
-use lib.ListN.{length}
-use Rattle.spec_tests.specs.Rules.{first}
-use Rattle.spec_tests.specs.Laws.{from, begins, passed, found, ended}
-use Rattle.spec_rules.specs.Image.{count_at_of}
-use Rattle.check_drivers.specs.Bits.{Marks}
-use Rattle.check_memories.specs.Memory.{bad_rest}
+use Rattle.spec_tests.specs.Laws.{begins, passed, found, ended}
 use borrow.Author.Rules.{rules}
 use Rattle.check_memories.proofs.first_rest.Goals as goal
 

@@ -3,7 +3,6 @@ use mathlib.Core.Path.{sym, ◌∙◌}
 use native.Mathlib.Omega.{arith}
 use Rattle.check_drivers.specs.Bits.{marks_one, marks_two}
 use Rattle.check_memories.specs.Good.{good_rest}
-use borrow.Author.Rules.{rules}
 use Rattle.check_memories.proofs.mark_memory.Goals as goal
 
 pub mark_signal-requires : goal.mark_signal-requires
@@ -14,12 +13,11 @@ returns-then-record_field-ne1 c =
     marks_one _ _ _ _ _ _ (λ z. c.if-record_field-ne1.true (c.record_field.ensures ∙ z)) (rw c.record_field-p.ensures at c.mark_signal.ensures) c.requires.1
 
 pub mark_signal-requires-2 : goal.mark_signal-requires-2
-mark_signal-requires-2 c =
-    (
-      c.requires.0,
-      omega (arith, c.requires.1.holds.room, c.mark_signal.ensures.long),
-      rw c.record_field-q.ensures ((good_rest _ _ c.requires.2).second_port_law.some (sym c.record_field.ensures ∙ c.if-record_field-ne1.false)).port.read_there,
-    )
+mark_signal-requires-2 c = (
+  c.requires.0,
+  omega (arith, c.requires.1.holds.room, c.mark_signal.ensures.long),
+  rw c.record_field-q.ensures ((good_rest _ _ c.requires.2).second_port_law.some (sym c.record_field.ensures ∙ c.if-record_field-ne1.false)).port.read_there,
+)
 
 pub returns : goal.returns
 returns c =

@@ -1,10 +1,8 @@
 -- `check_names::bad_bytes` meets its contract. The loop's invariant: no byte below i is bad. Assumes nothing.
-use borrow.Author.Rules.{rules}
-use Prim.Native.Nat.{◌≤◌, ◌-◌}
-use mathlib.Core.Path.{◌≡◌, sym, ◌∙◌}
+use Prim.Native.Nat.{◌-◌}
+use mathlib.Core.Path.{sym, ◌∙◌}
 use native.Mathlib.Omega.{arith}
-use Rattle.spec_tests.specs.Rules.{first}
-use Rattle.spec_tests.specs.Laws.{from, begins, passed, any_yes, any_no}
+use Rattle.spec_tests.specs.Laws.{begins, passed, any_yes, any_no}
 use Rattle.check_names.specs.Names.{bad_byte}
 use Rattle.check_names.proofs.bad_bytes.Goals as goal
 

@@ -1,5 +1,4 @@
 -- `check_names::bad_name` meets its contract. Assumes nothing.
-use borrow.Author.Rules.{rules}
 use mathlib.Core.Path.{sym, ap, ◌∙◌}
 use native.Mathlib.Omega.{arith}
 use Rattle.spec_tests.specs.Laws.{or_hit, or_skip, lt_yes, lt_no}

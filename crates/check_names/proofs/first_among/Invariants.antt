@@ -1,12 +1,10 @@
 -- `check_names::first_among` meets its contract. The loop's invariant: no record below r has a wrong name, and the remainders of their hashes are seen. Assumes nothing.
 use Prim.Native.Nat.{◌≤◌, ◌-◌}
-use mathlib.Core.Path.{◌≡◌, refl, sym, ◌∙◌}
-use native.Mathlib.Omega.{arith}
+use mathlib.Core.Path.{◌≡◌}
 use lib.ListN.{length}
 use Rattle.spec_tests.specs.Rules.{first}
-use Rattle.spec_tests.specs.Laws.{from, begins, passed, found, ended, or_hit, or_skip}
-use Rattle.check_names.specs.Names.{wrong_name, Seen, seen_none, hashed_less}
-use borrow.Author.Rules.{rules}
+use Rattle.spec_tests.specs.Laws.{from}
+use Rattle.check_names.specs.Names.{wrong_name, Seen}
 use Rattle.check_names.proofs.first_among.Given as goal
 
 abbrev pub invariant-loop-r : goal.invariant-loop-r

@@ -5,7 +5,6 @@ use Rattle.spec_tests.specs.Rules.{first}
 use Rattle.spec_tests.specs.Laws.{first_most}
 use Rattle.spec_rules.specs.Image.{count_at_of}
 use Rattle.check_names.specs.Names.{wrong_name}
-use borrow.Author.Rules.{rules}
 use Rattle.check_names.proofs.first_name.Goals as goal
 
 pub returns-then-n-eq0 : goal.returns-then-n-eq0

@@ -1,10 +1,8 @@
 -- `check_names::hash` meets its contract. The loop's invariant: the hash of what is left, begun at h, is that of the whole text. Assumes nothing.
-use borrow.Author.Rules.{rules}
-use Prim.Native.Nat.{◌≤◌, ◌-◌}
-use mathlib.Core.Path.{◌≡◌, refl, sym, ◌∙◌}
+use Prim.Native.Nat.{◌-◌}
+use mathlib.Core.Path.{refl, sym, ◌∙◌}
 use native.Mathlib.Omega.{arith}
-use lib.ListN.{length, drop}
-use Rattle.check_names.specs.Names.{hash_from, hash_end, hash_more}
+use Rattle.check_names.specs.Names.{hash_end, hash_more}
 use Rattle.check_names.proofs.hash.Goals as goal
 
 pub loop-i-init : goal.loop-i-init

@@ -1,10 +1,9 @@
 -- `check_names::lay_hashes` meets its contract. The loop's invariant: the hashes below i are stored. Assumes nothing.
-use Prim.Native.Nat.{◌≤◌, ◌-◌}
-use mathlib.Core.Path.{◌≡◌, refl}
+use Prim.Native.Nat.{◌-◌}
+use mathlib.Core.Path.{refl}
 use native.Mathlib.Omega.{arith}
-use lib.ListN.{length, length-set}
-use Rattle.check_names.specs.Names.{Hashed, hashed_none, hashed_more, hashed_less}
-use borrow.Author.Rules.{rules}
+use lib.ListN.{length-set}
+use Rattle.check_names.specs.Names.{hashed_none, hashed_more, hashed_less}
 use Rattle.check_names.proofs.lay_hashes.Goals as goal
 
 pub loop-i-init : goal.loop-i-init

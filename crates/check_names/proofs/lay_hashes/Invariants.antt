@@ -1,10 +1,8 @@
 -- `check_names::lay_hashes` meets its contract. The loop's invariant: the hashes below i are stored. Assumes nothing.
 use Prim.Native.Nat.{◌≤◌, ◌-◌}
-use mathlib.Core.Path.{◌≡◌, refl}
-use native.Mathlib.Omega.{arith}
-use lib.ListN.{length, length-set}
-use Rattle.check_names.specs.Names.{Hashed, hashed_none, hashed_more, hashed_less}
-use borrow.Author.Rules.{rules}
+use mathlib.Core.Path.{◌≡◌}
+use lib.ListN.{length}
+use Rattle.check_names.specs.Names.{Hashed}
 use Rattle.check_names.proofs.lay_hashes.Given as goal
 
 abbrev pub invariant-loop-i : goal.invariant-loop-i

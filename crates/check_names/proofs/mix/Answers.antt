@@ -1,5 +1,4 @@
 -- `check_names::mix` meets its contract. Assumes nothing.
-use borrow.Author.Rules.{rules}
 use mathlib.Core.Path.{refl}
 use Rattle.check_names.specs.Names.{mixed}
 use Rattle.check_names.proofs.mix.Goals as goal

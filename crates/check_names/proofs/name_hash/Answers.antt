@@ -1,5 +1,4 @@
 -- `check_names::name_hash` meets its contract. Assumes nothing.
-use borrow.Author.Rules.{rules}
 use Rattle.check_names.specs.Names.{hash_at}
 use Rattle.check_names.proofs.name_hash.Goals as goal
 

@@ -3,7 +3,6 @@ use mathlib.Core.Path.{sym}
 use native.Mathlib.Omega.{arith}
 use native.Mathlib.Nat.{mod-lt}
 use Rattle.check_names.specs.Names.{hash_of, unseen, seen_set, seen_still}
-use borrow.Author.Rules.{rules}
 use Rattle.check_names.proofs.name_seen.Goals as goal
 
 pub overflow_cast-at-2 : goal.overflow_cast-at-2

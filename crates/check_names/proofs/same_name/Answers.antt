@@ -2,7 +2,6 @@
 use mathlib.Core.Path.{sym, ◌∙◌}
 use native.Mathlib.Omega.{arith}
 use Rattle.check_names.specs.Names.{same_name, other_hash, hash_of}
-use borrow.Author.Rules.{rules}
 use Rattle.check_names.proofs.same_name.Goals as goal
 
 pub returns-then-hs-j : goal.returns-then-hs-j

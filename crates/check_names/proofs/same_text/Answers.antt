@@ -1,10 +1,7 @@
 -- `check_names::same_text` meets its contract. The loop's invariant: the texts are as long, and equal if what is left of them is. Assumes nothing.
-use borrow.Author.Rules.{rules}
-use Prim.Native.Nat.{◌≤◌, ◌-◌}
-use mathlib.Core.Path.{◌≡◌, refl, sym, ◌∙◌}
+use Prim.Native.Nat.{◌-◌}
+use mathlib.Core.Path.{refl, sym, ◌∙◌}
 use native.Mathlib.Omega.{arith}
-use lib.ListN.{length, drop}
-use Rattle.spec_tests.specs.Rules.{same_text}
 use Rattle.check_names.specs.Names.{same_length, same_end, same_more, same_other}
 use Rattle.check_names.proofs.same_text.Goals as goal
 

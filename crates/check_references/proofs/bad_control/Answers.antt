@@ -1,6 +1,5 @@
 -- `check_references::bad_control` meets its contract. Assumes nothing.
 use mathlib.Core.Path.{refl, sym, ◌∙◌}
-use borrow.Author.Rules.{rules}
 use Rattle.spec_tests.specs.Laws.{or_hit, or_skip, lt_same}
 use Rattle.spec_rules.specs.Checks.{bad_control}
 use Rattle.check_references.proofs.bad_control.Goals as goal

@@ -1,6 +1,5 @@
 -- `check_references::bad_optional` meets its contract. Assumes nothing.
 use mathlib.Core.Path.{sym, ◌∙◌}
-use borrow.Author.Rules.{rules}
 use Rattle.spec_tests.specs.Laws.{pick_hit, pick_skip, eq_yes, eq_no}
 use Rattle.spec_rules.specs.Checks.{bad_optional}
 use Rattle.check_references.proofs.bad_optional.Goals as goal

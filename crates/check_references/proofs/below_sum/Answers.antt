@@ -1,6 +1,5 @@
 -- `check_references::below_sum` meets its contract. Assumes nothing.
 use mathlib.Core.Path.{refl}
-use borrow.Author.Rules.{rules}
 use Rattle.spec_tests.specs.Rules.{◌<?◌}
 use Rattle.check_references.proofs.below_sum.Goals as goal
 

@@ -1,5 +1,4 @@
 -- `check_references::no_expr` meets its contract. Assumes nothing.
-use borrow.Author.Rules.{rules}
 use Rattle.spec_rules.specs.Checks.{no_expr}
 use Rattle.check_references.specs.Tests.{le_not}
 use Rattle.check_references.proofs.no_expr.Goals as goal

@@ -1,5 +1,4 @@
 -- `check_references::no_signal` meets its contract. Assumes nothing.
-use borrow.Author.Rules.{rules}
 use Rattle.spec_rules.specs.Checks.{no_signal}
 use Rattle.check_references.specs.Tests.{le_not}
 use Rattle.check_references.proofs.no_signal.Goals as goal

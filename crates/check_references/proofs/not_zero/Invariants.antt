@@ -1,10 +1,8 @@
 -- `check_references::not_zero` meets its contract. Assumes nothing.
-use mathlib.Core.Path.{◌≡◌, sym, ◌∙◌}
+use mathlib.Core.Path.{◌≡◌}
 use Prim.Native.Nat.{◌-◌, ◌≤◌}
-use native.Mathlib.Omega.{arith}
 use Rattle.spec_tests.specs.Rules.{first}
-use Rattle.spec_tests.specs.Laws.{ne_yes, ne_no, from, begins, passed, any_yes, any_no}
-use Rattle.spec_rules.specs.Checks.{not_zero}
+use Rattle.spec_tests.specs.Laws.{from}
 use Rattle.check_references.specs.Tests.{non_zero}
 use Rattle.check_references.proofs.not_zero.Given as goal
 

@@ -1,6 +1,5 @@
 -- `check_registers::bad_reset` meets its contract. Assumes nothing.
 use mathlib.Core.Path.{sym, ◌∙◌}
-use borrow.Author.Rules.{rules}
 use Rattle.spec_tests.specs.Laws.{pick_hit, pick_skip, or_hit, or_skip, lt_yes, lt_no, eq_yes, eq_no}
 use Rattle.spec_rules.specs.Checks.{bad_reset}
 use Rattle.check_registers.proofs.bad_reset.Goals as goal

@@ -3,7 +3,6 @@ use mathlib.Core.Path.{sym, ◌∙◌}
 use Rattle.spec_tests.specs.Laws.{or_hit, or_skip, lt_yes, lt_no}
 use Rattle.check_references.specs.Good.{is_signal}
 use Rattle.check_registers.specs.Register.{bad_rest_of}
-use borrow.Author.Rules.{rules}
 use Rattle.check_registers.proofs.bad_rest_of.Goals as goal
 
 pub returns-then-no_signal : goal.returns-then-no_signal

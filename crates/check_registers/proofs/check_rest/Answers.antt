@@ -4,7 +4,6 @@ use mathlib.Core.Path.{sym, ◌∙◌}
 use Rattle.check_drivers.specs.Bits.{marks_register}
 use Rattle.check_registers.specs.Register.{rest_of}
 use Rattle.check_registers.specs.Good.{good_of}
-use borrow.Author.Rules.{rules}
 use Rattle.check_registers.proofs.check_rest.Goals as goal
 
 pub returns-then-bad_rest_of : goal.returns-then-bad_rest_of
@@ -15,8 +14,7 @@ mark_signal-requires c =
     (c.requires.0, c.requires.1.holds.room, (good_of _ _ _ (sym c.bad_rest_of.ensures ∙ c.if-bad_rest_of.false)).there)
 
 pub returns : goal.returns
-returns c =
-    (
-      rest_of _ _ _ _ c.record_field-p.ensures (sym c.if-bad_rest_of.false ∙ c.bad_rest_of.ensures),
-      λ e. marks_register _ _ _ _ _ (rw c.record_field-p.ensures at c.mark_signal.ensures) c.requires.1,
-    )
+returns c = (
+  rest_of _ _ _ _ c.record_field-p.ensures (sym c.if-bad_rest_of.false ∙ c.bad_rest_of.ensures),
+  λ e. marks_register _ _ _ _ _ (rw c.record_field-p.ensures at c.mark_signal.ensures) c.requires.1,
+)

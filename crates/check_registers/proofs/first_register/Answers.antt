@@ -2,7 +2,6 @@
 use mathlib.Core.Path.{sym, ap₂, ◌∙◌}
 use Rattle.check_registers.specs.Register.{first_earlier}
 use Rattle.check_names.specs.Earlier.{earlier_of, earlier_second}
-use borrow.Author.Rules.{rules}
 use Rattle.check_registers.proofs.first_register.Goals as goal
 
 pub returns : goal.returns

@@ -1,13 +1,10 @@
 -- `check_registers::first_rest` meets its contract. The loop's invariant: no record below r breaks a rule, and the targets of these are marked. Assumes nothing.
 use mathlib.Core.Path.{◌≡◌, refl, sym, ◌∙◌, subst}
-use Prim.Native.Nat.{ℕ, ◌-◌, ◌≤◌}
+use Prim.Native.Nat.{ℕ, ◌-◌}
 use native.Mathlib.Omega.{arith}
-use lib.ListN.{length}
-use Rattle.spec_tests.specs.Rules.{first}
-use Rattle.spec_tests.specs.Laws.{from, begins, passed, found, ended}
+use Rattle.spec_tests.specs.Laws.{begins, passed, found, ended}
 use Rattle.spec_rules.specs.Image.{count_at_of}
 use Rattle.check_drivers.specs.Bits.{Marks}
-use Rattle.check_registers.specs.Register.{bad_rest}
 use borrow.Author.Rules.{rules}
 use Rattle.check_registers.proofs.first_rest.Goals as goal
 

@@ -1,5 +1,4 @@
 -- `check_signals::first_signal` meets its contract. Assumes nothing.
-use borrow.Author.Rules.{rules}
 use Rattle.check_signals.specs.Signals.{first_signal}
 use Rattle.spec_rules.specs.Image.{count_at_of}
 use Rattle.check_signals.proofs.first_signal.Goals as goal

@@ -1,11 +1,9 @@
 -- `check_signals::first_wrong` meets its contract. The loop's invariant: no record below r breaks a rule, and the sum is that of the widths below r. Assumes nothing.
-use borrow.Author.Rules.{rules}
-use Prim.Native.Nat.{◌≤◌, ◌-◌}
-use mathlib.Core.Path.{◌≡◌, sym, ◌∙◌}
+use Prim.Native.Nat.{◌-◌}
+use mathlib.Core.Path.{sym, ◌∙◌}
 use native.Mathlib.Omega.{arith}
-use Rattle.spec_tests.specs.Rules.{first, sum_to}
-use Rattle.spec_tests.specs.Laws.{from, begins, passed, found, ended, sum_none, sum_more}
-use Rattle.spec_rules.specs.Image.{count_at_of, signal_width}
+use Rattle.spec_tests.specs.Laws.{begins, passed, found, ended, sum_none, sum_more}
+use Rattle.spec_rules.specs.Image.{signal_width}
 use Rattle.check_signals.specs.Signals.{wrong_signal, sum_good}
 use Rattle.check_signals.proofs.first_wrong.Goals as goal
 

@@ -1,5 +1,4 @@
 -- `check_signals::wrong_signal` meets its contract. Assumes nothing.
-use borrow.Author.Rules.{rules}
 use mathlib.Core.Path.{refl, sym, ◌∙◌, ◌≡◌}
 use native.Mathlib.Omega.{arith}
 use Rattle.spec_tests.specs.Laws.{or_hit, or_skip, lt_yes, lt_no, lt_same, inside, sum_more}

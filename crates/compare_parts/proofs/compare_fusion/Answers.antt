@@ -1,5 +1,4 @@
 -- `compare_parts::compare_fusion` meets its contract. Assumes nothing.
-use borrow.Author.Rules.{rules}
 use native.Mathlib.Omega.{arith}
 use Rattle.compare_parts.proofs.Laws.{fine_readable}
 use Rattle.compare_parts.proofs.compare_fusion.Goals as goal

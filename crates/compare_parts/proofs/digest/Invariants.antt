@@ -1,5 +1,4 @@
 -- `compare_parts::digest` meets its contract. Assumes nothing.
-use borrow.Author.Rules.{rules}
 use Prim.Native.Nat.{◌-◌}
 use lib.ListN.{length}
 use Rattle.compare_parts.proofs.digest.Given as goal

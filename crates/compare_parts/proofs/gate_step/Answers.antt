@@ -1,5 +1,4 @@
 -- `compare_parts::gate_step` meets its contract. Assumes nothing.
-use borrow.Author.Rules.{rules}
 use Rattle.net_gates.specs.Nots.{keeps_constant, keeps_mux}
 use Rattle.compare_parts.proofs.Laws.{there, gives, keeps_not, keeps_and, keeps_or, keeps_xor}
 use Rattle.compare_parts.proofs.gate_step.Goals as goal

@@ -1,5 +1,4 @@
 -- `compare_parts::input_step` meets its contract. Assumes nothing.
-use borrow.Author.Rules.{rules}
 use Rattle.compare_parts.proofs.Laws.{runs, keeps_input}
 use Rattle.compare_parts.proofs.input_step.Goals as goal
 

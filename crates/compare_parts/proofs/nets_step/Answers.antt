@@ -1,5 +1,4 @@
 -- `compare_parts::nets_step` meets its contract. Assumes nothing.
-use borrow.Author.Rules.{rules}
 use Rattle.compare_parts.proofs.Laws.{runs, fills, keeps_output, keeps_comparison, keeps_arithmetic, nets_steps, list_steps}
 use Rattle.compare_parts.proofs.nets_step.Goals as goal
 

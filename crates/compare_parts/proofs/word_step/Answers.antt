@@ -1,5 +1,4 @@
 -- `compare_parts::word_step` meets its contract. Assumes nothing.
-use borrow.Author.Rules.{rules}
 use mathlib.Core.Path.{sym, ◌∙◌}
 use native.Mathlib.Omega.{arith}
 use Rattle.compare_parts.proofs.Laws.{front}

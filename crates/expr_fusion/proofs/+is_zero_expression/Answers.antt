@@ -1,9 +1,8 @@
 -- `expr_fusion::is_zero_expression` meet their contracts. Assumes nothing.
-use Prim.Native.Nat.{ℕ, ◌<◌, ◌≤◌, ◌-◌}
+use Prim.Native.Nat.{◌-◌}
 use mathlib.Core.Path.{sym, ◌∙◌}
 use native.Mathlib.Omega.{arith}
-use borrow.Author.Rules.{rules}
-use Rattle.expr_fusion.specs.Fusion.{ZeroFrom, zero_begins, zero_passes, zero_stops, zero_ends, not_true, not_false}
+use Rattle.expr_fusion.specs.Fusion.{zero_begins, zero_passes, zero_stops, zero_ends}
 use Rattle.expr_fusion.proofs.+is_zero_expression.Goals as goal
 
 pub zero_test-test-requires : goal.zero_test-test-requires

@@ -1,9 +1,6 @@
 -- `expr_fusion::is_zero_expression` meet their contracts. Assumes nothing.
-use Prim.Native.Nat.{ℕ, ◌<◌, ◌≤◌, ◌-◌}
-use mathlib.Core.Path.{sym, ◌∙◌}
-use native.Mathlib.Omega.{arith}
-use borrow.Author.Rules.{rules}
-use Rattle.expr_fusion.specs.Fusion.{ZeroFrom, zero_begins, zero_passes, zero_stops, zero_ends, not_true, not_false}
+use Prim.Native.Nat.{◌≤◌, ◌-◌}
+use Rattle.expr_fusion.specs.Fusion.{ZeroFrom}
 use Rattle.expr_fusion.proofs.+is_zero_expression.Given as goal
 
 abbrev pub invariant-loop-i : goal.invariant-loop-i

@@ -1,5 +1,4 @@
 -- `expr_fusion::add_operands` meets its contract. Assumes nothing.
-use borrow.Author.Rules.{rules}
 use mathlib.Core.Path.{◌∙◌}
 use Rattle.expr_fusion.specs.Fusion.{sum_binary, sum_other}
 use Rattle.expr_fusion.proofs.add_operands.Goals as goal

@@ -1,5 +1,4 @@
 -- `expr_fusion::add_with_carry` meets its contract. Assumes nothing.
-use borrow.Author.Rules.{rules}
 use mathlib.Core.Path.{sym, ap, ◌∙◌}
 use Rattle.expr_fusion.specs.Fusion.{fusion_of, operands_are}
 use Rattle.expr_fusion.proofs.add_with_carry.Goals as goal

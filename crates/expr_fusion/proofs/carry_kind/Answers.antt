@@ -1,5 +1,4 @@
 -- `expr_fusion::carry_kind` meets its contract. Assumes nothing.
-use borrow.Author.Rules.{rules}
 use mathlib.Core.Path.{◌∙◌}
 use native.Mathlib.Omega.{arith}
 use Rattle.expr_fusion.specs.Fusion.{constant_asked, concat_asked, carry_constant, carry_large, carry_concat, carry_other}

@@ -1,5 +1,4 @@
 -- `expr_fusion::carry_lsb` meets its contract. Assumes nothing.
-use borrow.Author.Rules.{rules}
 use mathlib.Core.Path.{sym, ◌∙◌}
 use Rattle.expr_fusion.specs.Fusion.{carry_bit_law, carry_kind_law}
 use Rattle.expr_fusion.proofs.carry_lsb.Goals as goal

@@ -1,8 +1,8 @@
 -- `expr_fusion::carry_part` meets its contract. Assumes nothing.
 use mathlib.Core.Path.{sym, ◌∙◌}
 use native.Mathlib.Omega.{arith}
-use Prim.Native.Nat.{◌≤◌, ◌-◌}
-use Rattle.expr_fusion.specs.Fusion.{CarryFrom, carry_none, carry_begins, carry_passes, carry_stops, carry_last, carry_wide, not_true, not_false}
+use Prim.Native.Nat.{◌-◌}
+use Rattle.expr_fusion.specs.Fusion.{carry_none, carry_begins, carry_passes, carry_stops, carry_last, carry_wide}
 use Rattle.expr_fusion.proofs.carry_part.Goals as goal
 
 pub returns-then-count-eq0 : goal.returns-then-count-eq0

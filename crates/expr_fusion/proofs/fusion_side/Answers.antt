@@ -1,5 +1,4 @@
 -- `expr_fusion::fusion_side` meets its contract. Assumes nothing.
-use borrow.Author.Rules.{rules}
 use mathlib.Core.Path.{sym, ap, ◌∙◌}
 use Rattle.expr_fusion.specs.Fusion.{sum_of, carry_of}
 use Rattle.expr_fusion.proofs.fusion_side.Goals as goal

@@ -1,5 +1,4 @@
 -- `expr_fusion::fusion_test` meets its contract. Assumes nothing.
-use borrow.Author.Rules.{rules}
 use mathlib.Core.Path.{sym, ap, ◌∙◌}
 use Rattle.expr_fusion.specs.Fusion.{fusion_of}
 use Rattle.expr_fusion.proofs.fusion_test.Goals as goal

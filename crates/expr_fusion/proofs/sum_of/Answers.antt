@@ -1,5 +1,4 @@
 -- `expr_fusion::sum_of` meets its contract. Assumes nothing.
-use borrow.Author.Rules.{rules}
 use mathlib.Core.Path.{sym, ◌∙◌}
 use Rattle.expr_fusion.proofs.sum_of.Goals as goal
 

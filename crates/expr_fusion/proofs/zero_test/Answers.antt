@@ -1,5 +1,4 @@
 -- `expr_fusion::zero_test` meets its contract. Assumes nothing.
-use borrow.Author.Rules.{rules}
 use Rattle.expr_fusion.specs.Fusion.{zero_constant, other_constant, zero_parts, zero_other, constant_asked}
 use Rattle.expr_fusion.proofs.zero_test.Goals as goal
 

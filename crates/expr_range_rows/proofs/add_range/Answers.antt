@@ -1,5 +1,5 @@
 -- `expr_range_rows::add_range` meets its contract. Assumes nothing.
-use Rattle.std.proofs.Common.{sym, ap, ◌∙◌, arith, rules}
+use Rattle.std.proofs.Common.{sym, ap, ◌∙◌, arith}
 use Rattle.spec_model.specs.Ranges as model
 use Rattle.expr_range_rows.specs.Rows.{shown, add_constants, add_sums, add_full, sum_fits}
 use Rattle.expr_range_rows.proofs.add_range.Goals as goal

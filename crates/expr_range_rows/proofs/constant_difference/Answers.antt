@@ -1,5 +1,5 @@
 -- `expr_range_rows::constant_difference` meets its contract. Assumes nothing.
-use Rattle.std.proofs.Common.{ap, ◌∙◌, arith, rules}
+use Rattle.std.proofs.Common.{ap, ◌∙◌, arith}
 use lib.Bits.{bit_and, and_mask}
 use Rattle.expr_range_rows.specs.Rows.{difference_law}
 use Rattle.expr_range_rows.proofs.constant_difference.Goals as goal

@@ -1,5 +1,5 @@
 -- `expr_range_rows::constant_sum` meets its contract. Assumes nothing.
-use Rattle.std.proofs.Common.{◌∙◌, ap₂, rules}
+use Rattle.std.proofs.Common.{◌∙◌, ap₂}
 use lib.Bits.{bit_and, and_mask}
 use Rattle.expr_range_rows.proofs.constant_sum.Goals as goal
 

@@ -1,5 +1,4 @@
 -- `expr_range_rows::full` meets its contract. Assumes nothing.
-use Rattle.std.proofs.Common.{rules}
 use Rattle.expr_range_rows.proofs.full.Goals as goal
 
 pub returns : goal.returns

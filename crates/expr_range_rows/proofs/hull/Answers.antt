@@ -1,5 +1,4 @@
 -- `expr_range_rows::hull` meets its contract. Assumes nothing.
-use Rattle.std.proofs.Common.{rules}
 use Rattle.expr_range_rows.proofs.hull.Goals as goal
 
 pub returns : goal.returns

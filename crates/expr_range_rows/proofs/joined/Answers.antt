@@ -1,5 +1,4 @@
 -- `expr_range_rows::joined` meets its contract. Assumes nothing.
-use Rattle.std.proofs.Common.{rules}
 use Rattle.expr_range_rows.specs.Rows.{join_wide}
 use Rattle.expr_range_rows.proofs.joined.Goals as goal
 

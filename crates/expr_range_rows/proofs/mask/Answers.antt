@@ -1,5 +1,4 @@
 -- `expr_range_rows::mask` meets its contract. Assumes nothing.
-use Rattle.std.proofs.Common.{rules}
 use Rattle.expr_range_rows.specs.Rows.{mask_law}
 use Rattle.expr_range_rows.proofs.mask.Goals as goal
 

@@ -1,5 +1,5 @@
 -- `expr_range_rows::mux_range` meets its contract. Assumes nothing.
-use Rattle.std.proofs.Common.{sym, ◌∙◌, rules}
+use Rattle.std.proofs.Common.{sym, ◌∙◌}
 use Rattle.expr_range_rows.specs.Rows.{shown, mux_else, mux_then, mux_hull}
 use Rattle.expr_range_rows.proofs.mux_range.Goals as goal
 

@@ -1,5 +1,5 @@
 -- `expr_range_rows::narrowed` meets its contract. Assumes nothing.
-use Rattle.std.proofs.Common.{arith, rules}
+use Rattle.std.proofs.Common.{arith}
 use Rattle.expr_range_rows.specs.Rows.{shown, narrow_yes, narrow_no}
 use Rattle.expr_range_rows.proofs.narrowed.Goals as goal
 

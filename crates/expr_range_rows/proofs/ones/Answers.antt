@@ -1,5 +1,4 @@
 -- `expr_range_rows::ones` meets its contract. Assumes nothing.
-use Rattle.std.proofs.Common.{rules}
 use Rattle.expr_range_rows.specs.Rows.{ones_zero, bit_len_some}
 use Rattle.expr_range_rows.proofs.ones.Goals as goal
 

@@ -1,5 +1,4 @@
 -- `expr_range_rows::or_range` meets its contract. Assumes nothing.
-use Rattle.std.proofs.Common.{rules}
 use Rattle.expr_range_rows.proofs.or_range.Goals as goal
 
 pub returns : goal.returns

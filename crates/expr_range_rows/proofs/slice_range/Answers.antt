@@ -1,5 +1,5 @@
 -- `expr_range_rows::slice_range` meets its contract. Assumes nothing.
-use Rattle.std.proofs.Common.{◌/◌, ◌^◌, sym, ap, ◌∙◌, rules}
+use Rattle.std.proofs.Common.{◌/◌, ◌^◌, sym, ap, ◌∙◌}
 use Rattle.spec_model.specs.Ranges as model
 use lib.Bits.{bit_and, and_mask}
 use Rattle.expr_range_rows.specs.Rows.{shown, slice_point, slice_part}

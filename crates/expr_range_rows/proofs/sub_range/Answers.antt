@@ -1,5 +1,5 @@
 -- `expr_range_rows::sub_range` meets its contract. Assumes nothing.
-use Rattle.std.proofs.Common.{sym, ap, ◌∙◌, arith, rules}
+use Rattle.std.proofs.Common.{sym, ap, ◌∙◌, arith}
 use Rattle.spec_model.specs.Ranges as model
 use Rattle.expr_range_rows.specs.Rows.{shown, sub_constants, sub_within, sub_full}
 use Rattle.expr_range_rows.proofs.sub_range.Goals as goal

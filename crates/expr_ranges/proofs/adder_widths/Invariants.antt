@@ -1,11 +1,8 @@
 -- `expr_ranges::adder_widths` meets its contract. Assumes nothing.
-use mathlib.Core.Path.{◌≡◌, refl, ◌∙◌}
-use native.Mathlib.Omega.{arith}
+use mathlib.Core.Path.{◌≡◌}
 use Prim.Native.Nat.{◌≤◌, ◌-◌}
-use Rattle.spec_rules.specs.Image.{count_at_of}
 use Rattle.expr_laws.specs.Exprs.{exprs_of}
-use Rattle.expr_ranges.specs.Steps.{rows_filled, filled_more}
-use Rattle.expr_ranges.specs.Table.{filled, length_filled}
+use Rattle.expr_ranges.specs.Table.{filled}
 use Rattle.expr_ranges.proofs.adder_widths.Given as goal
 
 abbrev pub invariant-loop-e : goal.invariant-loop-e

@@ -1,5 +1,4 @@
 -- `expr_ranges::binary_range` meets its contract. Assumes nothing.
-use borrow.Author.Rules.{rules}
 use mathlib.Core.Path.{sym, ◌∙◌}
 use Rattle.expr_ranges.specs.Steps.{by_class, and_class}
 use Rattle.expr_range_rows.specs.Rows.{shown}

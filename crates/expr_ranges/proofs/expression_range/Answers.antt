@@ -1,5 +1,4 @@
 -- `expr_ranges::expression_range` meets its contract. Assumes nothing.
-use borrow.Author.Rules.{rules}
 use mathlib.Core.Path.{ap, ◌∙◌}
 use Rattle.spec_model.specs.Ranges as model
 use Rattle.expr_ranges.specs.Steps.{width_asked, constant_asked, constant_range, binary_asked, binary_range_law, mux_asked, mux_range_law, slice_asked, slice_range, concat_asked, concat_range, signal_range, unary_range}

@@ -1,5 +1,4 @@
 -- `expr_ranges::fill_row` meets its contract. Assumes nothing.
-use borrow.Author.Rules.{rules}
 use mathlib.Core.Path.{ap, ◌∙◌}
 use native.Mathlib.Omega.{arith}
 use Rattle.spec_model.specs.Ranges as model

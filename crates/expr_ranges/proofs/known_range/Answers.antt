@@ -1,5 +1,4 @@
 -- `expr_ranges::known_range` meets its contract. Assumes nothing.
-use borrow.Author.Rules.{rules}
 use native.Mathlib.Omega.{arith}
 use Rattle.expr_ranges.specs.Steps.{known_wide, known_of}
 use Rattle.expr_range_rows.specs.Rows.{shown}

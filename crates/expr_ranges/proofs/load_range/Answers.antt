@@ -1,5 +1,4 @@
 -- `expr_ranges::load_range` meets its contract. Assumes nothing.
-use borrow.Author.Rules.{rules}
 use Rattle.expr_ranges.specs.Table.{range_in}
 use Rattle.expr_ranges.proofs.load_range.Goals as goal
 

@@ -1,9 +1,8 @@
 -- `expr_ranges::range_of_concat` meets its contract. Assumes nothing.
 use mathlib.Core.Path.{sym, ap, ◌∙◌}
 use native.Mathlib.Omega.{arith}
-use Prim.Native.Nat.{◌≤◌, ◌-◌}
-use borrow.Author.Rules.{rules}
-use Rattle.expr_ranges.specs.Steps.{Joining, join_begins, join_stops, join_asked, join_passes, join_ends}
+use Prim.Native.Nat.{◌-◌}
+use Rattle.expr_ranges.specs.Steps.{join_begins, join_stops, join_asked, join_passes, join_ends}
 use Rattle.expr_range_rows.specs.Rows.{shown, known}
 use Rattle.expr_ranges.proofs.range_of_concat.Goals as goal
 

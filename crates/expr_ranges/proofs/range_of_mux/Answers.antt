@@ -1,5 +1,4 @@
 -- `expr_ranges::range_of_mux` meets its contract. Assumes nothing.
-use borrow.Author.Rules.{rules}
 use mathlib.Core.Path.{sym, ap, ◌∙◌}
 use Rattle.spec_model.specs.Ranges as model
 use mathlib.Core.Option.{Option}

@@ -1,5 +1,4 @@
 -- `expr_ranges::store_row` meets its contract. Assumes nothing.
-use borrow.Author.Rules.{rules}
 use native.Mathlib.Omega.{arith}
 use lib.ListN.{length-set}
 use Rattle.expr_ranges.specs.Table.{put_row}

@@ -1,5 +1,4 @@
 -- `image_fields::count` meets its contract. Assumes nothing.
-use borrow.Author.Rules.{rules}
 use Rattle.spec_rules.specs.Image.{count_at_of}
 use Rattle.image_fields.proofs.count.Goals as goal
 

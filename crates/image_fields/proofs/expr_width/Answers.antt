@@ -1,5 +1,4 @@
 -- `image_fields::expr_width` meets its contract. Assumes nothing.
-use borrow.Author.Rules.{rules}
 use Rattle.spec_rules.specs.Image.{expr_width}
 use Rattle.image_fields.proofs.expr_width.Goals as goal
 

@@ -1,5 +1,4 @@
 -- `image_fields::field` meets its contract. Assumes nothing.
-use borrow.Author.Rules.{rules}
 use native.Mathlib.Omega.{arith}
 use Rattle.image_fields.specs.Fields.{field_in, scaled}
 use Rattle.image_fields.proofs.field.Goals as goal

@@ -1,5 +1,4 @@
 -- `image_fields::first_word` meets its contract. Assumes nothing.
-use borrow.Author.Rules.{rules}
 use Rattle.spec_rules.specs.Image.{word_at}
 use Rattle.image_fields.proofs.first_word.Goals as goal
 

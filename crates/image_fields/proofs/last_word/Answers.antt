@@ -1,5 +1,4 @@
 -- `image_fields::last_word` meets its contract. Assumes nothing.
-use borrow.Author.Rules.{rules}
 use Rattle.spec_rules.specs.Image.{word_at}
 use Rattle.image_fields.proofs.last_word.Goals as goal
 

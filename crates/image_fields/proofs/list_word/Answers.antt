@@ -1,5 +1,4 @@
 -- `image_fields::list_word` meets its contract. Assumes nothing.
-use borrow.Author.Rules.{rules}
 use Rattle.spec_rules.specs.Image.{list_word}
 use Rattle.image_fields.proofs.list_word.Goals as goal
 

@@ -1,5 +1,4 @@
 -- `image_fields::name` meets its contract. Assumes nothing.
-use borrow.Author.Rules.{rules}
 use Rattle.spec_rules.specs.Image.{name_of}
 use Rattle.image_fields.proofs.name.Goals as goal
 

@@ -1,5 +1,4 @@
 -- `image_fields::offset` meets its contract. Assumes nothing.
-use borrow.Author.Rules.{rules}
 use Rattle.spec_rules.specs.Image.{offset_at}
 use Rattle.image_fields.proofs.offset.Goals as goal
 

@@ -1,5 +1,4 @@
 -- `image_fields::record_field` meets its contract. Assumes nothing.
-use borrow.Author.Rules.{rules}
 use Rattle.spec_rules.specs.Image.{field}
 use Rattle.image_fields.specs.Fields.{field_in}
 use Rattle.image_fields.proofs.record_field.Goals as goal

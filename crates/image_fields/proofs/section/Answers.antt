@@ -1,5 +1,4 @@
 -- `image_fields::section` meets its contract. Assumes nothing.
-use borrow.Author.Rules.{rules}
 use Rattle.spec_rules.specs.Image.{part}
 use Rattle.image_fields.proofs.section.Goals as goal
 

@@ -1,5 +1,4 @@
 -- `image_fields::signal_width` meets its contract. Assumes nothing.
-use borrow.Author.Rules.{rules}
 use Rattle.spec_rules.specs.Image.{signal_width}
 use Rattle.image_fields.proofs.signal_width.Goals as goal
 

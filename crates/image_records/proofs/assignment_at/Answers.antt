@@ -1,5 +1,4 @@
 -- `image_records::assignment_at` meets its contract. Assumes nothing.
-use borrow.Author.Rules.{rules}
 use Rattle.spec_rules.specs.Image.{field, assign_at}
 use Rattle.image_fields.specs.Fields.{field_in}
 use Rattle.image_records.specs.Others.{assignment_means}

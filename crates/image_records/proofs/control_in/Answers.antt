@@ -1,5 +1,4 @@
 -- `image_records::control_in` meets its contract. Assumes nothing.
-use borrow.Author.Rules.{rules}
 use Rattle.spec_tests.specs.Rules.{◌≡?◌}
 use Rattle.spec_rules.specs.Image.{control_of}
 use Rattle.image_records.specs.Others.{control_means, control_in}

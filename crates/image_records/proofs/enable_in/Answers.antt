@@ -1,5 +1,4 @@
 -- `image_records::enable_in` meets its contract. Assumes nothing.
-use borrow.Author.Rules.{rules}
 use mathlib.Core.Path.{refl, ap, ◌∙◌}
 use native.Mathlib.Omega.{arith}
 use Rattle.spec_tests.specs.Laws.{pick_hit, pick_skip, eq_yes, eq_no}

@@ -1,5 +1,4 @@
 -- `image_records::expression_at` meets its contract. Assumes nothing.
-use borrow.Author.Rules.{rules}
 use Rattle.image_records.specs.Expr.{expression_of, decoded}
 use Rattle.image_records.proofs.expression_at.Goals as goal
 

@@ -1,5 +1,4 @@
 -- `image_records::first_expression` meets its contract. Assumes nothing.
-use borrow.Author.Rules.{rules}
 use Rattle.spec_rules.specs.Image as image
 use Rattle.image_fields.specs.Fields.{field_in}
 use Rattle.image_records.specs.Expr.{expression_in}

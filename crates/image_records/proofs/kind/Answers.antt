@@ -1,5 +1,4 @@
 -- `image_records::kind` meets its contract. Assumes nothing.
-use borrow.Author.Rules.{rules}
 use borrow.Author.Tests.{ne_eqb}
 use Rattle.spec_tests.specs.Rules.{pick, ◌≡?◌}
 use Rattle.image_records.specs.Expr.{kind_of}

@@ -1,5 +1,4 @@
 -- `image_records::last_expression` meets its contract. Assumes nothing.
-use borrow.Author.Rules.{rules}
 use Rattle.image_records.specs.Expr.{expression_in}
 use Rattle.image_records.proofs.last_expression.Goals as goal
 

@@ -1,5 +1,4 @@
 -- `image_records::memory_at` meets its contract. Assumes nothing.
-use borrow.Author.Rules.{rules}
 use Rattle.image_records.specs.Others.{memory_way}
 use Rattle.image_records.proofs.memory_at.Goals as goal
 

@@ -1,5 +1,4 @@
 -- `image_records::port_in` meets its contract. Assumes nothing.
-use borrow.Author.Rules.{rules}
 use Rattle.image_records.specs.Others.{port_way}
 use Rattle.image_records.proofs.port_in.Goals as goal
 

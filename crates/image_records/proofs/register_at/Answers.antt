@@ -1,5 +1,4 @@
 -- `image_records::register_at` meets its contract. Assumes nothing.
-use borrow.Author.Rules.{rules}
 use Rattle.image_records.specs.Others.{register_way}
 use Rattle.image_records.proofs.register_at.Goals as goal
 

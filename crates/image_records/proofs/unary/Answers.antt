@@ -1,5 +1,4 @@
 -- `image_records::unary` meets its contract. Assumes nothing.
-use borrow.Author.Rules.{rules}
 use mathlib.Core.Path.{refl, sym}
 use lib.ListN.{get_or-eq_default}
 use Rattle.image_records.specs.Expr.{unary_of, unaries}

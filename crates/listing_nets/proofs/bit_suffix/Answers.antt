@@ -1,5 +1,4 @@
 -- `listing_nets::bit_suffix` meets its contract. Assumes nothing.
-use borrow.Author.Rules.{rules}
 use Rattle.listing_nets.specs.Pieces.{suffix_none, suffix_number}
 use Rattle.listing_text.specs.Text.{wrote_none, wrote_more, wrote_same}
 use Rattle.listing_nets.proofs.bit_suffix.Goals as goal

@@ -1,5 +1,4 @@
 -- `listing_nets::inputs` meets its contract. Assumes nothing.
-use borrow.Author.Rules.{rules}
 use Rattle.listing_nets.specs.Pieces.{input_none, input_more, input_last}
 use Rattle.listing_text.specs.Text.{wrote_none, wrote_more, wrote_same}
 use Rattle.listing_nets.proofs.inputs.Goals as goal

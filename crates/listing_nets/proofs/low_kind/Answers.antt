@@ -3,7 +3,6 @@ use mathlib.Core.Path.{◌≡◌, ap}
 use mathlib.Core.List.{◌∷◌}
 use Prim.Native.Nat.{ℕ}
 use native.Mathlib.Omega.{arith}
-use borrow.Author.Rules.{rules}
 use Rattle.listing_text.specs.Text.{wrote_same}
 use Rattle.spec_rules.specs.Listing.{kind_word}
 use Rattle.listing_nets.proofs.low_kind.Goals as goal

@@ -1,5 +1,4 @@
 -- `listing_nets::memory_name` meets its contract. Assumes nothing.
-use borrow.Author.Rules.{rules}
 use Rattle.listing_nets.specs.Pieces.{memory_wrote, second_wrote}
 use Rattle.listing_nets.proofs.memory_name.Goals as goal
 

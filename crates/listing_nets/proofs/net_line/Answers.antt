@@ -1,5 +1,4 @@
 -- `listing_nets::net_line` meets its contract. Assumes nothing.
-use borrow.Author.Rules.{rules}
 use Rattle.listing_nets.specs.Pieces.{net_line_wrote}
 use Rattle.listing_text.specs.Text.{wrote_more}
 use Rattle.listing_nets.proofs.net_line.Goals as goal

@@ -1,6 +1,5 @@
 -- `listing_nets::owned` meets its contract. Assumes nothing.
 use mathlib.Core.Path.{sym, ◌∙◌}
-use borrow.Author.Rules.{rules}
 use Rattle.listing_nets.specs.Pieces.{owned_port, owned_constant, owned_register, owned_memory, owned_cell, owned_none}
 use Rattle.listing_text.specs.Text.{wrote_none, wrote_more, wrote_same}
 use Rattle.listing_nets.proofs.owned.Goals as goal

@@ -1,5 +1,4 @@
 -- `listing_nets::register_name` meets its contract. Assumes nothing.
-use borrow.Author.Rules.{rules}
 use Rattle.listing_nets.specs.Pieces.{register_wrote}
 use Rattle.listing_nets.proofs.register_name.Goals as goal
 

@@ -2,7 +2,6 @@
 use mathlib.Core.Path.{ap}
 use mathlib.Core.List.{List, ◌∷◌}
 use Prim.Native.Nat.{ℕ}
-use borrow.Author.Rules.{rules}
 use Rattle.listing_nets.specs.Pieces.{second_name_law}
 use Rattle.listing_text.specs.Text.{wrote_more, wrote_same}
 use Rattle.listing_nets.proofs.second_name.Goals as goal

@@ -1,5 +1,4 @@
 -- `listing_nets::signal_name` meets its contract. Assumes nothing.
-use borrow.Author.Rules.{rules}
 use Rattle.listing_nets.specs.Pieces.{signal_wrote}
 use Rattle.listing_nets.proofs.signal_name.Goals as goal
 

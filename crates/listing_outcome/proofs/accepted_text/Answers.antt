@@ -1,5 +1,4 @@
 -- `listing_outcome::accepted_text` meets its contract. Assumes nothing.
-use borrow.Author.Rules.{rules}
 use mathlib.Core.Path.{refl}
 use native.Mathlib.Omega.{arith}
 use Rattle.listing_outcome.specs.Written.{written}

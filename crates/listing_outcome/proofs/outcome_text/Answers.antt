@@ -1,5 +1,4 @@
 -- `listing_outcome::outcome_text` meets its contract. Assumes nothing.
-use borrow.Author.Rules.{rules}
 use Rattle.lower_outcome.specs.Answer.{answer_of}
 use Rattle.listing_outcome.proofs.outcome_text.Goals as goal
 

@@ -1,9 +1,7 @@
 -- `listing_records::lines_of` meets its contract. Assumes nothing.
 use Prim.Native.Nat.{◌-◌}
-use native.Mathlib.Omega.{arith}
-use borrow.Author.Rules.{rules}
 use lib.ListN.{length}
-use Rattle.listing_records.specs.Split.{Lines, lines_start, lines_more, lines_end}
+use Rattle.listing_records.specs.Split.{Lines}
 use Rattle.listing_records.proofs.lines_of.Given as goal
 
 abbrev pub invariant-loop-i : goal.invariant-loop-i

@@ -1,5 +1,4 @@
 -- `listing_records::port_line` meets its contract. Assumes nothing.
-use borrow.Author.Rules.{rules}
 use Rattle.listing_records.specs.Pieces.{port_wrote}
 use Rattle.listing_text.specs.Text.{wrote_more}
 use Rattle.listing_records.proofs.port_line.Goals as goal

@@ -1,8 +1,7 @@
 -- `listing_records::put_numbers` meets its contract. Assumes nothing.
 use Prim.Native.Nat.{◌-◌}
-use native.Mathlib.Omega.{arith}
 use lib.ListN.{length}
-use Rattle.listing_records.specs.Pieces.{Numbers, numbers_start, numbers_more, numbers_end}
+use Rattle.listing_records.specs.Pieces.{Numbers}
 use Rattle.listing_records.proofs.put_numbers.Given as goal
 
 abbrev pub invariant-loop-i : goal.invariant-loop-i

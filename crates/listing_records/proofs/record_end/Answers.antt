@@ -1,5 +1,4 @@
 -- `listing_records::record_end` meets its contract. Assumes nothing.
-use borrow.Author.Rules.{rules}
 use Rattle.listing_records.specs.Split.{ends_inside, ends_last}
 use Rattle.listing_records.proofs.record_end.Goals as goal
 

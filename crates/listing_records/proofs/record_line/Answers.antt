@@ -1,6 +1,5 @@
 -- `listing_records::record_line` meets its contract. Assumes nothing.
 use mathlib.Core.Path.{sym, ◌∙◌}
-use borrow.Author.Rules.{rules}
 use Rattle.listing_records.specs.Pieces.{record_port, record_cell}
 use Rattle.listing_text.specs.Text.{wrote_same}
 use Rattle.listing_records.proofs.record_line.Goals as goal

@@ -1,5 +1,4 @@
 -- `listing_records::record_lines` meets its contract. Assumes nothing.
-use borrow.Author.Rules.{rules}
 use Rattle.listing_records.specs.Split.{records_wrote}
 use Rattle.listing_records.proofs.record_lines.Goals as goal
 

@@ -1,7 +1,6 @@
 -- `listing_records::record_word` meets its contract. Assumes nothing.
 use mathlib.Core.Path.{ap}
 use native.Mathlib.Omega.{arith}
-use borrow.Author.Rules.{rules}
 use Rattle.listing_records.specs.Pieces.{record_word, no_word}
 use Rattle.listing_text.specs.Text.{wrote_none, wrote_same}
 use Rattle.listing_records.proofs.record_word.Goals as goal

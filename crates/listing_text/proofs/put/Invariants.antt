@@ -1,9 +1,7 @@
 -- `listing_text::put` meets its contract. Assumes nothing.
 use Prim.Native.Nat.{◌≤◌, ◌-◌}
-use native.Mathlib.Omega.{arith}
 use lib.ListN.{length, take}
-use Rattle.listing_text.specs.Text.{Wrote, wrote_none}
-use Rattle.listing_text.specs.Text.{wrote_step, wrote_all}
+use Rattle.listing_text.specs.Text.{Wrote}
 use Rattle.listing_text.proofs.put.Given as goal
 
 abbrev pub invariant-loop-i : goal.invariant-loop-i

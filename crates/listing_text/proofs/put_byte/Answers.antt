@@ -1,5 +1,4 @@
 -- `listing_text::put_byte` meets its contract. Assumes nothing.
-use borrow.Author.Rules.{rules}
 use Rattle.listing_text.specs.Text.{wrote_byte, wrote_full}
 use Rattle.listing_text.proofs.put_byte.Goals as goal
 

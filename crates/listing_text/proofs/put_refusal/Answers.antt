@@ -1,5 +1,4 @@
 -- `listing_text::put_refusal` meets its contract. Assumes nothing.
-use borrow.Author.Rules.{rules}
 use Rattle.listing_text.specs.Text.{wrote_more}
 use Rattle.listing_text.proofs.put_refusal.Goals as goal
 

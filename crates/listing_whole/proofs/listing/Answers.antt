@@ -1,5 +1,4 @@
 -- `listing_whole::listing` meets its contract. Assumes nothing.
-use borrow.Author.Rules.{rules}
 use Rattle.listing_whole.specs.Whole.{listing_wrote}
 use Rattle.listing_whole.proofs.listing.Goals as goal
 

@@ -1,5 +1,4 @@
 -- `listing_whole::refused` meets its contract. Assumes nothing.
-use borrow.Author.Rules.{rules}
 use Rattle.listing_whole.specs.Whole.{refusal}
 use Rattle.listing_text.specs.Text.{wrote_same}
 use Rattle.listing_whole.proofs.refused.Goals as goal

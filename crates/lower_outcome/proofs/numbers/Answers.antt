@@ -1,5 +1,4 @@
 -- `lower_outcome::numbers` meets its contract. Assumes nothing.
-use borrow.Author.Rules.{rules}
 use Rattle.spec_call.specs.Call.{numbers_of}
 use Rattle.lower_outcome.specs.Answer.{answer_of}
 use Rattle.lower_outcome.proofs.numbers.Goals as goal

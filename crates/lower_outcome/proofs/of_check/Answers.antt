@@ -1,5 +1,4 @@
 -- `lower_outcome::of_check` meets its contract. Assumes nothing.
-use borrow.Author.Rules.{rules}
 use Rattle.lower_outcome.specs.Answer.{answer_of}
 use Rattle.check_image.specs.Checked as checked
 use Rattle.lower_outcome.proofs.of_check.Goals as goal

@@ -1,5 +1,4 @@
 -- `lower_outcome::of_walk` meets its contract. Assumes nothing.
-use borrow.Author.Rules.{rules}
 use Rattle.lower_outcome.specs.Answer.{answer_of, end_of}
 use Rattle.lower_outcome.proofs.of_walk.Goals as goal
 

@@ -1,9 +1,7 @@
 -- `net_cell_index::begins_with` meets its contract. Assumes nothing.
-use mathlib.Core.Path.{sym}
 use Prim.Native.Nat.{◌-◌, ◌≤◌}
-use native.Mathlib.Omega.{arith}
 use lib.ListN.{length}
-use Rattle.net_cell_index.proofs.Laws.{Left, left_start, left_past, left_miss, left_turn, left_end}
+use Rattle.net_cell_index.proofs.Laws.{Left}
 use Rattle.net_cell_index.proofs.begins_with.Given as goal
 
 abbrev pub invariant-loop-i : goal.invariant-loop-i

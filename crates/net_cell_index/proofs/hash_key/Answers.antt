@@ -1,10 +1,8 @@
 -- `net_cell_index::hash_key` meets its contract. Assumes nothing.
-use mathlib.Core.Path.{◌≡◌, refl, ap, ◌∙◌}
-use Prim.Native.Nat.{ℕ, ◌-◌, ◌≤◌}
+use mathlib.Core.Path.{refl, ap, ◌∙◌}
+use Prim.Native.Nat.{ℕ, ◌-◌}
 use native.Mathlib.Omega.{arith}
-use borrow.Author.Rules.{rules}
-use lib.ListN.{length, drop}
-use Rattle.net_index.specs.Index.{hash_words, bucket_of, hash_key}
+use Rattle.net_index.specs.Index.{bucket_of, hash_key}
 use Rattle.net_cell_index.proofs.Laws.{hash_turn, hash_end}
 use Rattle.net_cell_index.proofs.hash_key.Goals as goal
 

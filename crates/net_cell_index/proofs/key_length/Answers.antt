@@ -1,5 +1,4 @@
 -- `net_cell_index::key_length` meets its contract. Assumes nothing.
-use borrow.Author.Rules.{rules}
 use native.Mathlib.Omega.{arith}
 use Prim.Native.Nat.{◌+◌}
 use Rattle.net_cell_index.proofs.Laws.{key_arithmetic, key_comparison}

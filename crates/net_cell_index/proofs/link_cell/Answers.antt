@@ -1,5 +1,4 @@
 -- `net_cell_index::link_cell` meets its contract. Assumes nothing.
-use borrow.Author.Rules.{rules}
 use native.Mathlib.Omega.{arith}
 use lib.ListN.{length-set}
 use Rattle.net_cell_index.proofs.Laws.{links}

@@ -1,5 +1,4 @@
 -- `net_cells::comparison_in` meets its contract. Assumes nothing.
-use borrow.Author.Rules.{rules}
 use mathlib.Core.Path.{sym, subst}
 use native.Mathlib.Omega.{arith}
 use Rattle.spec_model.specs.Builder.{add_comparison}

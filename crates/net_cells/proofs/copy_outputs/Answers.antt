@@ -1,5 +1,4 @@
 -- `net_cells::copy_outputs` meets its contract. Assumes nothing.
-use borrow.Author.Rules.{rules}
 use mathlib.Core.Path.{◌∙◌}
 use Rattle.net_cells.proofs.ArithmeticWays.{copied}
 use Rattle.net_cells.proofs.copy_outputs.Goals as goal

@@ -1,5 +1,4 @@
 -- `net_gate_index::add_cached` meets its contract. Assumes nothing.
-use borrow.Author.Rules.{rules}
 use mathlib.Core.Path.{ap, ◌∙◌}
 use Rattle.spec_model.specs.Words.{absent, node}
 use Rattle.net_index.specs.Laws.{linked}

@@ -3,7 +3,7 @@ use mathlib.Core.Path.{sym, ◌∙◌}
 use native.Mathlib.Omega.{arith}
 use lib.ListN.{get_or}
 use Rattle.spec_model.specs.Words.{absent, node}
-use Rattle.net_index.specs.Laws.{At, at_start, at_turn, at_less, at_found, at_end_law}
+use Rattle.net_index.specs.Laws.{at_start, at_turn, at_less, at_found, at_end_law}
 use Rattle.net_gate_index.proofs.Ways.{gate_is}
 use Rattle.net_gate_index.proofs.find_gate.Goals as goal
 

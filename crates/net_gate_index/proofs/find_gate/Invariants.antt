@@ -1,10 +1,7 @@
 -- `net_gate_index::find_gate` meets its contract. Assumes nothing.
-use mathlib.Core.Path.{sym, ◌∙◌}
-use native.Mathlib.Omega.{arith}
 use lib.ListN.{get_or}
 use Rattle.spec_model.specs.Words.{absent, node}
-use Rattle.net_index.specs.Laws.{At, at_start, at_turn, at_less, at_found, at_end_law}
-use Rattle.net_gate_index.proofs.Ways.{gate_is}
+use Rattle.net_index.specs.Laws.{At}
 use Rattle.net_gate_index.proofs.find_gate.Given as goal
 
 abbrev pub invariant-loop-p : goal.invariant-loop-p

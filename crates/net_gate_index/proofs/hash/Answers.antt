@@ -1,5 +1,4 @@
 -- `net_gate_index::hash` meets its contract. Assumes nothing.
-use borrow.Author.Rules.{rules}
 use mathlib.Core.Path.{ap, ◌∙◌}
 use Rattle.net_index.specs.Index.{bucket_of, hash_node, hash_words}
 use Prim.Native.Nat.{ℕ}

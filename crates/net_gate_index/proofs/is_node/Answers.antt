@@ -1,5 +1,4 @@
 -- `net_gate_index::is_node` meets its contract. Assumes nothing.
-use borrow.Author.Rules.{rules}
 use borrow.Author.Tests.{eq-eqb, ne_eqb}
 use Rattle.spec_model.specs.Builder.{same}
 use Rattle.net_view.specs.View.{node_at_of}

@@ -1,5 +1,4 @@
 -- `net_gate_index::mix` meets its contract. Assumes nothing.
-use borrow.Author.Rules.{rules}
 use Rattle.net_index.specs.Index.{mixed}
 use mathlib.Core.Path.{refl}
 use Rattle.net_gate_index.proofs.mix.Goals as goal

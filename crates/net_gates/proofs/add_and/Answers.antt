@@ -1,5 +1,4 @@
 -- `net_gates::add_and` meets its contract. Assumes nothing.
-use borrow.Author.Rules.{rules}
 use Rattle.net_gates.specs.Pairs.{and_is}
 use Rattle.net_gates.proofs.Ways.{gives_by}
 use Rattle.net_gates.proofs.add_and.Goals as goal

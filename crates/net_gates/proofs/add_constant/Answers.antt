@@ -1,5 +1,4 @@
 -- `net_gates::add_constant` meets its contract. Assumes nothing.
-use borrow.Author.Rules.{rules}
 use Rattle.spec_model.specs.Builder.{add_constant}
 use Rattle.net_gates.proofs.add_constant.Goals as goal
 

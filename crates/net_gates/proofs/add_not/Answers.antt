@@ -1,5 +1,4 @@
 -- `net_gates::add_not` meets its contract. Assumes nothing.
-use borrow.Author.Rules.{rules}
 use mathlib.Core.Path.{◌∙◌, sym, ap}
 use Rattle.net_view.specs.View.{netlist_of}
 use Rattle.net_gates.proofs.Ways.{gives_by, gives_net, not_value, not_not, not_gate}

@@ -1,5 +1,4 @@
 -- `net_gates::add_pair` meets its contract. Assumes nothing.
-use borrow.Author.Rules.{rules}
 use mathlib.Core.Path.{◌≡◌}
 use Prim.Native.Nat.{min, max}
 use native.Mathlib.Omega.{arith}

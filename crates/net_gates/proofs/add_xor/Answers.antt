@@ -1,5 +1,4 @@
 -- `net_gates::add_xor` meets its contract. Assumes nothing.
-use borrow.Author.Rules.{rules}
 use mathlib.Core.Path.{◌∙◌}
 use Rattle.net_view.specs.View.{netlist_of}
 use Rattle.net_gates.proofs.Ways.{gives_by, gives_net, xor_same, xor_zero, xor_zero₂, xor_one, xor_one₂, xor_gate}

@@ -1,5 +1,4 @@
 -- `net_gates::and_or` meets its contract. Assumes nothing.
-use borrow.Author.Rules.{rules}
 use mathlib.Core.Path.{◌∙◌}
 use Rattle.net_view.specs.View.{netlist_of}
 use Rattle.net_gates.proofs.Ways.{gives_by, gives_net, pair_same, pair_decided, pair_decided₂, pair_left, pair_left₂, pair_gate}

@@ -1,5 +1,4 @@
 -- `net_gates::is_constant` meets its contract. Assumes nothing.
-use borrow.Author.Rules.{rules}
 use mathlib.Core.Path.{ap, ◌∙◌}
 use Rattle.spec_model.specs.Builder.{is_value}
 use Rattle.net_nodes.specs.Gives.{value_of}

@@ -1,9 +1,7 @@
 -- `net_gates::plain_mux` meets its contract: each turn leaves the mux's node as it is, and none is left after the first. Assumes nothing.
-use borrow.Author.Rules.{rules}
-use mathlib.Core.Path.{◌≡◌, refl, sym, ◌∙◌}
-use Prim.Native.Nat.{ℕ}
+use mathlib.Core.Path.{refl, sym, ◌∙◌}
 use Rattle.net_view.specs.View.{netlist_of}
-use Rattle.net_gates.specs.Turns.{mux_node, turns_left, no_turn, same_node_law, last_turn}
+use Rattle.net_gates.specs.Turns.{no_turn, same_node_law, last_turn}
 use Rattle.net_gates.proofs.plain_mux.Goals as goal
 
 pub loop-m-init : goal.loop-m-init

@@ -1,5 +1,4 @@
 -- `net_nodes::add_node` meets its contract. Assumes nothing.
-use borrow.Author.Rules.{rules}
 use Rattle.spec_model.specs.Words.{absent, node}
 use Rattle.net_nodes.proofs.Laws.{node_added, node_refused}
 use Rattle.net_nodes.proofs.add_node.Goals as goal

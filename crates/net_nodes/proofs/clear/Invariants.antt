@@ -1,11 +1,8 @@
 -- `net_nodes::clear` meets its contract. Assumes nothing.
 use mathlib.Core.List.{◌++◌}
 use Prim.Native.Nat.{◌≤◌, ◌-◌}
-use native.Mathlib.Omega.{arith}
-use lib.ListN.{length, drop, replicate, length-set}
-use borrow.Author.Fill.{fill_none, fill_more}
-use mathlib.Core.Path.{◌≡◌, refl, ◌∙◌}
-use Rattle.net_nodes.proofs.Laws.{filled}
+use lib.ListN.{length, drop, replicate}
+use mathlib.Core.Path.{◌≡◌}
 use Rattle.net_nodes.proofs.clear.Given as goal
 
 abbrev pub invariant-loop-i : goal.invariant-loop-i

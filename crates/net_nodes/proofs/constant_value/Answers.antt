@@ -1,5 +1,4 @@
 -- `net_nodes::constant_value` meets its contract. Assumes nothing.
-use borrow.Author.Rules.{rules}
 use borrow.Author.Tests.{eq-eqb, ne_eqb}
 use mathlib.Core.Bool.{true, false}
 use Rattle.net_nodes.proofs.Laws.{value_there, value_none, value_past}

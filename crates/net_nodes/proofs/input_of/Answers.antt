@@ -1,5 +1,4 @@
 -- `net_nodes::input_of` meets its contract. Assumes nothing.
-use borrow.Author.Rules.{rules}
 use Rattle.net_nodes.proofs.Laws.{input_there, input_past}
 use Rattle.net_nodes.proofs.input_of.Goals as goal
 

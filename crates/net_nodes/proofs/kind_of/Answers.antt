@@ -1,5 +1,4 @@
 -- `net_nodes::kind_of` meets its contract. Assumes nothing.
-use borrow.Author.Rules.{rules}
 use Rattle.net_nodes.proofs.Laws.{kind_there, kind_past}
 use Rattle.net_nodes.proofs.kind_of.Goals as goal
 

@@ -1,5 +1,4 @@
 -- `net_nodes::push_node` meets its contract. Assumes nothing.
-use borrow.Author.Rules.{rules}
 use native.Mathlib.Omega.{arith}
 use lib.ListN.{length-set}
 use Rattle.net_nodes.proofs.Laws.{pushed}

@@ -1,5 +1,4 @@
 -- `net_nodes::start` meets its contract. Assumes nothing.
-use borrow.Author.Rules.{rules}
 use native.Mathlib.Omega.{arith}
 use lib.ListN.{length-set}
 use Rattle.net_view.specs.Laws.{started}

@@ -1,11 +1,8 @@
 -- `net_ports::add_nodes` meets its contract. Assumes nothing.
 use mathlib.Core.Path.{◌∙◌}
 use Prim.Native.Nat.{◌-◌}
-use native.Mathlib.Omega.{arith}
-use borrow.Author.Rules.{rules}
-use Rattle.spec_model.specs.Words.{source}
 use Rattle.net_index.specs.Index.{is_gate}
-use Rattle.net_ports.proofs.Laws.{Going, going_start, going_more, going_end, going_out, not_net}
+use Rattle.net_ports.proofs.Laws.{going_start, going_more, going_end, going_out, not_net}
 use borrow.Enum.Refused.{opened}
 use Rattle.net_ports.proofs.add_nodes.Goals as goal
 

@@ -1,13 +1,9 @@
 -- `net_ports::add_outputs` meets its contract. Assumes nothing.
 use mathlib.Core.Path.{refl, ◌∙◌}
 use Prim.Native.Nat.{◌-◌}
-use native.Mathlib.Omega.{arith}
 use native.Mathlib.Nat.{zero-add}
-use borrow.Author.Rules.{rules}
-use lib.ListN.{length}
 use Rattle.net_index.specs.Index.{is_gate}
-use Rattle.net_ports.specs.Runs.{output_node}
-use Rattle.net_ports.proofs.Laws.{Going, going_start, going_more, going_end, going_out, not_net}
+use Rattle.net_ports.proofs.Laws.{going_start, going_more, going_end, going_out, not_net}
 use borrow.Enum.Refused.{opened}
 use Rattle.net_ports.proofs.add_outputs.Goals as goal
 

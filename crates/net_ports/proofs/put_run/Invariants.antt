@@ -1,9 +1,7 @@
 -- `net_ports::put_run` meets its contract. Assumes nothing.
 use Prim.Native.Nat.{◌-◌}
-use native.Mathlib.Omega.{arith}
 use Rattle.spec_model.specs.Builder.{from}
-use Rattle.word_laws.specs.Runs.{from_at, length_from}
-use Rattle.net_records.proofs.Laws.{Copied, copied_start, copied_more, copied_end}
+use Rattle.net_records.proofs.Laws.{Copied}
 use Rattle.net_ports.proofs.put_run.Given as goal
 
 abbrev pub invariant-loop-i : goal.invariant-loop-i

@@ -1,5 +1,4 @@
 -- `net_records::push_record` meets its contract. Assumes nothing.
-use borrow.Author.Rules.{rules}
 use native.Mathlib.Omega.{arith}
 use lib.ListN.{get_or, length-set}
 use Rattle.net_view.specs.Laws.{record_pushed, records_few}

@@ -1,8 +1,6 @@
 -- `net_records::put_words` meets its contract. Assumes nothing.
 use Prim.Native.Nat.{◌-◌}
-use native.Mathlib.Omega.{arith}
-use lib.ListN.{length}
-use Rattle.net_records.proofs.Laws.{Copied, copied_start, copied_more, copied_end}
+use Rattle.net_records.proofs.Laws.{copied_start, copied_more, copied_end}
 use Rattle.net_records.proofs.put_words.Goals as goal
 
 pub loop-i-init : goal.loop-i-init

@@ -1,8 +1,7 @@
 -- `net_records::put_words` meets its contract. Assumes nothing.
 use Prim.Native.Nat.{◌-◌}
-use native.Mathlib.Omega.{arith}
 use lib.ListN.{length}
-use Rattle.net_records.proofs.Laws.{Copied, copied_start, copied_more, copied_end}
+use Rattle.net_records.proofs.Laws.{Copied}
 use Rattle.net_records.proofs.put_words.Given as goal
 
 abbrev pub invariant-loop-i : goal.invariant-loop-i

@@ -1,5 +1,4 @@
 -- `net_words::memory_length` meets its contract. Assumes nothing.
-use borrow.Author.Rules.{rules}
 use native.Mathlib.Omega.{arith}
 use Rattle.net_words.specs.Lengths.{memory_length}
 use Rattle.net_words.proofs.memory_length.Goals as goal

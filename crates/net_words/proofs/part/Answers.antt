@@ -1,5 +1,4 @@
 -- `net_words::part` meets its contract. Assumes nothing.
-use borrow.Author.Rules.{rules}
 use mathlib.Core.Path.{sym}
 use native.Mathlib.Nat.{le_of_lt}
 use lib.ListN.{length-drop, drop_of_length-le}

@@ -1,5 +1,4 @@
 -- `net_words::port_length` meets its contract. Assumes nothing.
-use borrow.Author.Rules.{rules}
 use native.Mathlib.Omega.{arith}
 use Rattle.spec_rules.specs.NetlistImage.{port_length, port_lists}
 use Rattle.net_words.proofs.port_length.Goals as goal

@@ -1,5 +1,4 @@
 -- `net_words::record_length` meets its contract. Assumes nothing.
-use borrow.Author.Rules.{rules}
 use mathlib.Core.Path.{sym, ap, ◌∙◌}
 use native.Mathlib.Omega.{arith}
 use Rattle.spec_tests.specs.Rules.{pick, ◌≡?◌}

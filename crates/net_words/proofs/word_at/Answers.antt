@@ -1,5 +1,4 @@
 -- `net_words::word_at` meets its contract. Assumes nothing.
-use borrow.Author.Rules.{rules}
 use mathlib.Core.Path.{sym}
 use lib.ListN.{get_or-eq_default}
 use Rattle.net_words.proofs.word_at.Goals as goal

@@ -1,5 +1,4 @@
 -- `op_bits::add_equal` meets its contract. Assumes nothing.
-use borrow.Author.Rules.{rules}
 use Rattle.spec_model.specs.Lowering.{add_equal}
 use Rattle.net_ports.proofs.Laws.{not_net}
 use Rattle.op_bits.proofs.Laws.{then_out, then_net}

@@ -1,5 +1,4 @@
 -- `op_bits::add_gate` meets its contract. Assumes nothing.
-use borrow.Author.Rules.{rules}
 use Rattle.op_bits.proofs.add_gate.Goals as goal
 
 pub returns-in-And : goal.returns-in-And

@@ -1,5 +1,4 @@
 -- `op_bits::add_pair` meets its contract. Assumes nothing.
-use borrow.Author.Rules.{rules}
 use Rattle.op_bits.proofs.add_pair.Goals as goal
 
 pub returns-in-Gate : goal.returns-in-Gate

@@ -1,14 +1,10 @@
 -- `op_bits::mux_bits` meets its contract. Assumes nothing.
-use borrow.Author.Rules.{rules}
-use mathlib.Core.Path.{sym, ◌∙◌}
 use Prim.Native.Nat.{◌-◌}
-use native.Mathlib.Omega.{arith}
 use lib.ListN.{length, get_or}
 use Rattle.spec_model.specs.Builder.{both, add_mux}
 use Rattle.net_view.specs.View.{netlist_of}
-use Rattle.net_gates.specs.Nots.{PlainNots, kept_mux}
-use Rattle.net_ports.proofs.Laws.{not_net}
-use Rattle.op_bits.proofs.Laws.{Going, going_start, going_more, going_out, going_all, both_nets}
+use Rattle.net_gates.specs.Nots.{PlainNots}
+use Rattle.op_bits.proofs.Laws.{Going}
 use Rattle.op_bits.proofs.mux_bits.Given as goal
 
 abbrev pub invariant-loop-i : goal.invariant-loop-i

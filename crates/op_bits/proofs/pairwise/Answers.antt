@@ -1,14 +1,9 @@
 -- `op_bits::pairwise` meets its contract. Assumes nothing.
-use borrow.Author.Rules.{rules}
 use mathlib.Core.Path.{sym, ◌∙◌}
 use Prim.Native.Nat.{◌-◌}
 use native.Mathlib.Omega.{arith}
-use lib.ListN.{length, get_or}
-use Rattle.spec_model.specs.Builder.{both}
-use Rattle.net_view.specs.View.{netlist_of}
 use Rattle.net_ports.proofs.Laws.{not_net}
-use Rattle.op_bits.specs.Kinds.{pair_made}
-use Rattle.op_bits.proofs.Laws.{Going, going_start, going_more, going_out, going_all, both_nets}
+use Rattle.op_bits.proofs.Laws.{going_start, going_more, going_out, going_all, both_nets}
 use borrow.Enum.Refused.{opened}
 use Rattle.op_bits.proofs.pairwise.Goals as goal
 

@@ -1,5 +1,4 @@
 -- `op_lower::compare` meets its contract. Assumes nothing.
-use borrow.Author.Rules.{rules}
 use Rattle.net_ports.proofs.Laws.{not_net}
 use Rattle.op_lower.proofs.Laws.{made_done, made_out}
 use borrow.Enum.Refused.{opened}

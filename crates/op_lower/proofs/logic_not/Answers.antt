@@ -1,5 +1,4 @@
 -- `op_lower::logic_not` meets its contract. Assumes nothing.
-use borrow.Author.Rules.{rules}
 use mathlib.Core.Bool.{false}
 use native.Mathlib.Omega.{arith}
 use Rattle.op_bits.proofs.Laws.{not_done, first_out, first_then}

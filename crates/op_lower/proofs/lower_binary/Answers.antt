@@ -1,5 +1,4 @@
 -- `op_lower::lower_binary` meets its contract. Assumes nothing.
-use borrow.Author.Rules.{rules}
 use Rattle.op_bits.proofs.Laws.{list_by}
 use Rattle.op_lower.specs.Operators.{by_class}
 use Rattle.op_lower.proofs.lower_binary.Goals as goal

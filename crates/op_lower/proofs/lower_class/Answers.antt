@@ -1,8 +1,6 @@
 -- `op_lower::lower_class` meets its contract. Assumes nothing.
-use borrow.Author.Rules.{rules}
 use Rattle.op_lower.specs.Operators.{lower_class}
 use Rattle.op_lower.proofs.Laws.{whole}
-use Rattle.op_lower.specs.Operators.{lower_class}
 use Rattle.op_lower.proofs.lower_class.Goals as goal
 
 pub pairwise-requires : goal.pairwise-requires

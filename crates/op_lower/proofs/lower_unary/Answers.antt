@@ -1,5 +1,4 @@
 -- `op_lower::lower_unary` meets its contract. Assumes nothing.
-use borrow.Author.Rules.{rules}
 use mathlib.Core.Bool.{true, false}
 use Rattle.spec_model.specs.Lowering.{lower_unary}
 use Rattle.image_records.specs.Expr.{unary_means}

@@ -1,5 +1,4 @@
 -- `op_lower::not_equal_words` meets its contract. Assumes nothing.
-use borrow.Author.Rules.{rules}
 use native.Mathlib.Omega.{arith}
 use Rattle.op_bits.proofs.Laws.{not_done, first_out, first_then}
 use borrow.Enum.Refused.{opened}

@@ -1,5 +1,4 @@
 -- `op_makers::class_of` meets its contract. Assumes nothing.
-use borrow.Author.Rules.{rules}
 use Rattle.op_makers.specs.Class.{class_of}
 use Rattle.op_makers.proofs.class_of.Goals as goal
 

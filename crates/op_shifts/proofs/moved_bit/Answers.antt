@@ -1,5 +1,4 @@
 -- `op_shifts::moved_bit` meets its contract. Assumes nothing.
-use borrow.Author.Rules.{rules}
 use mathlib.Core.Path.{◌∙◌}
 use Rattle.op_shifts.proofs.Laws.{left_low, left_high, right_bit, arithmetic_bit}
 use Rattle.op_shifts.proofs.moved_bit.Goals as goal

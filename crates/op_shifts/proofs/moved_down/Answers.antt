@@ -1,5 +1,4 @@
 -- `op_shifts::moved_down` meets its contract. Assumes nothing.
-use borrow.Author.Rules.{rules}
 use mathlib.Core.Path.{sym}
 use lib.ListN.{get_or-eq_default}
 use Rattle.op_shifts.proofs.Laws.{down_in}

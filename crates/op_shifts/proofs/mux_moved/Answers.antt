@@ -1,16 +1,11 @@
 -- `op_shifts::mux_moved` meets its contract. Assumes nothing.
-use borrow.Author.Rules.{rules}
 use mathlib.Core.Path.{sym, ◌∙◌}
 use Prim.Native.Nat.{◌-◌}
 use native.Mathlib.Omega.{arith}
-use lib.ListN.{length, get_or}
-use Rattle.spec_model.specs.Builder.{both, add_mux}
-use Rattle.spec_model.specs.Lowering.{shifted}
-use Rattle.net_view.specs.View.{netlist_of}
-use Rattle.net_gates.specs.Nots.{PlainNots, kept_mux}
+use Rattle.net_gates.specs.Nots.{kept_mux}
 use Rattle.net_ports.proofs.Laws.{not_net}
 use Rattle.op_shifts.specs.Kinds.{shift_of}
-use Rattle.op_bits.proofs.Laws.{Going, going_start, going_more, going_out, going_all}
+use Rattle.op_bits.proofs.Laws.{going_start, going_more, going_out, going_all}
 use Rattle.op_shifts.proofs.Laws.{stage_nets}
 use borrow.Enum.Refused.{opened}
 use Rattle.op_shifts.proofs.mux_moved.Goals as goal

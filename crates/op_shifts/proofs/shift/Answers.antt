@@ -1,5 +1,4 @@
 -- `op_shifts::shift` meets its contract. Assumes nothing.
-use borrow.Author.Rules.{rules}
 use Rattle.net_view.specs.View.{netlist_of}
 use Rattle.net_gates.specs.Nots.{kept_constant}
 use Rattle.net_ports.proofs.Laws.{not_net}

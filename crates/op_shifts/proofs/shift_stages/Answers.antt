@@ -1,14 +1,9 @@
 -- `op_shifts::shift_stages` meets its contract. Assumes nothing.
-use borrow.Author.Rules.{rules}
 use mathlib.Core.Path.{sym, ap, ◌∙◌}
 use Prim.Native.Nat.{ℕ, ◌-◌, ◌*◌, min}
 use native.Mathlib.Omega.{arith}
-use lib.ListN.{length}
-use Rattle.spec_model.specs.Lowering.{stages}
-use Rattle.net_view.specs.View.{netlist_of}
-use Rattle.op_shifts.specs.Kinds.{shift_of}
 use Rattle.op_bits.proofs.Laws.{not_done}
-use Rattle.op_shifts.proofs.Laws.{Staging, staging_start, staging_more, staging_out, staging_end}
+use Rattle.op_shifts.proofs.Laws.{staging_start, staging_more, staging_out, staging_end}
 use borrow.Enum.Refused.{opened}
 use Rattle.op_shifts.proofs.shift_stages.Goals as goal
 

@@ -1,5 +1,4 @@
 -- `op_trees::equal_words` meets its contract. Assumes nothing.
-use borrow.Author.Rules.{rules}
 use mathlib.Core.Bool.{true}
 use native.Mathlib.Omega.{arith}
 use Rattle.spec_model.specs.Lowering.{equal_words}

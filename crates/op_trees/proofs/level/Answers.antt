@@ -1,14 +1,12 @@
 -- `op_trees::level` meets its contract. Assumes nothing.
-use borrow.Author.Rules.{rules}
 use mathlib.Core.Path.{refl, sym, ◌∙◌}
 use Prim.Native.Nat.{◌-◌}
 use native.Mathlib.Omega.{arith}
-use lib.ListN.{take, length-set}
-use Rattle.net_view.specs.View.{netlist_of}
+use lib.ListN.{length-set}
 use Rattle.net_ports.proofs.Laws.{not_net}
 use Rattle.op_bits.specs.Kinds.{gate_of}
-use Rattle.op_bits.proofs.Laws.{nets, Going, going_start}
-use Rattle.op_trees.proofs.Laws.{pair_at, level_more, level_out, level_done}
+use Rattle.op_bits.proofs.Laws.{going_start}
+use Rattle.op_trees.proofs.Laws.{level_more, level_out, level_done}
 use borrow.Enum.Refused.{opened}
 use Rattle.op_trees.proofs.level.Goals as goal
 

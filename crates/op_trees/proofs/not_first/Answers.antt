@@ -1,5 +1,4 @@
 -- `op_trees::not_first` meets its contract. Assumes nothing.
-use borrow.Author.Rules.{rules}
 use Rattle.net_ports.proofs.Laws.{not_net}
 use Rattle.op_trees.proofs.Laws.{one_done, one_out}
 use Rattle.spec_model.specs.Builder.{add_not}

@@ -1,14 +1,10 @@
 -- `op_trees::reduce_tree` meets its contract. Assumes nothing.
-use borrow.Author.Rules.{rules}
-use mathlib.Core.Path.{sym, ◌∙◌}
 use Prim.Native.Nat.{◌-◌}
-use native.Mathlib.Omega.{arith}
 use lib.ListN.{length}
 use Rattle.net_view.specs.View.{netlist_of}
 use Rattle.spec_model.specs.Lowering.{levels}
 use Rattle.op_bits.specs.Kinds.{gate_of}
-use Rattle.op_bits.proofs.Laws.{not_done, list_by}
-use Rattle.op_trees.proofs.Laws.{Reducing, tree_levels, reducing_start, reducing_more, reducing_out, reducing_end}
+use Rattle.op_trees.proofs.Laws.{Reducing}
 use Rattle.op_trees.proofs.reduce_tree.Given as goal
 
 abbrev pub invariant-loop-len : goal.invariant-loop-len

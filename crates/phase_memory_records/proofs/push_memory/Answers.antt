@@ -1,5 +1,4 @@
 -- `phase_memory_records::push_memory` meets its contract. Assumes nothing.
-use borrow.Author.Rules.{rules}
 use Rattle.spec_rules.specs.Image.{decode}
 use Rattle.net_view.specs.View.{netlist_of}
 use Rattle.scratch_view.specs.View.{limit_of}

@@ -1,5 +1,4 @@
 -- `phase_memory_records::put_nets` meets its contract. Assumes nothing.
-use borrow.Author.Rules.{rules}
 use native.Mathlib.Omega.{arith}
 use mathlib.Core.Path.{refl}
 use Rattle.image_records.specs.Others.{port_means}

@@ -1,5 +1,4 @@
 -- `phase_memory_records::put_port` meets its contract. Assumes nothing.
-use borrow.Author.Rules.{rules}
 use native.Mathlib.Omega.{arith}
 use Rattle.spec_rules.specs.Image.{decode}
 use Rattle.scratch_view.specs.View.{state_of}

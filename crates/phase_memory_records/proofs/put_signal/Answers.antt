@@ -1,5 +1,4 @@
 -- `phase_memory_records::put_signal` meets its contract. Assumes nothing.
-use borrow.Author.Rules.{rules}
 use native.Mathlib.Omega.{arith}
 use mathlib.Core.Path.{refl}
 use Rattle.phase_memory_records.proofs.Laws.{signal_put}

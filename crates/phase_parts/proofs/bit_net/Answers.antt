@@ -1,5 +1,4 @@
 -- `phase_parts::bit_net` meets its contract. Assumes nothing.
-use borrow.Author.Rules.{rules}
 use mathlib.Core.Path.{ap}
 use Rattle.spec_model.specs.Lowering.{net_of}
 use Rattle.scratch_view.specs.View.{state_of}

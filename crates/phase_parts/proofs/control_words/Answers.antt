@@ -1,5 +1,4 @@
 -- `phase_parts::control_words` meets its contract. Assumes nothing.
-use borrow.Author.Rules.{rules}
 use native.Mathlib.Omega.{arith}
 use Rattle.scratch_view.specs.View.{state_of}
 use Rattle.phase_parts.specs.Parts.{there_present}

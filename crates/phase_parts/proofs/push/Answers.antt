@@ -1,5 +1,4 @@
 -- `phase_parts::push` meets its contract. Assumes nothing.
-use borrow.Author.Rules.{rules}
 use Rattle.phase_parts.proofs.Laws.{pushed_ran}
 use Rattle.phase_parts.proofs.push.Goals as goal
 

@@ -1,5 +1,4 @@
 -- `phase_register_records::push_bit` meets its contract. Assumes nothing.
-use borrow.Author.Rules.{rules}
 use native.Mathlib.Omega.{arith}
 use mathlib.Core.Option.{Option}
 use mathlib.Core.Path.{ap, ◌∙◌}

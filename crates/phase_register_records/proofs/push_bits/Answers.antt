@@ -1,17 +1,13 @@
 -- `phase_register_records::push_bits` meets its contract. Assumes nothing.
-use borrow.Author.Rules.{rules}
 use mathlib.Core.Path.{sym, ◌∙◌}
 use Prim.Native.Nat.{◌-◌}
 use native.Mathlib.Omega.{arith}
-use Rattle.spec_model.specs.Lowering.{register_bit}
 use Rattle.image_records.specs.Others.{register_means}
 use Rattle.scratch_view.specs.Bounds.{signal_width_law}
-use Rattle.walk_view.specs.View.{Sure, walk_state}
 use Rattle.walk_view.proofs.Answers.{not-done-tag}
 use Rattle.walk_view.specs.Answers.{not_done}
-use Rattle.walk_view.specs.Turns.{Turning, turning_start, turning_more, turning_out, turning_end}
+use Rattle.walk_view.specs.Turns.{turning_start, turning_more, turning_out, turning_end}
 use Rattle.phase_parts.specs.Ran.{ran_phase, phase_ran}
-use Rattle.phase_register_records.specs.Registers.{bits_turn}
 use Rattle.phase_register_records.proofs.Laws.{bits_turns}
 use borrow.Enum.Refused.{opened}
 use Rattle.phase_register_records.proofs.push_bits.Goals as goal

@@ -1,5 +1,4 @@
 -- `phase_register_records::push_reset` meets its contract. Assumes nothing.
-use borrow.Author.Rules.{rules}
 use mathlib.Core.Bool.{true, false}
 use Rattle.net_view.specs.View.{netlist_of}
 use Rattle.scratch_view.specs.View.{limit_of}

@@ -1,5 +1,4 @@
 -- `phase_register_records::reset_words` meets its contract. Assumes nothing.
-use borrow.Author.Rules.{rules}
 use Rattle.scratch_view.specs.View.{state_of}
 use Rattle.phase_register_records.specs.Registers.{reset_of}
 use Rattle.phase_register_records.proofs.Laws.{four_words_law}

@@ -1,5 +1,4 @@
 -- `phase_signals::lower_control` meets its contract. Assumes nothing.
-use borrow.Author.Rules.{rules}
 use native.Mathlib.Omega.{arith}
 use Rattle.spec_model.specs.Lowering.{Bit}
 use Rattle.walk_invariant.specs.Steps.{gives_one}

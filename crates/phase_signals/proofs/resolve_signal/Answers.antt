@@ -1,11 +1,10 @@
 -- `phase_signals::resolve_signal` meets its contract. Assumes nothing.
 use Prim.Native.Nat.{◌-◌, ◌<◌}
 use native.Mathlib.Omega.{arith}
-use borrow.Author.Rules.{rules}
 use Rattle.spec_rules.specs.Image.{signal_width}
-use Rattle.spec_model.specs.Lowering.{Bit, signal_steps}
+use Rattle.spec_model.specs.Lowering.{Bit}
 use Rattle.walk_view.proofs.Answers.{not-done-tag}
-use Rattle.walk_invariant.specs.Steps.{StepsAt, steps_next, steps_out, steps_end, bits_start, bits_next, bits_end}
+use Rattle.walk_invariant.specs.Steps.{steps_next, steps_out, steps_end, bits_start, bits_next, bits_end}
 use borrow.Enum.Refused.{opened}
 use Rattle.phase_signals.proofs.resolve_signal.Goals as goal
 

@@ -1,5 +1,4 @@
 -- `phase_sources::keep_added` meets its contract. Assumes nothing.
-use borrow.Author.Rules.{rules}
 use Rattle.phase_sources.proofs.Laws.{kept_run, kept_nets, kept_list}
 use Rattle.phase_sources.proofs.keep_added.Goals as goal
 

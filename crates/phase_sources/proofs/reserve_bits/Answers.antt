@@ -1,5 +1,4 @@
 -- `phase_sources::reserve_bits` meets its contract. Assumes nothing.
-use borrow.Author.Rules.{rules}
 use native.Mathlib.Omega.{arith}
 use Rattle.phase_sources.proofs.Laws.{reserved_bits}
 use Rattle.phase_sources.proofs.reserve_bits.Goals as goal

@@ -1,5 +1,4 @@
 -- `phase_sources::reserve_input` meets its contract. Assumes nothing.
-use borrow.Author.Rules.{rules}
 use Rattle.phase_sources.proofs.Laws.{input_width, input_internal, input_output, input_port}
 use Rattle.phase_sources.proofs.reserve_input.Goals as goal
 

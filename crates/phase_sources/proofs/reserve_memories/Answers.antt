@@ -1,14 +1,9 @@
 -- `phase_sources::reserve_memories` meets its contract. Assumes nothing.
-use borrow.Author.Rules.{rules}
 use mathlib.Core.Path.{◌∙◌}
 use Prim.Native.Nat.{◌-◌}
-use native.Mathlib.Omega.{arith}
-use Rattle.spec_rules.specs.Image.{decode}
-use Rattle.spec_model.specs.Lowering.{reserve_memories}
-use Rattle.walk_view.specs.View.{walk_state}
 use Rattle.walk_view.proofs.Answers.{not-done-tag}
-use Rattle.walk_view.specs.Turns.{Turning, turning_start, turning_more, turning_out, turning_end}
-use Rattle.phase_sources.specs.Reserves.{data_at, memories_turn}
+use Rattle.walk_view.specs.Turns.{turning_start, turning_more, turning_out, turning_end}
+use Rattle.phase_sources.specs.Reserves.{memories_turn}
 use borrow.Enum.Refused.{opened}
 use Rattle.phase_sources.proofs.reserve_memories.Goals as goal
 

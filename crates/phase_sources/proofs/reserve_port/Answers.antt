@@ -1,5 +1,4 @@
 -- `phase_sources::reserve_port` meets its contract. Assumes nothing.
-use borrow.Author.Rules.{rules}
 use native.Mathlib.Omega.{arith}
 use Rattle.phase_sources.proofs.Laws.{reserved}
 use Rattle.phase_sources.proofs.reserve_port.Goals as goal

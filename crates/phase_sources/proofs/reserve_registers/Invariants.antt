@@ -1,14 +1,10 @@
 -- `phase_sources::reserve_registers` meets its contract. Assumes nothing.
-use borrow.Author.Rules.{rules}
-use mathlib.Core.Path.{◌∙◌}
 use Prim.Native.Nat.{◌-◌}
-use native.Mathlib.Omega.{arith}
 use Rattle.spec_rules.specs.Image.{decode}
 use Rattle.spec_model.specs.Lowering.{reserve_registers}
 use Rattle.walk_view.specs.View.{walk_state}
-use Rattle.walk_view.proofs.Answers.{not-done-tag}
-use Rattle.walk_view.specs.Turns.{Turning, turning_start, turning_more, turning_out, turning_end}
-use Rattle.phase_sources.specs.Reserves.{outputs_at, registers_turn}
+use Rattle.walk_view.specs.Turns.{Turning}
+use Rattle.phase_sources.specs.Reserves.{outputs_at}
 use Rattle.phase_sources.proofs.reserve_registers.Given as goal
 
 abbrev pub invariant-loop-k : goal.invariant-loop-k

@@ -1,5 +1,4 @@
 -- `phase_sources::reserve_second` meets its contract. Assumes nothing.
-use borrow.Author.Rules.{rules}
 use native.Mathlib.Omega.{arith}
 use mathlib.Core.Path.{refl, sym, ◌∙◌}
 use Rattle.net_index.specs.Index.{is_gate}

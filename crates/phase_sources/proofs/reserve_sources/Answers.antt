@@ -1,5 +1,4 @@
 -- `phase_sources::reserve_sources` meets its contract. Assumes nothing.
-use borrow.Author.Rules.{rules}
 use Rattle.walk_view.proofs.Answers.{not-done-tag}
 use Rattle.phase_sources.proofs.Laws.{sources_inputs, sources_registers, sources_all}
 use borrow.Enum.Refused.{opened}

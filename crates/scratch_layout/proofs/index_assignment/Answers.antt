@@ -1,6 +1,5 @@
 -- `scratch_layout::index_assignment` meets its contract: the place of its bits from the fields and the first bit of the signal. Assumes nothing.
 use native.Mathlib.Omega.{arith}
-use borrow.Author.Rules.{rules}
 use Rattle.scratch_layout.proofs.Ways.{assign_place, assign_way}
 use Rattle.scratch_layout.proofs.index_assignment.Goals as goal
 

@@ -1,8 +1,7 @@
 -- `scratch_layout::index_assignments` meets its contract: invariant: the drivers by the assignments from a on stand. Assumes nothing.
 use native.Mathlib.Omega.{arith}
-use borrow.Author.Rules.{rules}
 use Rattle.scratch_view.specs.View.{limit_of}
-use Rattle.scratch_layout.proofs.Ways.{IndexedAt, index_begin, index_step, index_end, firsts_own}
+use Rattle.scratch_layout.proofs.Ways.{index_begin, index_step, index_end, firsts_own}
 use Rattle.scratch_layout.proofs.index_assignments.Goals as goal
 
 pub loop-a-init : goal.loop-a-init

@@ -1,6 +1,5 @@
 -- `scratch_layout::lay` meets its contract: the steps one after the other. Assumes nothing.
 use mathlib.Core.Path.{◌∙◌}
-use borrow.Author.Rules.{rules}
 use Rattle.scratch_layout.proofs.Ways.{cleared, headed_own, firsts_own, after_firsts, after_starts, column_zero, ready_way}
 use Rattle.scratch_layout.proofs.lay.Goals as goal
 

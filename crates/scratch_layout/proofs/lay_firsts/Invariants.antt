@@ -1,17 +1,9 @@
 -- `scratch_layout::lay_firsts` meets its contract: invariant: the first bits of the signals passed are pasted. Assumes nothing.
-use mathlib.Core.Path.{◌≡◌, sym, ◌∙◌}
-use Prim.Native.Nat.{◌+◌, ◌*◌, ◌<◌, ◌-◌}
-use native.Mathlib.Omega.{arith}
-use lib.ListN.{get_or}
-use borrow.Author.Rules.{rules}
+use mathlib.Core.Path.{◌≡◌}
+use Prim.Native.Nat.{◌-◌}
 use Rattle.spec_tests.specs.Rules.{sum_to, list_of}
-use Rattle.spec_tests.specs.Laws.{sum_none, sum_more}
 use Rattle.spec_rules.specs.Image.{count_at_of, signal_width}
-use Rattle.scratch_view.specs.View.{limit_of, first_at}
-use Rattle.scratch_view.specs.Rows.{length_list_of, at_list_of}
-use Rattle.scratch_view.specs.Laws.{signal_ends, signals_few}
-use Rattle.scratch_view.specs.Copies.{PastedAt, paste_begins, paste_turn, paste_ends}
-use Rattle.scratch_layout.proofs.Ways.{firsts_end}
+use Rattle.scratch_view.specs.Copies.{PastedAt}
 use Rattle.scratch_layout.proofs.lay_firsts.Given as goal
 
 abbrev pub invariant-loop-p : goal.invariant-loop-p

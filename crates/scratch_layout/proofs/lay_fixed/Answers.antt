@@ -2,7 +2,6 @@
 use Prim.Native.Nat.{◌+◌, ◌*◌}
 use native.Mathlib.Omega.{arith}
 use lib.ListN.{length-set}
-use borrow.Author.Rules.{rules}
 use Rattle.scratch_view.specs.Laws.{need_is}
 use Rattle.scratch_layout.proofs.Ways.{fixed_on, fixed_off}
 use Rattle.scratch_layout.proofs.lay_fixed.Goals as goal

@@ -3,13 +3,11 @@ use mathlib.Core.Path.{◌≡◌, sym}
 use Prim.Native.Nat.{◌+◌, ◌*◌, ◌<◌, ◌-◌}
 use native.Mathlib.Omega.{arith}
 use lib.ListN.{get_or}
-use borrow.Author.Rules.{rules}
-use Rattle.spec_tests.specs.Rules.{sum_to}
 use Rattle.spec_tests.specs.Laws.{sum_none, sum_more}
 use Rattle.spec_rules.specs.Image.{count_at_of, expr_width}
 use Rattle.scratch_view.specs.View.{limit_of, expr_at}
 use Rattle.scratch_view.specs.Laws.{expr_ends}
-use Rattle.scratch_layout.proofs.Ways.{StartsAt, starts_begin, starts_turn, starts_end}
+use Rattle.scratch_layout.proofs.Ways.{starts_begin, starts_turn, starts_end}
 use Rattle.scratch_layout.proofs.lay_starts.Goals as goal
 
 pub loop-e-init : goal.loop-e-init

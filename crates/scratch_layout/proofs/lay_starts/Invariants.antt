@@ -1,15 +1,10 @@
 -- `scratch_layout::lay_starts` meets its contract: invariant: the first bits of the expressions passed stand. Assumes nothing.
-use mathlib.Core.Path.{◌≡◌, sym}
-use Prim.Native.Nat.{◌+◌, ◌*◌, ◌<◌, ◌-◌}
-use native.Mathlib.Omega.{arith}
-use lib.ListN.{get_or}
-use borrow.Author.Rules.{rules}
+use mathlib.Core.Path.{◌≡◌}
+use Prim.Native.Nat.{◌-◌}
 use Rattle.spec_tests.specs.Rules.{sum_to}
-use Rattle.spec_tests.specs.Laws.{sum_none, sum_more}
-use Rattle.spec_rules.specs.Image.{count_at_of, expr_width}
-use Rattle.scratch_view.specs.View.{limit_of, expr_at}
-use Rattle.scratch_view.specs.Laws.{expr_ends}
-use Rattle.scratch_layout.proofs.Ways.{StartsAt, starts_begin, starts_turn, starts_end}
+use Rattle.spec_rules.specs.Image.{expr_width}
+use Rattle.scratch_view.specs.View.{limit_of}
+use Rattle.scratch_layout.proofs.Ways.{StartsAt}
 use Rattle.scratch_layout.proofs.lay_starts.Given as goal
 
 abbrev pub invariant-loop-e : goal.invariant-loop-e

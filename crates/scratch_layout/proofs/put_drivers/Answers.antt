@@ -2,10 +2,9 @@
 use mathlib.Core.Path.{sym}
 use Prim.Native.Nat.{◌-◌, ◌+◌}
 use native.Mathlib.Omega.{arith}
-use borrow.Author.Rules.{rules}
 use Rattle.spec_tests.specs.Rules.{list_of}
 use Rattle.scratch_view.specs.Rows.{length_list_of, at_list_of}
-use Rattle.scratch_view.specs.Copies.{PastedAt, paste_begins, paste_turn, paste_ends}
+use Rattle.scratch_view.specs.Copies.{paste_begins, paste_turn, paste_ends}
 use Rattle.scratch_layout.proofs.put_drivers.Goals as goal
 
 pub loop-i-init : goal.loop-i-init

@@ -1,11 +1,7 @@
 -- `scratch_layout::put_drivers` meets its contract: invariant: so many drivers are pasted. Assumes nothing.
-use mathlib.Core.Path.{sym}
 use Prim.Native.Nat.{◌-◌, ◌+◌}
-use native.Mathlib.Omega.{arith}
-use borrow.Author.Rules.{rules}
 use Rattle.spec_tests.specs.Rules.{list_of}
-use Rattle.scratch_view.specs.Rows.{length_list_of, at_list_of}
-use Rattle.scratch_view.specs.Copies.{PastedAt, paste_begins, paste_turn, paste_ends}
+use Rattle.scratch_view.specs.Copies.{PastedAt}
 use Rattle.scratch_layout.proofs.put_drivers.Given as goal
 
 abbrev pub invariant-loop-i : goal.invariant-loop-i

@@ -1,12 +1,8 @@
 -- `scratch_layout::signal_bits` meets its contract: invariant: the sum of the widths passed. Assumes nothing.
-use mathlib.Core.Path.{◌≡◌, ap, sym, ◌∙◌}
-use Prim.Native.Nat.{◌≤◌, ◌<◌, ◌-◌}
-use native.Mathlib.Omega.{arith}
-use borrow.Author.Rules.{rules}
+use mathlib.Core.Path.{◌≡◌}
+use Prim.Native.Nat.{◌≤◌, ◌-◌}
 use Rattle.spec_tests.specs.Rules.{sum_to}
-use Rattle.spec_tests.specs.Laws.{sum_none, sum_more}
-use Rattle.spec_rules.specs.Image.{count_at_of, signal_width}
-use Rattle.scratch_view.specs.Laws.{signal_ends, bits_are}
+use Rattle.spec_rules.specs.Image.{signal_width}
 use Rattle.scratch_layout.proofs.signal_bits.Given as goal
 
 abbrev pub invariant-loop-p : goal.invariant-loop-p

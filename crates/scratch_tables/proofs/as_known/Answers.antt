@@ -1,7 +1,6 @@
 -- `scratch_tables::as_known` meets its contract: a word as a net that may be absent. Assumes nothing.
 use mathlib.Core.Path.{sym}
 use native.Mathlib.Omega.{arith}
-use borrow.Author.Rules.{rules}
 use Rattle.scratch_view.specs.Laws.{known_some, known_none}
 use Rattle.scratch_tables.proofs.as_known.Goals as goal
 

@@ -1,14 +1,9 @@
 -- `scratch_tables::copy_nets` meets its contract: invariant: so many nets are pasted. Assumes nothing.
-use mathlib.Core.Path.{◌∙◌}
 use Prim.Native.Nat.{◌-◌, ◌+◌}
-use native.Mathlib.Omega.{arith}
 use lib.ListN.{get_or}
-use borrow.Author.Rules.{rules}
 use Rattle.spec_tests.specs.Rules.{list_of}
 use Rattle.scratch_view.specs.View.{net_word}
-use Rattle.scratch_view.specs.Rows.{length_list_of}
-use Rattle.scratch_view.specs.Copies.{PastedAt, paste_begins, paste_turn, paste_ends}
-use Rattle.scratch_tables.proofs.Ways.{net_at_law}
+use Rattle.scratch_view.specs.Copies.{PastedAt}
 use Rattle.scratch_tables.proofs.copy_nets.Given as goal
 
 abbrev pub invariant-loop-i : goal.invariant-loop-i

@@ -1,5 +1,4 @@
 -- `scratch_tables::copy_range` meets its contract: the words of the range. Assumes nothing.
-use borrow.Author.Rules.{rules}
 use Rattle.scratch_tables.proofs.Ways.{copy_range_way}
 use Rattle.scratch_tables.proofs.copy_range.Goals as goal
 

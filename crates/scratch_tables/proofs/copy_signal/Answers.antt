@@ -1,5 +1,4 @@
 -- `scratch_tables::copy_signal` meets its contract: the words of the range. Assumes nothing.
-use borrow.Author.Rules.{rules}
 use Rattle.scratch_tables.proofs.Ways.{copy_signal_way}
 use Rattle.scratch_tables.proofs.copy_signal.Goals as goal
 

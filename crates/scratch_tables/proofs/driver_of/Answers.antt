@@ -1,7 +1,6 @@
 -- `scratch_tables::driver_of` meets its contract: the word at the place in the column of drivers, taken apart. Assumes nothing.
 use mathlib.Core.Path.{sym}
 use native.Mathlib.Omega.{arith}
-use borrow.Author.Rules.{rules}
 use Rattle.scratch_tables.proofs.Ways.{undriven_way, driven_way}
 use Rattle.scratch_tables.proofs.driver_of.Goals as goal
 

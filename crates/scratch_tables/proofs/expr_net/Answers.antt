@@ -1,5 +1,4 @@
 -- `scratch_tables::expr_net` meets its contract: the word at the place. Assumes nothing.
-use borrow.Author.Rules.{rules}
 use Rattle.scratch_tables.proofs.Ways.{expr_net_way}
 use Rattle.scratch_tables.proofs.expr_net.Goals as goal
 

@@ -1,6 +1,5 @@
 -- `scratch_tables::expr_place` meets its contract: the place from the fixed words and the first bit of the expression. Assumes nothing.
 use native.Mathlib.Omega.{arith}
-use borrow.Author.Rules.{rules}
 use Rattle.scratch_view.specs.Laws.{expr_ends}
 use Rattle.scratch_tables.proofs.Ways.{start_word}
 use Rattle.scratch_tables.proofs.expr_place.Goals as goal

@@ -2,8 +2,7 @@
 use mathlib.Core.List.{map}
 use Prim.Native.Nat.{suc, ◌-◌}
 use native.Mathlib.Omega.{arith}
-use borrow.Author.Rules.{rules}
-use Rattle.scratch_view.specs.Copies.{PastedAt, paste_begins, paste_ends}
+use Rattle.scratch_view.specs.Copies.{paste_begins, paste_ends}
 use Rattle.scratch_tables.proofs.Ways.{fill_turn}
 use Rattle.scratch_tables.proofs.fill.Goals as goal
 

@@ -1,10 +1,7 @@
 -- `scratch_tables::fill` meets its contract: invariant: so many nets are pasted. Assumes nothing.
 use mathlib.Core.List.{map}
 use Prim.Native.Nat.{suc, ◌-◌}
-use native.Mathlib.Omega.{arith}
-use borrow.Author.Rules.{rules}
-use Rattle.scratch_view.specs.Copies.{PastedAt, paste_begins, paste_ends}
-use Rattle.scratch_tables.proofs.Ways.{fill_turn}
+use Rattle.scratch_view.specs.Copies.{PastedAt}
 use Rattle.scratch_tables.proofs.fill.Given as goal
 
 abbrev pub invariant-loop-i : goal.invariant-loop-i

@@ -1,5 +1,4 @@
 -- `scratch_tables::is_whole` meets its contract: the flag of the expression. Assumes nothing.
-use borrow.Author.Rules.{rules}
 use Rattle.scratch_tables.proofs.Ways.{whole_way}
 use Rattle.scratch_tables.proofs.is_whole.Goals as goal
 

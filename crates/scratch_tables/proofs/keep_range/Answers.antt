@@ -1,7 +1,6 @@
 -- `scratch_tables::keep_range` meets its contract: nothing where the expression is whole, else the filled part is put back. Assumes nothing.
 use mathlib.Core.Path.{sym, ◌∙◌}
 use lib.ListN.{take}
-use borrow.Author.Rules.{rules}
 use Rattle.scratch_view.specs.Laws.{skip_range}
 use Rattle.scratch_tables.proofs.Ways.{keep_range_way}
 use Rattle.scratch_tables.proofs.keep_range.Goals as goal

@@ -1,5 +1,4 @@
 -- `scratch_tables::keep_signal` meets its contract: one store at the place. Assumes nothing.
-use borrow.Author.Rules.{rules}
 use Rattle.scratch_tables.proofs.Ways.{keep_way}
 use Rattle.scratch_tables.proofs.keep_signal.Goals as goal
 

@@ -1,5 +1,4 @@
 -- `scratch_tables::keep_signals` meets its contract: the filled part is put back. Assumes nothing.
-use borrow.Author.Rules.{rules}
 use Rattle.scratch_tables.proofs.Ways.{keep_signals_way}
 use Rattle.scratch_tables.proofs.keep_signals.Goals as goal
 

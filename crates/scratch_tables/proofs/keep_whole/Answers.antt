@@ -1,5 +1,4 @@
 -- `scratch_tables::keep_whole` meets its contract: the filled part is put back, then the flag is stored. Assumes nothing.
-use borrow.Author.Rules.{rules}
 use Rattle.scratch_tables.proofs.Ways.{keep_whole_way}
 use Rattle.scratch_tables.proofs.keep_whole.Goals as goal
 

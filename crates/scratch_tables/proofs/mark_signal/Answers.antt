@@ -1,5 +1,4 @@
 -- `scratch_tables::mark_signal` meets its contract: one store at the place in the column of marks. Assumes nothing.
-use borrow.Author.Rules.{rules}
 use Rattle.scratch_tables.proofs.Ways.{mark_way}
 use Rattle.scratch_tables.proofs.mark_signal.Goals as goal
 

@@ -1,5 +1,4 @@
 -- `scratch_tables::marked` meets its contract: the word at the place in the column of marks. Assumes nothing.
-use borrow.Author.Rules.{rules}
 use Rattle.scratch_tables.proofs.Ways.{marked_way}
 use Rattle.scratch_tables.proofs.marked.Goals as goal
 

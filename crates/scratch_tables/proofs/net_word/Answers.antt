@@ -1,7 +1,6 @@
 -- `scratch_tables::net_word` meets its contract: a word as a net. Assumes nothing.
 use mathlib.Core.Path.{sym}
 use native.Mathlib.Omega.{arith}
-use borrow.Author.Rules.{rules}
 use Rattle.scratch_view.specs.Laws.{net_word_some, net_word_none}
 use Rattle.scratch_tables.proofs.net_word.Goals as goal
 

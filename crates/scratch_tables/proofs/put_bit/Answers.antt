@@ -2,7 +2,6 @@
 use mathlib.Core.Path.{ap}
 use native.Mathlib.Numerals.{add-one}
 use lib.ListN.{set}
-use borrow.Author.Rules.{rules}
 use Rattle.scratch_tables.proofs.put_bit.Goals as goal
 
 pub returns : goal.returns

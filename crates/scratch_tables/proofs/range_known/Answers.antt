@@ -1,6 +1,5 @@
 -- `scratch_tables::range_known` meets its contract: the flag, or the words of the range. Assumes nothing.
 use mathlib.Core.Path.{sym, ◌∙◌}
-use borrow.Author.Rules.{rules}
 use Rattle.scratch_view.specs.View.{limit_of}
 use Rattle.scratch_view.specs.Reads.{known_whole}
 use Rattle.scratch_tables.proofs.Ways.{known_range_way}

@@ -1,6 +1,5 @@
 -- `scratch_tables::signal_net` meets its contract: the word at the place. Assumes nothing.
 use mathlib.Core.Path.{sym, ◌∙◌}
-use borrow.Author.Rules.{rules}
 use Rattle.scratch_tables.proofs.Ways.{net_way}
 use Rattle.scratch_tables.proofs.signal_net.Goals as goal
 

@@ -1,6 +1,5 @@
 -- `scratch_tables::signal_place` meets its contract: the place from the fixed words and the first bit of the signal. Assumes nothing.
 use native.Mathlib.Omega.{arith}
-use borrow.Author.Rules.{rules}
 use Rattle.scratch_view.specs.Laws.{signals_few, signal_ends}
 use Rattle.scratch_tables.proofs.Ways.{first_word}
 use Rattle.scratch_tables.proofs.signal_place.Goals as goal

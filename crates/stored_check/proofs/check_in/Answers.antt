@@ -1,5 +1,4 @@
 -- `stored_check::check_in` meets its contract. Assumes nothing.
-use borrow.Author.Rules.{rules}
 use mathlib.Core.Path.{◌∙◌, sym}
 use native.Mathlib.Omega.{arith}
 use Rattle.stored_check.specs.Answer.{answer_of}

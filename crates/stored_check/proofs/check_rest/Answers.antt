@@ -1,5 +1,4 @@
 -- `stored_check::check_rest` meets its contract. Assumes nothing.
-use borrow.Author.Rules.{rules}
 use native.Mathlib.Omega.{arith}
 use Rattle.stored_check.specs.Answer.{answer_of}
 use Rattle.stored_check.specs.Stages.{left_wrong, left_right, count_wrong, count_right}

@@ -1,5 +1,4 @@
 -- `stored_check::check_with` meets its contract. Assumes nothing.
-use borrow.Author.Rules.{rules}
 use native.Mathlib.Omega.{arith}
 use Rattle.stored_check.specs.Answer.{answer_of}
 use Rattle.stored_check.specs.Stages.{nodes_wrong, nodes_right}

@@ -1,11 +1,8 @@
 -- `stored_check::first_count` meets its contract. Assumes nothing.
-use Prim.Native.Nat.{◌≤◌, ◌-◌}
-use mathlib.Core.Path.{◌≡◌, sym, ◌∙◌}
+use Prim.Native.Nat.{◌-◌}
+use mathlib.Core.Path.{sym, ◌∙◌}
 use native.Mathlib.Omega.{arith}
-use borrow.Author.Rules.{rules}
-use Rattle.spec_tests.specs.Rules.{first}
-use Rattle.spec_tests.specs.Laws.{from, begins, passed, found, ended}
-use Rattle.spec_netlist.specs.Accept.{wrong_count}
+use Rattle.spec_tests.specs.Laws.{begins, passed, found, ended}
 use Rattle.stored_check.specs.Stages.{count_differs, count_agrees}
 use Rattle.stored_check.proofs.first_count.Goals as goal
 

@@ -1,11 +1,8 @@
 -- `stored_check::first_left` meets its contract. Assumes nothing.
-use Prim.Native.Nat.{◌≤◌, ◌-◌}
-use mathlib.Core.Path.{◌≡◌, sym, ◌∙◌}
+use Prim.Native.Nat.{◌-◌}
+use mathlib.Core.Path.{sym, ◌∙◌}
 use native.Mathlib.Omega.{arith}
-use borrow.Author.Rules.{rules}
-use Rattle.spec_tests.specs.Rules.{first}
-use Rattle.spec_tests.specs.Laws.{from, begins, passed, found, ended}
-use Rattle.spec_netlist.specs.Accept.{nets, alone}
+use Rattle.spec_tests.specs.Laws.{begins, passed, found, ended}
 use Rattle.stored_check.proofs.first_left.Goals as goal
 
 pub loop-n-init : goal.loop-n-init

@@ -1,5 +1,4 @@
 -- `stored_check::is_left` meets its contract. Assumes nothing.
-use borrow.Author.Rules.{rules}
 use mathlib.Core.Path.{ap}
 use mathlib.Core.Bool.{not}
 use Rattle.spec_tests.specs.Laws.{and_miss, and_skip}

@@ -1,5 +1,4 @@
 -- `stored_check::list_end` meets its contract. Assumes nothing.
-use borrow.Author.Rules.{rules}
 use native.Mathlib.Omega.{arith}
 use Rattle.stored_check.specs.Cut.{end_short, end_none, end_told}
 use Rattle.stored_check.proofs.list_end.Goals as goal

@@ -1,5 +1,4 @@
 -- `stored_check::numbers` meets its contract. Assumes nothing.
-use borrow.Author.Rules.{rules}
 use Rattle.spec_call.specs.Call.{numbers_of}
 use Rattle.stored_check.specs.Answer.{answer_of}
 use Rattle.stored_check.proofs.numbers.Goals as goal

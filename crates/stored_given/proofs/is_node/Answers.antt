@@ -1,5 +1,4 @@
 -- `stored_given::is_node` meets its contract. Assumes nothing.
-use borrow.Author.Rules.{rules}
 use mathlib.Core.Path.{refl}
 use Rattle.spec_tests.specs.Laws.{lt_same}
 use Rattle.spec_netlist.specs.Given.{is_node}

@@ -1,5 +1,4 @@
 -- `stored_given::node` meets its contract. Assumes nothing.
-use borrow.Author.Rules.{rules}
 use Rattle.stored_given.specs.Records.{no_node, the_node, not_told_true, not_told_false}
 use mathlib.Core.Path.{ap}
 use mathlib.Core.Bool.{not}

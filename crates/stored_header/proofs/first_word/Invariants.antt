@@ -1,10 +1,8 @@
 -- `stored_header::first_word` meets its contract. The loop's invariant: no header word below i is wrong. Assumes nothing.
-use borrow.Author.Rules.{rules}
 use Prim.Native.Nat.{◌≤◌, ◌-◌}
-use mathlib.Core.Path.{◌≡◌, sym, ap, ◌∙◌}
-use native.Mathlib.Omega.{arith}
+use mathlib.Core.Path.{◌≡◌}
 use Rattle.spec_tests.specs.Rules.{first}
-use Rattle.spec_tests.specs.Laws.{from, begins, passed, found, ended}
+use Rattle.spec_tests.specs.Laws.{from}
 use Rattle.spec_netlist.specs.Accept.{wrong_header}
 use Rattle.stored_header.proofs.first_word.Given as goal
 

@@ -1,5 +1,4 @@
 -- `stored_header::too_short` meets its contract. Assumes nothing.
-use borrow.Author.Rules.{rules}
 use mathlib.Core.Path.{refl}
 use native.Mathlib.Omega.{arith}
 use Rattle.spec_tests.specs.Laws.{or_hit, or_skip, lt_yes, lt_no, lt_same}

@@ -1,5 +1,4 @@
 -- `stored_header::wrong_offset` meets its contract. Assumes nothing.
-use borrow.Author.Rules.{rules}
 use mathlib.Core.Path.{refl, sym}
 use native.Mathlib.Omega.{arith}
 use Rattle.spec_tests.specs.Rules.{outside}

@@ -1,5 +1,4 @@
 -- `stored_list::first_in_record` meets its contract. Assumes nothing.
-use borrow.Author.Rules.{rules}
 use mathlib.Core.Path.{sym, ◌∙◌}
 use native.Mathlib.Omega.{arith}
 use Rattle.stored_list.specs.Sorts.{fits_yes, fits_no, fits_told, first_wrong_law, port_there, register_there, arithmetic_there, comparison_there, port_first, register_first, memory_first, arithmetic_first, comparison_first}

@@ -1,10 +1,8 @@
 -- `stored_list::first_word` meets its contract. Assumes nothing.
 use Prim.Native.Nat.{◌-◌}
-use mathlib.Core.Path.{◌≡◌, refl, sym, ◌∙◌}
+use mathlib.Core.Path.{refl, sym, ◌∙◌}
 use native.Mathlib.Omega.{arith}
-use borrow.Author.Rules.{rules}
-use lib.ListN.{length}
-use Rattle.stored_list.specs.Walking.{Walking, start, met_some, met_short, met_wrong, met_inside, met_fits, met_some_more, met_sort, met_next, last_answer, last_marked, last_counted, counts_room}
+use Rattle.stored_list.specs.Walking.{start, met_some, met_short, met_wrong, met_inside, met_fits, met_some_more, met_sort, met_next, last_answer, last_marked, last_counted, counts_room}
 use Rattle.stored_list.proofs.first_word.Goals as goal
 
 pub clear-requires : goal.clear-requires

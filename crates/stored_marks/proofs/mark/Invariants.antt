@@ -1,14 +1,9 @@
 -- `stored_marks::mark` meets its contract. Assumes nothing.
 use Prim.Native.Nat.{ℕ, ◌≤◌, ◌<◌, ◌-◌}
-use mathlib.Core.Path.{◌≡◌, refl, sym, ap, ◌∙◌}
-use native.Mathlib.Omega.{arith}
-use borrow.Author.Rules.{rules}
+use mathlib.Core.Path.{◌≡◌}
 use lib.ListN.{length, take, get_or}
-use lib.Seq.{take_all}
 use Rattle.spec_tests.specs.Rules.{◌≢?◌, ◌or◌}
 use Rattle.spec_netlist.specs.Accept.{member}
-use Rattle.stored_marks.specs.Keep.{mark_start, mark_step}
-use mathlib.Core.List.{List}
 use Rattle.stored_marks.proofs.mark.Given as goal
 
 abbrev pub invariant-loop-i : goal.invariant-loop-i

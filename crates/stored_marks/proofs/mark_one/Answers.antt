@@ -1,5 +1,4 @@
 -- `stored_marks::mark_one` meets its contract. Assumes nothing.
-use borrow.Author.Rules.{rules}
 use native.Mathlib.Omega.{arith}
 use Rattle.stored_marks.specs.Keep.{mark_none, mark_set}
 use Rattle.stored_marks.proofs.mark_one.Goals as goal

@@ -1,5 +1,4 @@
 -- `stored_marks::port_own` meets its contract. Assumes nothing.
-use borrow.Author.Rules.{rules}
 use mathlib.Core.Path.{ap₂, ◌∙◌}
 use Rattle.spec_rules.specs.NetlistImage.{memory_port_of}
 use Prim.Native.Nat.{ℕ, ◌+◌}

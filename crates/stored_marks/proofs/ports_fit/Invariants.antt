@@ -1,14 +1,8 @@
 -- `stored_marks::ports_fit` meets its contract. Assumes nothing.
 use Prim.Native.Nat.{◌+◌, ◌≤◌, ◌-◌}
-use mathlib.Core.Bool.{not}
-use mathlib.Core.Path.{◌≡◌, sym, ap, ◌∙◌}
-use native.Mathlib.Omega.{arith}
-use borrow.Author.Rules.{rules}
+use mathlib.Core.Path.{◌≡◌}
 use lib.ListN.{length, drop, get_or}
-use Rattle.spec_tests.specs.Laws.{lt_yes, lt_no}
 use Rattle.spec_netlist.specs.Accept.{ports_length}
-use Rattle.spec_rules.specs.NetlistImage.{port_length}
-use Rattle.stored_marks.specs.Fit.{ports_start, ports_passed, ports_ended}
 use Rattle.stored_marks.proofs.ports_fit.Given as goal
 
 abbrev pub invariant-loop-i : goal.invariant-loop-i

@@ -1,7 +1,6 @@
 -- `stored_memories::first_control` meets its contract. Assumes nothing.
 use mathlib.Core.Path.{refl, sym, ◌∙◌}
 use native.Mathlib.Omega.{arith}
-use borrow.Author.Rules.{rules}
 use Rattle.stored_memories.specs.Ports.{controls_begin, no_later, control_read, control_read_level, control_hit, control_skip}
 use Rattle.stored_view.specs.Scan.{at_hit}
 use Rattle.stored_memories.proofs.first_control.Goals as goal

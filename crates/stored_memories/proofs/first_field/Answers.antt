@@ -1,6 +1,5 @@
 -- `stored_memories::first_field` meets its contract. Assumes nothing.
 use mathlib.Core.Path.{refl, sym, ◌∙◌}
-use borrow.Author.Rules.{rules}
 use Rattle.stored_view.specs.Scan.{at_end_law}
 use Rattle.spec_tests.specs.Laws.{lt_yes, lt_no, ne_yes, ne_no, inside}
 use Rattle.stored_memories.specs.Ports.{too_low}
@@ -32,37 +31,34 @@ returns-then-l-gt2 c = (
 )
 
 pub returns-then-l-ne1 : goal.returns-then-l-ne1
-returns-then-l-ne1 c =
-    (
-      λ ws earlier.
-          field_skip _ _ _ 1 refl (field_index _ _ _ ∙ lt_no _ _ c.if-l-gt15.false)
-          (field_skip _ _ _ 2 refl (field_depth _ _ _ ∙ (sym c.is_outside.ensures ∙ c.if-is_outside.false))
-          (field_skip _ _ _ 3 refl (field_style _ _ _ ∙ lt_no _ _ c.if-l-gt2.false)
-          (field_hit _ _ _ 4 refl (field_latency _ _ _ ∙ ne_yes _ _ c.if-l-ne1.true)))),
-      too_low 4 6 refl,
-    )
+returns-then-l-ne1 c = (
+  λ ws earlier.
+      field_skip _ _ _ 1 refl (field_index _ _ _ ∙ lt_no _ _ c.if-l-gt15.false)
+      (field_skip _ _ _ 2 refl (field_depth _ _ _ ∙ (sym c.is_outside.ensures ∙ c.if-is_outside.false))
+      (field_skip _ _ _ 3 refl (field_style _ _ _ ∙ lt_no _ _ c.if-l-gt2.false)
+      (field_hit _ _ _ 4 refl (field_latency _ _ _ ∙ ne_yes _ _ c.if-l-ne1.true)))),
+  too_low 4 6 refl,
+)
 
 pub returns-then-is_outside-2 : goal.returns-then-is_outside-2
-returns-then-is_outside-2 c =
-    (
-      λ ws earlier.
-          field_skip _ _ _ 1 refl (field_index _ _ _ ∙ lt_no _ _ c.if-l-gt15.false)
-          (field_skip _ _ _ 2 refl (field_depth _ _ _ ∙ (sym c.is_outside.ensures ∙ c.if-is_outside.false))
-          (field_skip _ _ _ 3 refl (field_style _ _ _ ∙ lt_no _ _ c.if-l-gt2.false)
-          (field_skip _ _ _ 4 refl (field_latency _ _ _ ∙ ne_no _ _ c.if-l-ne1.false)
-          (field_hit _ _ _ 5 refl (field_count _ _ _ ∙ (sym c.is_outside-2.ensures ∙ c.if-is_outside-2.true)))))),
-      too_low 5 6 refl,
-    )
+returns-then-is_outside-2 c = (
+  λ ws earlier.
+      field_skip _ _ _ 1 refl (field_index _ _ _ ∙ lt_no _ _ c.if-l-gt15.false)
+      (field_skip _ _ _ 2 refl (field_depth _ _ _ ∙ (sym c.is_outside.ensures ∙ c.if-is_outside.false))
+      (field_skip _ _ _ 3 refl (field_style _ _ _ ∙ lt_no _ _ c.if-l-gt2.false)
+      (field_skip _ _ _ 4 refl (field_latency _ _ _ ∙ ne_no _ _ c.if-l-ne1.false)
+      (field_hit _ _ _ 5 refl (field_count _ _ _ ∙ (sym c.is_outside-2.ensures ∙ c.if-is_outside-2.true)))))),
+  too_low 5 6 refl,
+)
 
 pub returns : goal.returns
-returns c =
-    (
-      λ ws earlier.
-          field_skip _ _ _ 1 refl (field_index _ _ _ ∙ lt_no _ _ c.if-l-gt15.false)
-          (field_skip _ _ _ 2 refl (field_depth _ _ _ ∙ (sym c.is_outside.ensures ∙ c.if-is_outside.false))
-          (field_skip _ _ _ 3 refl (field_style _ _ _ ∙ lt_no _ _ c.if-l-gt2.false)
-          (field_skip _ _ _ 4 refl (field_latency _ _ _ ∙ ne_no _ _ c.if-l-ne1.false)
-          (field_skip _ _ _ 5 refl (field_count _ _ _ ∙ (sym c.is_outside-2.ensures ∙ c.if-is_outside-2.false))
-          (at_end_law _ 6))))),
-      λ h. inside _ _ _ (sym c.is_outside-2.ensures ∙ c.if-is_outside-2.false),
-    )
+returns c = (
+  λ ws earlier.
+      field_skip _ _ _ 1 refl (field_index _ _ _ ∙ lt_no _ _ c.if-l-gt15.false)
+      (field_skip _ _ _ 2 refl (field_depth _ _ _ ∙ (sym c.is_outside.ensures ∙ c.if-is_outside.false))
+      (field_skip _ _ _ 3 refl (field_style _ _ _ ∙ lt_no _ _ c.if-l-gt2.false)
+      (field_skip _ _ _ 4 refl (field_latency _ _ _ ∙ ne_no _ _ c.if-l-ne1.false)
+      (field_skip _ _ _ 5 refl (field_count _ _ _ ∙ (sym c.is_outside-2.ensures ∙ c.if-is_outside-2.false))
+      (at_end_law _ 6))))),
+  λ h. inside _ _ _ (sym c.is_outside-2.ensures ∙ c.if-is_outside-2.false),
+)

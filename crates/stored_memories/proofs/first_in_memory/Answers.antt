@@ -1,7 +1,6 @@
 -- `stored_memories::first_in_memory` meets its contract. Assumes nothing.
 use mathlib.Core.Path.{◌≡◌}
 use native.Mathlib.Omega.{arith}
-use borrow.Author.Rules.{rules}
 use lib.ListN.{get_or}
 use Rattle.stored_memories.specs.Ports.{port_long}
 use Rattle.stored_memories.specs.Memory.{fields_fit, width_fits, first_room, second_room, fields_wrong, fields_right, first_wrong_law, first_alone, second_answers}

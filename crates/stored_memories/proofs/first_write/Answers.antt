@@ -1,6 +1,5 @@
 -- `stored_memories::first_write` meets its contract. Assumes nothing.
 use mathlib.Core.Path.{refl, sym, ◌∙◌}
-use borrow.Author.Rules.{rules}
 use Rattle.spec_tests.specs.Laws.{lt_yes, lt_no}
 use Rattle.stored_memories.specs.Ports.{no_later, control_write, control_write_level, control_hit, control_skip}
 use Rattle.stored_memories.proofs.first_write.Goals as goal

@@ -1,9 +1,6 @@
 -- `stored_nodes::find` meets its contract. The loop's invariant: the search stands at slot `at`, `rest` is what is left of the key, and at most 47 nodes were passed.
-use borrow.Author.Rules.{rules}
 use Prim.Native.Nat.{◌-◌}
-use mathlib.Core.Path.{sym, ◌∙◌}
-use native.Mathlib.Omega.{arith}
-use Rattle.stored_nodes.specs.Lookup.{Searches, searches_start, searches_low, searches_free, searches_same, searches_more}
+use Rattle.stored_nodes.specs.Lookup.{Searches}
 use Rattle.stored_nodes.proofs.find.Given as goal
 
 abbrev pub invariant-loop-depth : goal.invariant-loop-depth

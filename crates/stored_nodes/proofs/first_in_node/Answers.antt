@@ -1,5 +1,4 @@
 -- `stored_nodes::first_in_node` meets its contract. Assumes nothing.
-use borrow.Author.Rules.{rules}
 use mathlib.Core.Path.{sym}
 use native.Mathlib.Omega.{arith}
 use Rattle.stored_view.specs.Opened.{node_at}

@@ -1,5 +1,4 @@
 -- `stored_nodes::first_input` meets its contract. Assumes nothing.
-use borrow.Author.Rules.{rules}
 use native.Mathlib.Omega.{arith}
 use Rattle.stored_nodes.specs.Words.{node_kind, input_0, input_1, input_2, input_none}
 use Rattle.stored_nodes.proofs.first_input.Goals as goal

@@ -1,10 +1,10 @@
 -- `stored_nodes::first_unused` meets its contract. The loop's invariant: no word from a to i is wrong. Assumes nothing.
-use Prim.Native.Nat.{◌≤◌, ◌-◌}
-use mathlib.Core.Path.{◌≡◌, refl, sym, ◌∙◌}
+use Prim.Native.Nat.{◌-◌}
+use mathlib.Core.Path.{refl, sym, ◌∙◌}
 use native.Mathlib.Omega.{arith}
-use Rattle.spec_tests.specs.Laws.{from, passed, ne_yes, ne_no}
+use Rattle.spec_tests.specs.Laws.{passed, ne_yes, ne_no}
 use Rattle.stored_view.specs.Scan.{at_hit, at_last}
-use Rattle.stored_nodes.specs.Words.{wrong_node, unused_word}
+use Rattle.stored_nodes.specs.Words.{unused_word}
 use Rattle.stored_nodes.proofs.first_unused.Goals as goal
 
 pub loop-i-init : goal.loop-i-init

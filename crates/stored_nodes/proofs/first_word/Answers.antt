@@ -1,14 +1,9 @@
 -- `stored_nodes::first_word` meets its contract. The loop's invariant: no word of a node below n is wrong, the tree holds the nodes below n that belong to a record,
-use borrow.Author.Rules.{rules}
-use Prim.Native.Nat.{◌*◌, ◌≤◌, ◌-◌}
-use mathlib.Core.Path.{◌≡◌, refl, sym, ap₂, ◌∙◌}
+use Prim.Native.Nat.{◌-◌}
+use mathlib.Core.Path.{refl, sym, ap₂, ◌∙◌}
 use native.Mathlib.Omega.{arith}
-use lib.ListN.{length}
-use Rattle.spec_tests.specs.Rules.{first}
 use Rattle.spec_tests.specs.Laws.{from, begins}
-use Rattle.spec_netlist.specs.Accept.{nets, limit}
-use Rattle.stored_nodes.specs.Tree.{slots, Tree}
-use Rattle.stored_nodes.specs.Words.{wrong_node, node_hit, node_skip}
+use Rattle.stored_nodes.specs.Words.{node_hit, node_skip}
 use Rattle.stored_nodes.specs.Lookup.{cleared}
 use Rattle.stored_nodes.proofs.first_word.Goals as goal
 
@@ -27,13 +22,12 @@ returns-then-f-lt6 c =
     node_hit _ _ (omega arith) c.first_in_node-f.ensures.0 c.if-f-lt6.true ∙ sym c.loop-n.invariant.1
 
 pub loop-n-preserved : goal.loop-n-preserved
-loop-n-preserved c =
-    (
-      omega arith,
-      c.loop-n.invariant.1 ∙ node_skip _ _ (omega arith) c.first_in_node-f.ensures.0 (omega arith),
-      c.first_in_node-f.auto.table ∙ c.loop-n.invariant.2,
-      c.first_in_node-f.ensures.1 (omega arith),
-    )
+loop-n-preserved c = (
+  omega arith,
+  c.loop-n.invariant.1 ∙ node_skip _ _ (omega arith) c.first_in_node-f.ensures.0 (omega arith),
+  c.first_in_node-f.auto.table ∙ c.loop-n.invariant.2,
+  c.first_in_node-f.ensures.1 (omega arith),
+)
 
 pub first_unused-requires : goal.first_unused-requires
 first_unused-requires c =

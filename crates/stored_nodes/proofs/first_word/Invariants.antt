@@ -1,15 +1,12 @@
 -- `stored_nodes::first_word` meets its contract. The loop's invariant: no word of a node below n is wrong, the tree holds the nodes below n that belong to a record,
-use borrow.Author.Rules.{rules}
 use Prim.Native.Nat.{◌*◌, ◌≤◌, ◌-◌}
-use mathlib.Core.Path.{◌≡◌, refl, sym, ap₂, ◌∙◌}
-use native.Mathlib.Omega.{arith}
+use mathlib.Core.Path.{◌≡◌}
 use lib.ListN.{length}
 use Rattle.spec_tests.specs.Rules.{first}
-use Rattle.spec_tests.specs.Laws.{from, begins}
+use Rattle.spec_tests.specs.Laws.{from}
 use Rattle.spec_netlist.specs.Accept.{nets, limit}
 use Rattle.stored_nodes.specs.Tree.{slots, Tree}
-use Rattle.stored_nodes.specs.Words.{wrong_node, node_hit, node_skip}
-use Rattle.stored_nodes.specs.Lookup.{cleared}
+use Rattle.stored_nodes.specs.Words.{wrong_node}
 use Rattle.stored_nodes.proofs.first_word.Given as goal
 
 abbrev pub invariant-loop-n : goal.invariant-loop-n

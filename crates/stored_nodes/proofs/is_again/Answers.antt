@@ -1,5 +1,4 @@
 -- `stored_nodes::is_again` meets its contract. Assumes nothing.
-use borrow.Author.Rules.{rules}
 use mathlib.Core.Bool.{true≢false}
 use native.Mathlib.Omega.{arith}
 use Rattle.stored_nodes.specs.Lookup.{again_yes, again_no, again_placed}

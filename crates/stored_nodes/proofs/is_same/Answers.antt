@@ -1,5 +1,4 @@
 -- `stored_nodes::is_same` meets its contract. Assumes nothing.
-use borrow.Author.Rules.{rules}
 use mathlib.Core.Path.{sym}
 use native.Mathlib.Omega.{arith}
 use Rattle.spec_tests.specs.Laws.{and_miss, and_skip, eq_yes, eq_no, eq_same}

@@ -1,5 +1,4 @@
 -- `stored_nodes::key` meets its contract. Assumes nothing.
-use borrow.Author.Rules.{rules}
 use native.Mathlib.Omega.{arith}
 use Rattle.stored_view.specs.Opened.{node_at}
 use Rattle.stored_nodes.specs.Words.{node_kind}

@@ -1,5 +1,4 @@
 -- `stored_nodes::root` meets its contract. Assumes nothing.
-use borrow.Author.Rules.{rules}
 use Rattle.stored_nodes.specs.Lookup.{root_read}
 use Rattle.stored_nodes.proofs.root.Goals as goal
 

@@ -1,5 +1,4 @@
 -- `stored_nodes::wrong_input` meets its contract. Assumes nothing.
-use borrow.Author.Rules.{rules}
 use mathlib.Core.Path.{refl, ap}
 use mathlib.Core.Bool.{not}
 use Rattle.spec_tests.specs.Laws.{pick_hit, pick_skip, lt_yes, lt_no, lt_same, ne_same}

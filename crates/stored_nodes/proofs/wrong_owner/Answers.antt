@@ -1,5 +1,4 @@
 -- `stored_nodes::wrong_owner` meets its contract. Assumes nothing.
-use borrow.Author.Rules.{rules}
 use mathlib.Core.Path.{refl, sym, ◌∙◌}
 use native.Mathlib.Omega.{arith}
 use Rattle.spec_tests.specs.Laws.{pick_hit, pick_skip, or_left, or_right, or_skip, eq_yes, eq_no, lt_same, ne_same}

@@ -1,11 +1,8 @@
 -- `stored_records::above` meets its contract. The loop's invariant: the least net above the words passed, and then above those from i on, is the answer. Assumes nothing.
-use mathlib.Core.Path.{◌≡◌, refl, sym, ◌∙◌}
-use mathlib.Core.Logic.{⊎_elim}
-use Prim.Native.Nat.{max, ◌+◌, ◌-◌, ◌≤◌}
-use native.Mathlib.Omega.{arith}
-use borrow.Author.Rules.{rules}
-use lib.ListN.{get_or, take, drop}
-use Rattle.stored_records.specs.Above.{above_all, above_none, above_more}
+use mathlib.Core.Path.{◌≡◌}
+use Prim.Native.Nat.{◌-◌, ◌≤◌}
+use lib.ListN.{take, drop}
+use Rattle.stored_records.specs.Above.{above_all}
 use Rattle.stored_records.proofs.above.Given as goal
 
 abbrev pub invariant-loop-i : goal.invariant-loop-i

@@ -1,7 +1,6 @@
 -- `stored_records::above_carry` meets its contract. Assumes nothing.
 use mathlib.Core.Path.{refl}
 use native.Mathlib.Omega.{arith}
-use borrow.Author.Rules.{rules}
 use Rattle.spec_tests.specs.Laws.{pick_hit, pick_skip, eq_yes, eq_no}
 use Rattle.stored_records.specs.Above.{above_carry}
 use Rattle.stored_records.proofs.above_carry.Goals as goal

@@ -1,6 +1,5 @@
 -- `stored_records::first_control` meets its contract. Assumes nothing.
 use mathlib.Core.Path.{refl, sym, ◌∙◌}
-use borrow.Author.Rules.{rules}
 use Rattle.spec_tests.specs.Laws.{lt_yes, lt_no}
 use Rattle.stored_records.specs.Words.{register_hit, register_skip, register_data, register_clock, register_edge}
 use Rattle.stored_records.proofs.first_control.Goals as goal

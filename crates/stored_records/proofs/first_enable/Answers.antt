@@ -1,6 +1,5 @@
 -- `stored_records::first_enable` meets its contract. Assumes nothing.
 use mathlib.Core.Path.{refl, sym, ◌∙◌}
-use borrow.Author.Rules.{rules}
 use Rattle.stored_records.specs.Words.{register_hit, register_skip, register_enable, register_enable_level}
 use Rattle.stored_records.proofs.first_enable.Goals as goal
 

@@ -1,7 +1,6 @@
 -- `stored_records::first_in_arithmetic` meets its contract. Assumes nothing.
 use mathlib.Core.Path.{sym, ◌∙◌}
 use native.Mathlib.Omega.{arith}
-use borrow.Author.Rules.{rules}
 use Rattle.spec_tests.specs.Laws.{lt_yes, lt_no}
 use Rattle.stored_records.specs.Words.{arithmetic_head, arithmetic_operation, arithmetic_width, arithmetic_carry, arithmetic_inputs, arithmetic_outputs_law}
 use Rattle.stored_view.specs.Scan.{at_hit, at_skip}

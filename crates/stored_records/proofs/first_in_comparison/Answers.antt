@@ -2,7 +2,6 @@
 use mathlib.Core.Path.{sym, ◌∙◌}
 use Prim.Native.Nat.{◌+◌, ◌*◌}
 use native.Mathlib.Omega.{arith}
-use borrow.Author.Rules.{rules}
 use lib.ListN.{get_or}
 use Rattle.spec_tests.specs.Laws.{lt_yes, lt_no}
 use Rattle.stored_records.specs.Words.{comparison_head, comparison_operation, comparison_width, comparison_inputs, comparison_other, comparison_low, comparison_right}

@@ -1,8 +1,6 @@
 -- `stored_records::first_in_port` meets its contract. Assumes nothing.
 use mathlib.Core.Path.{sym, ◌∙◌}
-use mathlib.Core.Logic.{⊎_elim}
 use native.Mathlib.Omega.{arith}
-use borrow.Author.Rules.{rules}
 use Rattle.spec_tests.specs.Laws.{lt_yes, lt_no, inside}
 use Rattle.stored_records.specs.Words.{port_head, kind_input, kind_output, port_signal, port_width, port_kind, port_nets_law}
 use Rattle.stored_view.specs.Scan.{at_hit, at_skip}

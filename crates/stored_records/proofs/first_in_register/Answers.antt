@@ -1,6 +1,5 @@
 -- `stored_records::first_in_register` meets its contract. Assumes nothing.
 use mathlib.Core.Path.{refl, ◌∙◌}
-use borrow.Author.Rules.{rules}
 use Rattle.spec_tests.specs.Laws.{lt_yes, lt_no}
 use Rattle.stored_records.specs.Words.{register_hit, register_skip, register_index, register_bit_law, register_output}
 use Rattle.stored_records.proofs.first_in_register.Goals as goal

@@ -1,6 +1,5 @@
 -- `stored_records::first_reset` meets its contract. Assumes nothing.
 use mathlib.Core.Path.{refl, sym, ◌∙◌}
-use borrow.Author.Rules.{rules}
 use Rattle.stored_records.specs.Words.{register_hit, register_skip, register_reset, register_reset_level, register_reset_mode, register_reset_value}
 use Rattle.stored_view.specs.Scan.{at_end_law}
 use Rattle.stored_records.proofs.first_reset.Goals as goal

@@ -1,10 +1,8 @@
 -- `stored_records::first_wrong_output` meets its contract. The loop's invariant: no word from a to i - 1 is wrong, whatever the earlier records that the marks stand for. Assumes nothing.
-use mathlib.Core.Path.{◌≡◌, refl, sym, ap, ◌∙◌}
+use mathlib.Core.Path.{◌≡◌}
 use mathlib.Core.List.{List}
 use Prim.Native.Nat.{ℕ, ◌-◌, ◌≤◌}
-use native.Mathlib.Omega.{arith}
-use borrow.Author.Rules.{rules}
-use Rattle.spec_tests.specs.Laws.{or_hit, or_skip, lt_yes, lt_no, from, here, passed, past}
+use Rattle.spec_tests.specs.Laws.{from}
 use Rattle.stored_view.specs.Opened.{Marked}
 use Rattle.stored_records.specs.Words.{wrong_output}
 use Rattle.stored_records.proofs.first_wrong_output.Given as goal

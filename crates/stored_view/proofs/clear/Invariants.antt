@@ -1,10 +1,7 @@
 -- `stored_view::clear` meets its contract. Assumes nothing.
 use Prim.Native.Nat.{ℕ, ◌≤◌, ◌<◌, ◌-◌}
-use mathlib.Core.Path.{◌≡◌, refl, sym}
-use native.Mathlib.Omega.{arith}
-use borrow.Author.Rules.{rules}
-use lib.ListN.{length, get_or, length-set}
-use Rattle.stored_view.specs.Clear.{clear_more}
+use mathlib.Core.Path.{◌≡◌}
+use lib.ListN.{length, get_or}
 use Rattle.stored_view.proofs.clear.Given as goal
 
 abbrev pub invariant-loop-i : goal.invariant-loop-i

@@ -1,12 +1,9 @@
 -- `stored_view::first_no_net` meets its contract. Assumes nothing.
 use Prim.Native.Nat.{◌≤◌, ◌-◌}
-use mathlib.Core.Path.{◌≡◌, refl, sym, ◌∙◌}
-use native.Mathlib.Omega.{arith}
-use borrow.Author.Rules.{rules}
+use mathlib.Core.Path.{◌≡◌}
 use lib.ListN.{get_or}
-use Rattle.spec_tests.specs.Laws.{from, passed}
+use Rattle.spec_tests.specs.Laws.{from}
 use Rattle.spec_netlist.specs.Accept.{no_net}
-use Rattle.stored_view.specs.Scan.{at_hit, at_last}
 use Rattle.stored_view.proofs.first_no_net.Given as goal
 
 abbrev pub invariant-loop-i : goal.invariant-loop-i

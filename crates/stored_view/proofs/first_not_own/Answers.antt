@@ -1,12 +1,8 @@
 -- `stored_view::first_not_own` meets its contract. Assumes nothing.
-use Prim.Native.Nat.{ℕ, ◌≤◌, ◌-◌}
-use mathlib.Core.List.{List}
-use mathlib.Core.Path.{◌≡◌, refl, sym, ◌∙◌}
+use Prim.Native.Nat.{◌-◌}
+use mathlib.Core.Path.{refl, sym, ◌∙◌}
 use native.Mathlib.Omega.{arith}
-use borrow.Author.Rules.{rules}
-use Rattle.spec_tests.specs.Laws.{from, passed}
-use Rattle.stored_view.specs.Opened.{Marked}
-use Rattle.stored_view.specs.Own.{not_own_at}
+use Rattle.spec_tests.specs.Laws.{passed}
 use Rattle.stored_view.specs.Scan.{at_hit, at_last}
 use Rattle.stored_view.proofs.first_not_own.Goals as goal
 

@@ -1,5 +1,4 @@
 -- `stored_view::no_net` meets its contract. Assumes nothing.
-use borrow.Author.Rules.{rules}
 use Rattle.spec_tests.specs.Rules.{◌<?◌}
 use Rattle.spec_netlist.specs.Accept.{no_net}
 use mathlib.Core.Path.{refl}

@@ -1,5 +1,4 @@
 -- `stored_view::no_optional` meets its contract. Assumes nothing.
-use borrow.Author.Rules.{rules}
 use Rattle.spec_tests.specs.Laws.{and_miss, and_skip, ne_yes, ne_no}
 use Rattle.spec_netlist.specs.Accept.{no_optional}
 use Rattle.stored_view.proofs.no_optional.Goals as goal

@@ -1,5 +1,4 @@
 -- `stored_view::not_own` meets its contract. Assumes nothing.
-use borrow.Author.Rules.{rules}
 use native.Mathlib.Omega.{arith}
 use Rattle.stored_view.specs.Opened.{own_none, own_kind, own_owner, own_bit, own_marked}
 use Rattle.spec_tests.specs.Rules.{◌≢?◌}

@@ -1,7 +1,6 @@
 -- `trace_answer::any_line` meets its contract. Assumes nothing.
 use Rattle.trace_keep.specs.Slots.{used_of}
 use Rattle.trace_answer.specs.Lines.{standing_of, given_name, answers_keep, answers_back, answers_settings}
-use borrow.Author.Rules.{rules}
 use Rattle.trace_answer.proofs.any_line.Goals as goal
 
 pub keep-done-requires : goal.keep-done-requires

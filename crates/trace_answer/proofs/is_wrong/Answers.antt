@@ -1,6 +1,5 @@
 -- `trace_answer::is_wrong` meets its contract. Assumes nothing.
 use Rattle.spec_tests.specs.Laws.{or_hit, or_skip, ne_yes, ne_no}
-use borrow.Author.Rules.{rules}
 use Rattle.trace_answer.proofs.is_wrong.Goals as goal
 
 pub returns-then-line-inputs : goal.returns-then-line-inputs

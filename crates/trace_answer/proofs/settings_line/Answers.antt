@@ -1,7 +1,6 @@
 -- `trace_answer::settings_line` meets its contract. Assumes nothing.
 use mathlib.Core.Path.{refl}
 use Rattle.trace_answer.specs.Settings.{settles_wrong, settles_clash, settles}
-use borrow.Author.Rules.{rules}
 use Rattle.trace_answer.proofs.settings_line.Goals as goal
 
 pub returns-then-is_wrong : goal.returns-then-is_wrong

@@ -1,6 +1,5 @@
 -- `trace_answer::unless_done` meets its contract. Assumes nothing.
 use Rattle.trace_answer.specs.Settings.{unless_yes, unless_no}
-use borrow.Author.Rules.{rules}
 use Rattle.trace_answer.proofs.unless_done.Goals as goal
 
 pub returns-then-done : goal.returns-then-done

@@ -1,6 +1,5 @@
 -- `trace_clash::clash_number` meets its contract. Assumes nothing.
 use Rattle.trace_clash.specs.Words.{number_clash, number_none}
-use borrow.Author.Rules.{rules}
 use Rattle.trace_clash.proofs.clash_number.Goals as goal
 
 pub returns-then-is_clash : goal.returns-then-is_clash

@@ -2,7 +2,6 @@
 use mathlib.Core.Path.{refl}
 use Rattle.trace_memory.specs.Ports.{second_is}
 use Rattle.trace_clash.specs.Words.{address_first, address_second, clash_one, clash_first, clash_second, clash_apart, clash_there}
-use borrow.Author.Rules.{rules}
 use mathlib.Core.Path.{ap}
 use mathlib.Core.Bool.{not}
 use Rattle.trace_clash.proofs.is_clash.Goals as goal

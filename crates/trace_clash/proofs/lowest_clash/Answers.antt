@@ -1,9 +1,7 @@
 -- `trace_clash::lowest_clash` meets its contract. Assumes nothing.
-use Prim.Native.Nat.{◌-◌, ◌≤◌}
-use mathlib.Core.Path.{◌≡◌}
+use Prim.Native.Nat.{◌-◌}
 use native.Mathlib.Omega.{arith}
-use Rattle.trace_clash.specs.Words.{lowest_clash, lowest_none, addressed_it, lowest_more, lowest_all}
-use borrow.Author.Rules.{rules}
+use Rattle.trace_clash.specs.Words.{lowest_none, addressed_it, lowest_more, lowest_all}
 use Rattle.trace_clash.proofs.lowest_clash.Goals as goal
 
 pub loop-i-init : goal.loop-i-init

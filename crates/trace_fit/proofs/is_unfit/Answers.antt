@@ -1,6 +1,5 @@
 -- `trace_fit::is_unfit` meets its contract. Assumes nothing.
 use Rattle.trace_fit.specs.Fit.{unfit_register, unfit_memory, unfit_bits, memories_small}
-use borrow.Author.Rules.{rules}
 use Rattle.trace_fit.proofs.is_unfit.Goals as goal
 
 pub returns-then-registers_unfit : goal.returns-then-registers_unfit

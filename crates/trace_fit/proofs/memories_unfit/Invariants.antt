@@ -1,14 +1,11 @@
 -- `trace_fit::memories_unfit` meets its contract. Assumes nothing.
 use Prim.Native.Nat.{◌-◌, ◌≤◌}
-use mathlib.Core.Path.{◌≡◌, sym, ◌∙◌}
-use native.Mathlib.Omega.{arith}
+use mathlib.Core.Path.{◌≡◌}
 use lib.ListN.{drop, get_or}
 use Rattle.spec_tests.specs.Rules.{first}
-use Rattle.spec_tests.specs.Laws.{from, begins, passed, any_yes, any_no}
+use Rattle.spec_tests.specs.Laws.{from}
 use Rattle.spec_trace.specs.Opened.{memory_unfit}
 use Rattle.spec_rules.specs.NetlistImage.{memory_of}
-use Rattle.trace_fit.specs.Fit.{read_at}
-use borrow.Author.Rules.{rules}
 use Rattle.trace_fit.proofs.memories_unfit.Given as goal
 
 abbrev pub invariant-loop-i : goal.invariant-loop-i

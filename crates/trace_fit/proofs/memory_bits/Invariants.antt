@@ -1,11 +1,8 @@
 -- `trace_fit::memory_bits` meets its contract. Assumes nothing.
 use Prim.Native.Nat.{◌*◌, ◌-◌, ◌≤◌}
-use mathlib.Core.Path.{◌≡◌, sym, ◌∙◌}
-use native.Mathlib.Omega.{arith}
+use mathlib.Core.Path.{◌≡◌}
 use Rattle.spec_tests.specs.Rules.{sum_to}
-use Rattle.spec_tests.specs.Laws.{sum_none, sum_more}
-use Rattle.trace_fit.specs.Fit.{bits_at, bits_read, sum_all}
-use borrow.Author.Rules.{rules}
+use Rattle.trace_fit.specs.Fit.{bits_at}
 use Rattle.trace_fit.proofs.memory_bits.Given as goal
 
 abbrev pub invariant-loop-i : goal.invariant-loop-i

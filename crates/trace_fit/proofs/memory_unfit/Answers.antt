@@ -1,6 +1,5 @@
 -- `trace_fit::memory_unfit` meets its contract. Assumes nothing.
 use Rattle.trace_fit.specs.Fit.{first_unfit, no_second, second_clock}
-use borrow.Author.Rules.{rules}
 use Rattle.trace_fit.proofs.memory_unfit.Goals as goal
 
 pub returns-then-port_unfit : goal.returns-then-port_unfit

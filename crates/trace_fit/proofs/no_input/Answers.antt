@@ -1,6 +1,5 @@
 -- `trace_fit::no_input` meets its contract. Assumes nothing.
 use Rattle.trace_fit.specs.Fit.{input_no}
-use borrow.Author.Rules.{rules}
 use Rattle.trace_fit.proofs.no_input.Goals as goal
 
 pub returns : goal.returns

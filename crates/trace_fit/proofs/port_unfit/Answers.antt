@@ -2,7 +2,6 @@
 use native.Mathlib.Omega.{arith}
 use Rattle.law_sorts.specs.Memories.{own_length}
 use Rattle.trace_fit.specs.Fit.{clock_at}
-use borrow.Author.Rules.{rules}
 use Rattle.trace_fit.proofs.port_unfit.Goals as goal
 
 pub overflow_sub-port_length : goal.overflow_sub-port_length

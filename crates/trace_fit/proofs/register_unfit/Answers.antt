@@ -1,6 +1,5 @@
 -- `trace_fit::register_unfit` meets its contract. Assumes nothing.
 use Rattle.trace_fit.specs.Fit.{clock_unfit, reset_absent, reset_other, reset_there}
-use borrow.Author.Rules.{rules}
 use Rattle.trace_fit.proofs.register_unfit.Goals as goal
 
 pub returns-then-no_input : goal.returns-then-no_input

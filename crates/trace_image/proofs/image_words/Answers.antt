@@ -3,8 +3,6 @@ use mathlib.Core.Path.{sym, ap, ap₂, ◌∙◌}
 use Prim.Native.Nat.{◌+◌}
 use Rattle.trace_image.specs.Answer.{answer_of}
 use Rattle.trace_image.specs.Whole.{words_right, words_given}
-use borrow.Author.Rules.{rules}
-use borrow.Author.Rules.{rules}
 use Rattle.trace_image.proofs.image_words.Goals as goal
 
 pub returns-in-Right : goal.returns-in-Right

@@ -3,8 +3,6 @@ use mathlib.Core.Path.{refl}
 use native.Mathlib.Omega.{arith}
 use Rattle.spec_tests.specs.Laws.{lt_same}
 use Rattle.trace_image.specs.Headed.{other_short, other_limit, other_words}
-use borrow.Author.Rules.{rules}
-use borrow.Author.Rules.{rules}
 use Rattle.trace_image.proofs.is_other.Goals as goal
 
 pub returns-then-net-lt-HEADER_LENGTH : goal.returns-then-net-lt-HEADER_LENGTH

@@ -2,8 +2,6 @@
 use mathlib.Core.Path.{sym, ap, ◌∙◌}
 use Rattle.trace_image.specs.Answer.{answer_of}
 use Rattle.trace_image.specs.Headed.{heads, opened_fine, opened_refused}
-use borrow.Author.Rules.{rules}
-use borrow.Author.Rules.{rules}
 use Rattle.trace_image.proofs.judge.Goals as goal
 
 pub check_small-requires : goal.check_small-requires

@@ -3,8 +3,6 @@ use mathlib.Core.Path.{sym, ◌∙◌}
 use native.Mathlib.Omega.{arith}
 use Rattle.trace_image.specs.Answer.{answer_of}
 use Rattle.trace_image.specs.Headed.{head_wrong, head_other, head_short, head_right}
-use borrow.Author.Rules.{rules}
-use borrow.Author.Rules.{rules}
 use Rattle.trace_image.proofs.judge_header.Goals as goal
 
 pub overflow_cast-result : goal.overflow_cast-result

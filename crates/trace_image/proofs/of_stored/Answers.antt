@@ -1,8 +1,6 @@
 -- `trace_image::of_stored` meets its contract. Assumes nothing.
 use Rattle.stored_check.specs.Answer as stored
 use Rattle.trace_image.specs.Answer.{answer_of}
-use borrow.Author.Rules.{rules}
-use borrow.Author.Rules.{rules}
 use Rattle.trace_image.proofs.of_stored.Goals as goal
 
 pub returns-in-Right : goal.returns-in-Right

@@ -1,11 +1,9 @@
 -- `trace_image::read_words` meets its contract. Assumes nothing.
-use Prim.Native.Nat.{◌-◌, ◌/◌, ◌≤◌}
-use mathlib.Core.Path.{◌≡◌, refl, ◌∙◌}
+use Prim.Native.Nat.{◌-◌}
+use mathlib.Core.Path.{refl, ◌∙◌}
 use native.Mathlib.Omega.{arith}
-use lib.ListN.{length, length-set}
-use Rattle.trace_image.specs.Words.{Reading, reading_start, reading_more, reading_end}
-use borrow.Author.Rules.{rules}
-use borrow.Author.Rules.{rules}
+use lib.ListN.{length-set}
+use Rattle.trace_image.specs.Words.{reading_start, reading_more, reading_end}
 use Rattle.trace_image.proofs.read_words.Goals as goal
 
 pub loop-i-init : goal.loop-i-init

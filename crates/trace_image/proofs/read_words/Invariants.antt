@@ -1,11 +1,8 @@
 -- `trace_image::read_words` meets its contract. Assumes nothing.
 use Prim.Native.Nat.{◌-◌, ◌/◌, ◌≤◌}
-use mathlib.Core.Path.{◌≡◌, refl, ◌∙◌}
-use native.Mathlib.Omega.{arith}
-use lib.ListN.{length, length-set}
-use Rattle.trace_image.specs.Words.{Reading, reading_start, reading_more, reading_end}
-use borrow.Author.Rules.{rules}
-use borrow.Author.Rules.{rules}
+use mathlib.Core.Path.{◌≡◌}
+use lib.ListN.{length}
+use Rattle.trace_image.specs.Words.{Reading}
 use Rattle.trace_image.proofs.read_words.Given as goal
 
 abbrev pub invariant-loop-i : goal.invariant-loop-i

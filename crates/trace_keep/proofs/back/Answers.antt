@@ -3,7 +3,6 @@ use native.Mathlib.Omega.{arith}
 use mathlib.Core.Logic.{inl, inr}
 use Rattle.trace_names.specs.Searched.{place_told, place_there}
 use Rattle.trace_keep.specs.Kept.{back_none, back_done}
-use borrow.Author.Rules.{rules}
 use Rattle.trace_keep.proofs.back.Goals as goal
 
 pub number_of-n-requires : goal.number_of-n-requires

@@ -1,9 +1,8 @@
 -- `trace_keep::copy_words` meets its contract. Assumes nothing.
-use Prim.Native.Nat.{◌≤◌, ◌-◌}
+use Prim.Native.Nat.{◌-◌}
 use native.Mathlib.Omega.{arith}
 use mathlib.Core.Path.{refl}
-use Rattle.trace_keep.specs.Copies.{Copied, copied_none, copied_more, copied_all}
-use borrow.Author.Rules.{rules}
+use Rattle.trace_keep.specs.Copies.{copied_none, copied_more, copied_all}
 use Rattle.trace_keep.proofs.copy_words.Goals as goal
 
 pub loop-i-init : goal.loop-i-init

@@ -3,7 +3,6 @@ use native.Mathlib.Omega.{arith}
 use mathlib.Core.Path.{refl}
 use Rattle.trace_names.specs.Searched.{place_told, place_there}
 use Rattle.trace_keep.specs.Kept.{keep_first, keep_full, keep_done}
-use borrow.Author.Rules.{rules}
 use Rattle.trace_keep.proofs.keep.Goals as goal
 
 pub returns-then-k-eq0 : goal.returns-then-k-eq0

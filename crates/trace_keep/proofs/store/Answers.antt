@@ -2,7 +2,6 @@
 use native.Mathlib.Omega.{arith}
 use Rattle.trace_pass.specs.Steps.{size_is}
 use Rattle.trace_keep.specs.Kept.{stores}
-use borrow.Author.Rules.{rules}
 use Rattle.trace_keep.proofs.store.Goals as goal
 
 pub overflow_mul-slot : goal.overflow_mul-slot

@@ -2,7 +2,6 @@
 use Rattle.trace_clash.specs.Words.{addressed}
 use Rattle.trace_line.specs.State.{memories_fit}
 use Rattle.trace_line.proofs.Standing.{clash_taken, advance_ready, advance_taken}
-use borrow.Author.Rules.{rules}
 use Rattle.trace_line.proofs.advance.Goals as goal
 
 pub lowest_clash-clash-requires : goal.lowest_clash-clash-requires

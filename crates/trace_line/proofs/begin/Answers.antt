@@ -1,7 +1,6 @@
 -- `trace_line::begin` meets its contract. Assumes nothing.
 use mathlib.Core.Path.{refl}
 use Rattle.trace_line.proofs.Standing.{begin_ready, begin_after}
-use borrow.Author.Rules.{rules}
 use Rattle.trace_line.proofs.begin.Goals as goal
 
 pub run-requires : goal.run-requires

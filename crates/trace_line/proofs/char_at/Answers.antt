@@ -1,7 +1,6 @@
 -- `trace_line::char_at` meets its contract. Assumes nothing.
 use mathlib.Core.Path.{refl}
 use Rattle.trace_line.specs.Text.{char_in, char_past}
-use borrow.Author.Rules.{rules}
 use Rattle.trace_line.proofs.char_at.Goals as goal
 
 pub returns-then-i-line : goal.returns-then-i-line

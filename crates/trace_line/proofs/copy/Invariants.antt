@@ -1,10 +1,8 @@
 -- `trace_line::copy` meets its contract. Assumes nothing.
 use Prim.Native.Nat.{◌-◌}
-use mathlib.Core.Path.{◌≡◌, sym, ◌∙◌}
-use native.Mathlib.Omega.{arith}
+use mathlib.Core.Path.{◌≡◌}
 use lib.ListN.{length}
-use Rattle.trace_line.specs.Text.{Copied, copied_start, copied_more, copied_end}
-use borrow.Author.Rules.{rules}
+use Rattle.trace_line.specs.Text.{Copied}
 use Rattle.trace_line.proofs.copy.Given as goal
 
 abbrev pub invariant-loop-i : goal.invariant-loop-i

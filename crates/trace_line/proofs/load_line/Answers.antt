@@ -1,10 +1,8 @@
 -- `trace_line::load_line` meets its contract. Assumes nothing.
 use Prim.Native.Nat.{◌-◌}
-use mathlib.Core.Path.{◌≡◌, refl, sym, ◌∙◌}
-use lib.ListN.{length}
-use Rattle.trace_memory.specs.Spread.{Spreading, spread_start, spread_more, spread_end}
+use mathlib.Core.Path.{refl, sym, ◌∙◌}
+use Rattle.trace_memory.specs.Spread.{spread_start, spread_more, spread_end}
 use Rattle.trace_line.specs.Step.{char}
-use borrow.Author.Rules.{rules}
 use Rattle.trace_line.proofs.load_line.Goals as goal
 
 pub loop-i-init : goal.loop-i-init

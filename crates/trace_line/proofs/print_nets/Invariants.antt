@@ -1,13 +1,10 @@
 -- `trace_line::print_nets` meets its contract. Assumes nothing.
 use Prim.Native.Nat.{◌-◌}
-use mathlib.Core.Path.{◌∙◌, ap}
 use mathlib.Core.List.{map}
 use lib.ListN.{length, take}
 use Rattle.spec_trace.specs.Trace.{digit}
 use Rattle.listing_text.specs.Text.{Wrote}
 use Rattle.trace_step.specs.Words.{on}
-use Rattle.trace_line.specs.Text.{print_start, print_more, print_end}
-use borrow.Author.Rules.{rules}
 use Rattle.trace_line.proofs.print_nets.Given as goal
 
 abbrev pub invariant-loop-i : goal.invariant-loop-i

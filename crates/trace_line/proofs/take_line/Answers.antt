@@ -1,7 +1,6 @@
 -- `trace_line::take_line` meets its contract. Assumes nothing.
 use Rattle.trace_line.specs.Standing.{taken_first}
 use Rattle.trace_line.proofs.Standing.{at_first}
-use borrow.Author.Rules.{rules}
 use Rattle.trace_line.proofs.take_line.Goals as goal
 
 pub begin-requires : goal.begin-requires

@@ -1,9 +1,7 @@
 -- `trace_lines::line_end` meets its contract. Assumes nothing.
 use Prim.Native.Nat.{◌-◌}
 use native.Mathlib.Omega.{arith}
-use lib.ListN.{length}
-use Rattle.trace_lines.specs.Answers.{Passed, passed_none, passed_more, ends_at, ends_none}
-use borrow.Author.Rules.{rules}
+use Rattle.trace_lines.specs.Answers.{passed_none, passed_more, ends_at, ends_none}
 use Rattle.trace_lines.proofs.line_end.Goals as goal
 
 pub loop-i-init : goal.loop-i-init

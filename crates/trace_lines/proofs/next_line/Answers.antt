@@ -3,7 +3,6 @@ use mathlib.Core.Path.{refl}
 use native.Mathlib.Omega.{arith}
 use Rattle.trace_keep.specs.Slots.{roomy_same}
 use Rattle.trace_lines.specs.Answers.{line_there, limited, waited, answered}
-use borrow.Author.Rules.{rules}
 use Rattle.trace_lines.proofs.next_line.Goals as goal
 
 pub returns-then-end-bytes : goal.returns-then-end-bytes

@@ -1,6 +1,5 @@
 -- `trace_lines::wait` meets its contract. Assumes nothing.
 use Rattle.trace_lines.specs.Answers.{waits_long, waits_short}
-use borrow.Author.Rules.{rules}
 use Rattle.trace_lines.proofs.wait.Goals as goal
 
 pub returns-then-is_long : goal.returns-then-is_long

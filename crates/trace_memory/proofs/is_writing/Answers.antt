@@ -4,7 +4,6 @@ use mathlib.Core.Path.{ap}
 use native.Mathlib.Omega.{arith}
 use Rattle.law_sorts.specs.Memories.{own_length}
 use Rattle.trace_memory.specs.Ports.{tick_is, writes_is, not_writing, is_writing}
-use borrow.Author.Rules.{rules}
 use Rattle.trace_memory.proofs.is_writing.Goals as goal
 
 pub overflow_sub-e : goal.overflow_sub-e

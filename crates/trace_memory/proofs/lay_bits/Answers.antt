@@ -1,12 +1,11 @@
 -- `trace_memory::lay_bits` meets its contract. Assumes nothing.
 use Prim.Native.Nat.{◌-◌}
-use mathlib.Core.Path.{◌≡◌, refl, sym, ap, ◌∙◌}
+use mathlib.Core.Path.{refl, sym, ap, ◌∙◌}
 use native.Mathlib.Omega.{arith}
-use lib.ListN.{length, length-set}
+use lib.ListN.{length-set}
 use Rattle.spec_rtl.specs.Word.{bit}
 use Rattle.trace_step.specs.Words.{on}
-use Rattle.trace_memory.specs.Spread.{Laying, lay_start, lay_more, lay_end}
-use borrow.Author.Rules.{rules}
+use Rattle.trace_memory.specs.Spread.{lay_start, lay_more, lay_end}
 use Rattle.trace_memory.proofs.lay_bits.Goals as goal
 
 pub loop-i-init : goal.loop-i-init

@@ -1,12 +1,10 @@
 -- `trace_memory::lay_bits` meets its contract. Assumes nothing.
 use Prim.Native.Nat.{◌-◌}
-use mathlib.Core.Path.{◌≡◌, refl, sym, ap, ◌∙◌}
-use native.Mathlib.Omega.{arith}
-use lib.ListN.{length, length-set}
+use mathlib.Core.Path.{◌≡◌}
+use lib.ListN.{length}
 use Rattle.spec_rtl.specs.Word.{bit}
 use Rattle.trace_step.specs.Words.{on}
-use Rattle.trace_memory.specs.Spread.{Laying, lay_start, lay_more, lay_end}
-use borrow.Author.Rules.{rules}
+use Rattle.trace_memory.specs.Spread.{Laying}
 use Rattle.trace_memory.proofs.lay_bits.Given as goal
 
 abbrev pub invariant-loop-i : goal.invariant-loop-i

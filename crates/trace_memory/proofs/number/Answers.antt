@@ -1,8 +1,7 @@
 -- `trace_memory::number` meets its contract. Assumes nothing.
 use native.Mathlib.Omega.{arith}
 use Rattle.spec_rtl.specs.Word.{bit_lt}
-use Rattle.trace_memory.specs.Spread.{Numbering, numbering_start, numbering_low, numbering_more, numbering_end}
-use borrow.Author.Rules.{rules}
+use Rattle.trace_memory.specs.Spread.{numbering_start, numbering_low, numbering_more, numbering_end}
 use Rattle.trace_memory.proofs.number.Goals as goal
 
 pub loop-i-init : goal.loop-i-init

@@ -1,11 +1,8 @@
 -- `trace_memory::read_memories` meets its contract. Assumes nothing.
-use Prim.Native.Nat.{◌-◌, ◌≤◌}
-use mathlib.Core.Path.{◌≡◌, refl, sym, ◌∙◌}
+use Prim.Native.Nat.{◌-◌}
+use mathlib.Core.Path.{refl, sym, ◌∙◌}
 use native.Mathlib.Omega.{arith}
-use lib.ListN.{length}
-use Rattle.trace_step.specs.Words.{base_at, memories_read}
 use Rattle.trace_memory.specs.Ports.{fits_it, base_room, base_none, base_more, reads_none, reads_more, reads_all}
-use borrow.Author.Rules.{rules}
 use Rattle.trace_memory.proofs.read_memories.Goals as goal
 
 pub loop-i-init : goal.loop-i-init

@@ -1,7 +1,6 @@
 -- `trace_memory::read_memory` meets its contract. Assumes nothing.
 use mathlib.Core.Path.{refl}
 use Rattle.trace_memory.specs.Ports.{one_read, two_read, fits_first, fits_second, second_is}
-use borrow.Author.Rules.{rules}
 use Rattle.trace_memory.proofs.read_memory.Goals as goal
 
 pub read_port-requires : goal.read_port-requires

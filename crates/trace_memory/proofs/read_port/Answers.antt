@@ -4,7 +4,6 @@ use mathlib.Core.Path.{ap}
 use native.Mathlib.Omega.{arith}
 use Rattle.law_sorts.specs.Memories.{own_length}
 use Rattle.trace_memory.specs.Ports.{row_in, stretch_few, tick_is, reads_is, read_at_is, read_data_is, read_still, read_shut, read_past, read_word}
-use borrow.Author.Rules.{rules}
 use Rattle.trace_memory.proofs.read_port.Goals as goal
 
 pub overflow_sub-e : goal.overflow_sub-e

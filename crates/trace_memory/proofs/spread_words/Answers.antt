@@ -1,10 +1,8 @@
 -- `trace_memory::spread_words` meets its contract. Assumes nothing.
 use Prim.Native.Nat.{◌-◌}
-use mathlib.Core.Path.{◌≡◌, refl, sym, ◌∙◌}
-use lib.ListN.{length}
+use mathlib.Core.Path.{refl, sym, ◌∙◌}
 use Rattle.trace_step.specs.Words.{identity}
-use Rattle.trace_memory.specs.Spread.{Spreading, spread_start, spread_more, spread_end}
-use borrow.Author.Rules.{rules}
+use Rattle.trace_memory.specs.Spread.{spread_start, spread_more, spread_end}
 use Rattle.trace_memory.proofs.spread_words.Goals as goal
 
 pub loop-i-init : goal.loop-i-init

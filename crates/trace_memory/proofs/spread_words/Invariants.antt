@@ -1,10 +1,9 @@
 -- `trace_memory::spread_words` meets its contract. Assumes nothing.
 use Prim.Native.Nat.{◌-◌}
-use mathlib.Core.Path.{◌≡◌, refl, sym, ◌∙◌}
+use mathlib.Core.Path.{◌≡◌}
 use lib.ListN.{length}
 use Rattle.trace_step.specs.Words.{identity}
-use Rattle.trace_memory.specs.Spread.{Spreading, spread_start, spread_more, spread_end}
-use borrow.Author.Rules.{rules}
+use Rattle.trace_memory.specs.Spread.{Spreading}
 use Rattle.trace_memory.proofs.spread_words.Given as goal
 
 abbrev pub invariant-loop-i : goal.invariant-loop-i

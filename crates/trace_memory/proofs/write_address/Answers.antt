@@ -1,7 +1,6 @@
 -- `trace_memory::write_address` meets its contract. Assumes nothing.
 use Prim.Native.Nat.{◌+◌}
 use Rattle.trace_memory.specs.Ports.{stretch_few, write_at_is}
-use borrow.Author.Rules.{rules}
 use Rattle.trace_memory.proofs.write_address.Goals as goal
 
 pub number-requires : goal.number-requires

@@ -1,11 +1,8 @@
 -- `trace_memory::write_memories` meets its contract. Assumes nothing.
 use Prim.Native.Nat.{◌-◌, ◌≤◌}
-use mathlib.Core.Path.{◌≡◌, refl, sym, ◌∙◌}
-use native.Mathlib.Omega.{arith}
+use mathlib.Core.Path.{◌≡◌}
 use lib.ListN.{length}
 use Rattle.trace_step.specs.Words.{base_at, memories_written}
-use Rattle.trace_memory.specs.Ports.{fits_it, base_room, base_none, base_more, writes_none, writes_more, writes_all}
-use borrow.Author.Rules.{rules}
 use Rattle.trace_memory.proofs.write_memories.Given as goal
 
 abbrev pub invariant-loop-i : goal.invariant-loop-i

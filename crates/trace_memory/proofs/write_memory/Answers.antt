@@ -2,7 +2,6 @@
 use mathlib.Core.Path.{refl}
 use native.Mathlib.Omega.{arith}
 use Rattle.trace_memory.specs.Ports.{one_written, two_written, fits_first, fits_second, second_is}
-use borrow.Author.Rules.{rules}
 use Rattle.trace_memory.proofs.write_memory.Goals as goal
 
 pub write_port-requires : goal.write_port-requires

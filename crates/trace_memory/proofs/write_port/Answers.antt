@@ -4,7 +4,6 @@ use mathlib.Core.Path.{ap}
 use Prim.Native.Nat.{◌+◌}
 use native.Mathlib.Omega.{arith}
 use Rattle.trace_memory.specs.Ports.{row_in, stretch_most, write_data_is, write_shut, write_past, write_word}
-use borrow.Author.Rules.{rules}
 use Rattle.trace_memory.proofs.write_port.Goals as goal
 
 pub returns-then-not-is_writing : goal.returns-then-not-is_writing

@@ -1,7 +1,6 @@
 -- `trace_names::is_name` meets its contract. Assumes nothing.
 use Rattle.trace_names.specs.Numbers.{good_name_law, empty_name, long_name}
 use native.Mathlib.Omega.{arith}
-use borrow.Author.Rules.{rules}
 use Rattle.trace_names.proofs.is_name.Goals as goal
 
 pub returns-then-name-lt1 : goal.returns-then-name-lt1

@@ -1,6 +1,5 @@
 -- `trace_names::is_named` meets its contract. Assumes nothing.
 use Rattle.trace_names.specs.Numbers.{other_word, its_name}
-use borrow.Author.Rules.{rules}
 use Rattle.trace_names.proofs.is_named.Goals as goal
 
 pub returns-then-same_text : goal.returns-then-same_text

@@ -1,10 +1,8 @@
 -- `trace_names::number_of` meets its contract. Assumes nothing.
-use Prim.Native.Nat.{◌≤◌, ◌+◌, ◌*◌}
-use mathlib.Core.Path.{◌≡◌, sym, ap, ◌∙◌}
-use native.Mathlib.Omega.{arith}
+use Prim.Native.Nat.{◌≤◌}
+use mathlib.Core.Path.{◌≡◌}
 use lib.ListN.{length, drop}
-use Rattle.trace_names.specs.Numbers.{number, number_none, number_step, number_small, number_whole}
-use borrow.Author.Rules.{rules}
+use Rattle.trace_names.specs.Numbers.{number}
 use Rattle.trace_names.proofs.number_of.Given as goal
 
 abbrev pub invariant-loop-i : goal.invariant-loop-i

@@ -1,11 +1,10 @@
 -- `trace_names::place_of` meets its contract. Assumes nothing.
-use Prim.Native.Nat.{◌≤◌, ◌-◌}
+use Prim.Native.Nat.{◌-◌}
 use mathlib.Core.Path.{◌≡◌, sym, ◌∙◌}
 use native.Mathlib.Omega.{arith}
-use lib.ListN.{length, get_or}
-use Rattle.spec_tests.specs.Rules.{◌≡?◌, ◌or◌, first}
-use Rattle.spec_tests.specs.Laws.{from, begins, passed, found, ended, or_left, or_right, or_skip, eq_yes, eq_no}
-use borrow.Author.Rules.{rules}
+use lib.ListN.{length}
+use Rattle.spec_tests.specs.Rules.{◌or◌}
+use Rattle.spec_tests.specs.Laws.{begins, passed, found, ended, or_left, or_right, or_skip, eq_yes, eq_no}
 use Rattle.trace_names.proofs.place_of.Goals as goal
 
 pub loop-i-init : goal.loop-i-init

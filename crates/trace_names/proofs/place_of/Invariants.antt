@@ -1,11 +1,9 @@
 -- `trace_names::place_of` meets its contract. Assumes nothing.
 use Prim.Native.Nat.{◌≤◌, ◌-◌}
-use mathlib.Core.Path.{◌≡◌, sym, ◌∙◌}
-use native.Mathlib.Omega.{arith}
+use mathlib.Core.Path.{◌≡◌}
 use lib.ListN.{length, get_or}
 use Rattle.spec_tests.specs.Rules.{◌≡?◌, ◌or◌, first}
-use Rattle.spec_tests.specs.Laws.{from, begins, passed, found, ended, or_left, or_right, or_skip, eq_yes, eq_no}
-use borrow.Author.Rules.{rules}
+use Rattle.spec_tests.specs.Laws.{from}
 use Rattle.trace_names.proofs.place_of.Given as goal
 
 abbrev pub invariant-loop-i : goal.invariant-loop-i

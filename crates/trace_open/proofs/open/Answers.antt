@@ -2,7 +2,6 @@
 use mathlib.Core.Path.{sym, ap, ◌∙◌}
 use Rattle.trace_image.specs.Answer.{answer_of}
 use Rattle.trace_open.specs.Opens.{accepted, wrong_opens, unfit_opens, fit_opens}
-use borrow.Author.Rules.{rules}
 use Rattle.trace_open.proofs.open.Goals as goal
 
 pub prepare-t-requires : goal.prepare-t-requires

@@ -1,6 +1,5 @@
 -- `trace_open::read_image` meets its contract. Assumes nothing.
 use Rattle.trace_open.specs.Image.{all_fit, all_are}
-use borrow.Author.Rules.{rules}
 use Rattle.trace_open.proofs.read_image.Goals as goal
 
 pub read_words-requires : goal.read_words-requires

@@ -1,6 +1,5 @@
 -- `trace_open::words_by_header` meets its contract. Assumes nothing.
 use Rattle.trace_open.specs.Image.{first_fit, first_are}
-use borrow.Author.Rules.{rules}
 use Rattle.trace_open.proofs.words_by_header.Goals as goal
 
 pub read_words-n-requires : goal.read_words-n-requires

@@ -1,5 +1,4 @@
 -- `trace_pass::choose` meets its contract. Assumes nothing.
-use borrow.Author.Rules.{rules}
 use mathlib.Core.Path.{refl}
 use native.Mathlib.Omega.{arith}
 use Rattle.trace_pass.specs.Plan.{chosen}

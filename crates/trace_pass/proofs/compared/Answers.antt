@@ -1,5 +1,4 @@
 -- `trace_pass::compared` meets its contract. Assumes nothing.
-use borrow.Author.Rules.{rules}
 use Rattle.trace_pass.specs.Plan.{compared_set}
 use Rattle.trace_pass.proofs.compared.Goals as goal
 

@@ -1,5 +1,4 @@
 -- `trace_pass::gate` meets its contract. Assumes nothing.
-use borrow.Author.Rules.{rules}
 use Rattle.trace_pass.specs.Plan.{gate_set}
 use Rattle.trace_pass.proofs.gate.Goals as goal
 

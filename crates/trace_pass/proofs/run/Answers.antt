@@ -1,8 +1,7 @@
 -- `trace_pass::run` meets its contract. Assumes nothing.
-use borrow.Author.Rules.{rules}
 use native.Mathlib.Omega.{arith}
 use Prim.Native.Nat.{◌-◌}
-use Rattle.trace_pass.specs.Plan.{Running, running_start, running_ready, running_more, running_end}
+use Rattle.trace_pass.specs.Plan.{running_start, running_ready, running_more, running_end}
 use Rattle.trace_pass.proofs.run.Goals as goal
 
 pub loop-i-init : goal.loop-i-init

@@ -1,8 +1,6 @@
 -- `trace_pass::run` meets its contract. Assumes nothing.
-use borrow.Author.Rules.{rules}
-use native.Mathlib.Omega.{arith}
 use Prim.Native.Nat.{◌-◌}
-use Rattle.trace_pass.specs.Plan.{Running, running_start, running_ready, running_more, running_end}
+use Rattle.trace_pass.specs.Plan.{Running}
 use Rattle.trace_pass.proofs.run.Given as goal
 
 abbrev pub invariant-loop-i : goal.invariant-loop-i

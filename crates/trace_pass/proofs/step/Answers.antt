@@ -1,5 +1,4 @@
 -- `trace_pass::step` meets its contract. Assumes nothing.
-use borrow.Author.Rules.{rules}
 use Rattle.trace_pass.specs.Plan.{gate_fits, gate_done, arithmetic_fits, arithmetic_done, comparison_fits, comparison_done}
 use Rattle.trace_pass.proofs.step.Goals as goal
 

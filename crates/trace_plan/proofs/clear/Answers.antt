@@ -1,10 +1,9 @@
 -- `trace_plan::clear` meets its contract. Assumes nothing.
-use Prim.Native.Nat.{◌-◌, ◌≤◌}
-use mathlib.Core.Path.{◌≡◌, refl}
+use Prim.Native.Nat.{◌-◌}
+use mathlib.Core.Path.{refl}
 use native.Mathlib.Omega.{arith}
-use lib.ListN.{length, length-set}
-use Rattle.trace_plan.specs.Meeting.{Cleared, cleared_none, cleared_more, cleared_end}
-use borrow.Author.Rules.{rules}
+use lib.ListN.{length-set}
+use Rattle.trace_plan.specs.Meeting.{cleared_none, cleared_more, cleared_end}
 use Rattle.trace_plan.proofs.clear.Goals as goal
 
 pub loop-i-init : goal.loop-i-init

@@ -1,10 +1,8 @@
 -- `trace_plan::clear` meets its contract. Assumes nothing.
 use Prim.Native.Nat.{◌-◌, ◌≤◌}
-use mathlib.Core.Path.{◌≡◌, refl}
-use native.Mathlib.Omega.{arith}
-use lib.ListN.{length, length-set}
-use Rattle.trace_plan.specs.Meeting.{Cleared, cleared_none, cleared_more, cleared_end}
-use borrow.Author.Rules.{rules}
+use mathlib.Core.Path.{◌≡◌}
+use lib.ListN.{length}
+use Rattle.trace_plan.specs.Meeting.{Cleared}
 use Rattle.trace_plan.proofs.clear.Given as goal
 
 abbrev pub invariant-loop-i : goal.invariant-loop-i

@@ -1,11 +1,8 @@
 -- `trace_plan::make_plan` meets its contract. Assumes nothing.
-use Prim.Native.Nat.{◌-◌, ◌≤◌}
-use mathlib.Core.Path.{◌≡◌, refl, sym, ◌∙◌}
+use Prim.Native.Nat.{◌-◌}
+use mathlib.Core.Path.{refl, sym, ◌∙◌}
 use native.Mathlib.Omega.{arith}
-use lib.ListN.{length}
-use Rattle.trace_plan.specs.Building.{Building}
 use Rattle.trace_plan.specs.Meeting.{cleared_start, next_end}
-use borrow.Author.Rules.{rules}
 use Rattle.trace_plan.proofs.make_plan.Goals as goal
 
 pub clear-requires : goal.clear-requires

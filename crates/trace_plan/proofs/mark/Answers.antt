@@ -1,7 +1,6 @@
 -- `trace_plan::mark` meets its contract. Assumes nothing.
 use mathlib.Core.Path.{refl}
 use Rattle.spec_tests.specs.Laws.{pick_hit, pick_skip, lt_yes, lt_no}
-use borrow.Author.Rules.{rules}
 use Rattle.trace_plan.proofs.mark.Goals as goal
 
 pub returns-then-n-due : goal.returns-then-n-due

@@ -1,10 +1,8 @@
 -- `trace_plan::mark_all` meets its contract. Assumes nothing.
-use Prim.Native.Nat.{◌-◌, ◌≤◌}
-use mathlib.Core.Path.{◌≡◌, refl, sym, ◌∙◌}
+use Prim.Native.Nat.{◌-◌}
+use mathlib.Core.Path.{refl, sym, ◌∙◌}
 use native.Mathlib.Omega.{arith}
-use lib.ListN.{length}
-use Rattle.trace_plan.specs.Marked.{Marked, mark_start, mark_more, mark_end}
-use borrow.Author.Rules.{rules}
+use Rattle.trace_plan.specs.Marked.{mark_start, mark_more, mark_end}
 use Rattle.trace_plan.proofs.mark_all.Goals as goal
 
 pub loop-i-init : goal.loop-i-init

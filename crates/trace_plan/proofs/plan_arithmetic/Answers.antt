@@ -1,7 +1,6 @@
 -- `trace_plan::plan_arithmetic` meets its contract. Assumes nothing.
 use native.Mathlib.Omega.{arith}
 use Rattle.trace_plan.specs.Cells.{arithmetic_at, arithmetic_built, arithmetic_nets_law, outs_read}
-use borrow.Author.Rules.{rules}
 use Rattle.trace_plan.proofs.plan_arithmetic.Goals as goal
 
 pub mark_all-requires : goal.mark_all-requires

@@ -2,7 +2,6 @@
 use mathlib.Core.Path.{refl}
 use native.Mathlib.Omega.{arith}
 use Rattle.trace_plan.specs.Cells.{comparison_at, comparison_built}
-use borrow.Author.Rules.{rules}
 use Rattle.trace_plan.proofs.plan_comparison.Goals as goal
 
 pub returns : goal.returns

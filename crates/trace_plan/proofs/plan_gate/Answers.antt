@@ -3,7 +3,6 @@ use mathlib.Core.Path.{refl}
 use native.Mathlib.Omega.{arith}
 use Rattle.trace_plan.specs.Kinds.{gate_built}
 use Rattle.trace_plan.specs.Meeting.{kind_meeting}
-use borrow.Author.Rules.{rules}
 use Rattle.trace_plan.proofs.plan_gate.Goals as goal
 
 pub table_of-q-requires : goal.table_of-q-requires

@@ -1,7 +1,6 @@
 -- `trace_plan::plan_net` meets its contract. Assumes nothing.
 use mathlib.Core.Path.{sym, ◌∙◌}
 use Rattle.trace_plan.specs.Meeting.{meeting, next_passed, next_source, next_gate}
-use borrow.Author.Rules.{rules}
 use Rattle.trace_plan.proofs.plan_net.Goals as goal
 
 pub returns-then-due-k : goal.returns-then-due-k

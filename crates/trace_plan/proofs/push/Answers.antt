@@ -1,6 +1,5 @@
 -- `trace_plan::push` meets its contract. Assumes nothing.
 use Rattle.trace_plan.specs.Meeting.{pushed_words}
-use borrow.Author.Rules.{rules}
 use Rattle.trace_plan.proofs.push.Goals as goal
 
 pub returns : goal.returns

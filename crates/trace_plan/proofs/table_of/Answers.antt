@@ -1,6 +1,5 @@
 -- `trace_plan::table_of` meets its contract. Assumes nothing.
 use Rattle.trace_plan.specs.Kinds.{constant_one, constant_zero, table_other}
-use borrow.Author.Rules.{rules}
 use Rattle.trace_plan.proofs.table_of.Goals as goal
 
 pub returns-then-owner-eq1 : goal.returns-then-owner-eq1

@@ -1,9 +1,8 @@
 -- `trace_ports::port_nets` meets its contract. Assumes nothing.
-use Prim.Native.Nat.{◌≤◌, ◌-◌}
+use Prim.Native.Nat.{◌-◌}
 use native.Mathlib.Omega.{arith}
-use Rattle.listing_text.specs.Text.{Wrote, wrote_none, wrote_same, wrote_more}
-use Rattle.trace_ports.specs.Ports.{joined, joined_none, joined_more, joined_all}
-use borrow.Author.Rules.{rules}
+use Rattle.listing_text.specs.Text.{wrote_none, wrote_same, wrote_more}
+use Rattle.trace_ports.specs.Ports.{joined_none, joined_more, joined_all}
 use Rattle.trace_ports.proofs.port_nets.Goals as goal
 
 pub loop-i-init : goal.loop-i-init

@@ -1,6 +1,5 @@
 -- `trace_ports::put` meets its contract. Assumes nothing.
 use Rattle.listing_text.specs.Text.{wrote_byte, wrote_full}
-use borrow.Author.Rules.{rules}
 use Rattle.trace_ports.proofs.put.Goals as goal
 
 pub returns-then-at-out : goal.returns-then-at-out

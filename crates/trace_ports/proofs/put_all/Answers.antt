@@ -1,9 +1,7 @@
 -- `trace_ports::put_all` meets its contract. Assumes nothing.
-use Prim.Native.Nat.{◌≤◌, ◌-◌}
+use Prim.Native.Nat.{◌-◌}
 use native.Mathlib.Omega.{arith}
-use lib.ListN.{length, take}
-use Rattle.listing_text.specs.Text.{Wrote, wrote_none, wrote_step, wrote_all}
-use borrow.Author.Rules.{rules}
+use Rattle.listing_text.specs.Text.{wrote_none, wrote_step, wrote_all}
 use Rattle.trace_ports.proofs.put_all.Goals as goal
 
 pub loop-i-init : goal.loop-i-init

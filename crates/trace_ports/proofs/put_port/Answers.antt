@@ -1,7 +1,6 @@
 -- `trace_ports::put_port` meets its contract. Assumes nothing.
 use Rattle.listing_text.specs.Text.{wrote_none, wrote_same}
 use Rattle.trace_ports.specs.Ports.{port_other, port_of_kind}
-use borrow.Author.Rules.{rules}
 use Rattle.trace_ports.proofs.put_port.Goals as goal
 
 pub returns-then-node_word-kind : goal.returns-then-node_word-kind

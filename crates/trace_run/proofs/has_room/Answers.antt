@@ -3,7 +3,6 @@ use mathlib.Core.Path.{sym, ap}
 use mathlib.Core.Bool.{not}
 use native.Mathlib.Omega.{arith}
 use Rattle.spec_tests.specs.Laws.{lt_yes, lt_no}
-use borrow.Author.Rules.{rules}
 use Rattle.trace_run.proofs.has_room.Goals as goal
 
 pub returns-then-out-at-lt42 : goal.returns-then-out-at-lt42

@@ -1,8 +1,8 @@
 -- `trace_run::move_down` meets its contract. Assumes nothing.
-use Prim.Native.Nat.{◌-◌, ◌≤◌}
+use Prim.Native.Nat.{◌-◌}
 use mathlib.Core.Path.{◌≡◌, refl}
 use native.Mathlib.Omega.{arith}
-use Rattle.trace_run.specs.Held.{Moved, moved_none, moved_more}
+use Rattle.trace_run.specs.Held.{moved_none, moved_more}
 use Rattle.trace_run.proofs.move_down.Goals as goal
 
 pub loop-i-init : goal.loop-i-init

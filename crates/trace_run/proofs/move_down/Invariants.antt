@@ -1,8 +1,6 @@
 -- `trace_run::move_down` meets its contract. Assumes nothing.
 use Prim.Native.Nat.{◌-◌, ◌≤◌}
-use mathlib.Core.Path.{◌≡◌, refl}
-use native.Mathlib.Omega.{arith}
-use Rattle.trace_run.specs.Held.{Moved, moved_none, moved_more}
+use Rattle.trace_run.specs.Held.{Moved}
 use Rattle.trace_run.proofs.move_down.Given as goal
 
 abbrev pub invariant-loop-i : goal.invariant-loop-i

@@ -1,6 +1,5 @@
 -- `trace_run::put_end` meets its contract. Assumes nothing.
 use Rattle.trace_run.specs.Held.{end_none, end_some}
-use borrow.Author.Rules.{rules}
 use Rattle.trace_run.proofs.put_end.Goals as goal
 
 pub returns-then-left-eq0 : goal.returns-then-left-eq0

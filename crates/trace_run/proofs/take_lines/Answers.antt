@@ -1,11 +1,10 @@
 -- `trace_run::take_lines` meets its contract. Assumes nothing.
-use Prim.Native.Nat.{◌-◌, ◌<◌}
-use mathlib.Core.Path.{◌≡◌, refl, sym, ◌∙◌}
+use Prim.Native.Nat.{◌-◌}
+use mathlib.Core.Path.{refl, sym, ◌∙◌}
 use mathlib.Core.Bool.{false}
 use native.Mathlib.Omega.{arith}
-use lib.ListN.{length}
 use Rattle.law_told.specs.Told.{untrue}
-use Rattle.trace_run.specs.Ran.{Ran, ran_start, ran_stops, ran_waits, stopped_waits, ran_goes, rest_is, room_there}
+use Rattle.trace_run.specs.Ran.{ran_start, ran_stops, ran_waits, stopped_waits, ran_goes, rest_is, room_there}
 use Rattle.trace_run.proofs.take_lines.Goals as goal
 
 pub loop-values-init : goal.loop-values-init

@@ -2,7 +2,6 @@
 use mathlib.Core.Bool.{true}
 use Rattle.trace_step.specs.Words.{on}
 use Rattle.trace_step.specs.Chains.{reset_absent, reset_other, reset_its, asks_yes, asks_no}
-use borrow.Author.Rules.{rules}
 use Rattle.trace_step.proofs.asynchronous_reset.Goals as goal
 
 pub returns-then-x : goal.returns-then-x

@@ -1,6 +1,5 @@
 -- `trace_step::clocked_bit` meets its contract. Assumes nothing.
 use Rattle.trace_step.specs.Chains.{clocked_reset, clocked_next, clocked_held}
-use borrow.Author.Rules.{rules}
 use Rattle.trace_step.proofs.clocked_bit.Goals as goal
 
 pub returns-then-synchronous_reset : goal.returns-then-synchronous_reset

@@ -1,7 +1,6 @@
 -- `trace_step::is_active` meets its contract. Assumes nothing.
 use Rattle.trace_step.specs.Words.{on}
 use Rattle.trace_step.specs.Chains.{active_high, active_low}
-use borrow.Author.Rules.{rules}
 use Rattle.trace_step.proofs.is_active.Goals as goal
 
 pub returns-then-level-eq0 : goal.returns-then-level-eq0

@@ -1,7 +1,6 @@
 -- `trace_step::is_enabled` meets its contract. Assumes nothing.
 use Rattle.trace_step.specs.Words.{on}
 use Rattle.trace_step.specs.Chains.{enabled_absent, enabled_there}
-use borrow.Author.Rules.{rules}
 use Rattle.trace_step.proofs.is_enabled.Goals as goal
 
 pub returns-then-x-eq-ABSENT : goal.returns-then-x-eq-ABSENT

@@ -1,7 +1,6 @@
 -- `trace_step::is_on` meets its contract. Assumes nothing.
 use mathlib.Core.Path.{refl}
 use Rattle.spec_tests.specs.Laws.{eq_same}
-use borrow.Author.Rules.{rules}
 use Rattle.trace_step.proofs.is_on.Goals as goal
 
 pub returns : goal.returns

@@ -1,7 +1,6 @@
 -- `trace_step::load_register` meets its contract. Assumes nothing.
 use mathlib.Core.Path.{◌∙◌}
 use Rattle.trace_step.specs.Chains.{register_stored}
-use borrow.Author.Rules.{rules}
 use Rattle.trace_step.proofs.load_register.Goals as goal
 
 pub returns : goal.returns

@@ -1,11 +1,8 @@
 -- `trace_step::load_registers` meets its contract. Assumes nothing.
 use Prim.Native.Nat.{◌-◌, ◌≤◌}
-use mathlib.Core.Path.{◌≡◌, refl, sym, ◌∙◌}
-use native.Mathlib.Omega.{arith}
+use mathlib.Core.Path.{◌≡◌}
 use lib.ListN.{length}
 use Rattle.trace_step.specs.Words.{registers_done}
-use Rattle.trace_step.specs.Chains.{registers_none, registers_more, registers_all}
-use borrow.Author.Rules.{rules}
 use Rattle.trace_step.proofs.load_registers.Given as goal
 
 abbrev pub invariant-loop-i : goal.invariant-loop-i

@@ -1,6 +1,5 @@
 -- `trace_step::put` meets its contract. Assumes nothing.
 use Rattle.trace_step.specs.Chains.{set_past}
-use borrow.Author.Rules.{rules}
 use Rattle.trace_step.proofs.put.Goals as goal
 
 pub returns-else-x-values : goal.returns-else-x-values

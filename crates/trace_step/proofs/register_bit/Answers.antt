@@ -1,6 +1,5 @@
 -- `trace_step::register_bit` meets its contract. Assumes nothing.
 use Rattle.trace_step.specs.Chains.{bit_reset, bit_clocked, bit_held}
-use borrow.Author.Rules.{rules}
 use Rattle.trace_step.proofs.register_bit.Goals as goal
 
 pub returns-then-asynchronous_reset : goal.returns-then-asynchronous_reset

@@ -1,7 +1,6 @@
 -- `trace_step::ticks` meets its contract. Assumes nothing.
 use mathlib.Core.Path.{sym, ◌∙◌}
 use Rattle.trace_step.specs.Chains.{rising_held, rising_is, falling_held, falling_is}
-use borrow.Author.Rules.{rules}
 use Rattle.trace_step.proofs.ticks.Goals as goal
 
 pub returns-then-before : goal.returns-then-before

@@ -1,8 +1,6 @@
 -- `trace_tables::nets_of` meets its contract. Assumes nothing.
 use native.Mathlib.Omega.{arith}
-use borrow.Author.Rules.{rules}
 use Rattle.trace_tables.specs.Ready.{nets_are}
-use borrow.Author.Rules.{rules}
 use Rattle.trace_tables.proofs.nets_of.Goals as goal
 
 pub returns : goal.returns

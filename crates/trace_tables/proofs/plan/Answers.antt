@@ -1,7 +1,6 @@
 -- `trace_tables::plan` meets its contract. Assumes nothing.
 use native.Mathlib.Omega.{arith}
 use borrow.Author.Rules.{rules}
-use borrow.Author.Rules.{rules}
 use Rattle.trace_tables.proofs.plan.Goals as goal
 
 pub make_plan-requires : goal.make_plan-requires

@@ -1,7 +1,5 @@
 -- `trace_tables::prepare` meets its contract. Assumes nothing.
-use borrow.Author.Rules.{rules}
 use Rattle.trace_tables.specs.Ready.{ready}
-use borrow.Author.Rules.{rules}
 use Rattle.trace_tables.proofs.prepare.Goals as goal
 
 pub returns : goal.returns

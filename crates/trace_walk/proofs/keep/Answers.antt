@@ -1,7 +1,6 @@
 -- `trace_walk::keep` meets its contract. Assumes nothing.
 use mathlib.Core.Path.{refl, sym, ◌∙◌}
 use Rattle.spec_tests.specs.Laws.{pick_hit, pick_skip, eq_yes, eq_no}
-use borrow.Author.Rules.{rules}
 use Rattle.trace_walk.proofs.keep.Goals as goal
 
 pub returns-then-word_at-sort : goal.returns-then-word_at-sort

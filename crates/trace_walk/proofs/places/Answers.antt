@@ -1,10 +1,8 @@
 -- `trace_walk::places` meets its contract. Assumes nothing.
 use Prim.Native.Nat.{◌-◌}
-use mathlib.Core.Path.{◌≡◌, refl, sym, ◌∙◌}
+use mathlib.Core.Path.{refl, sym, ◌∙◌}
 use native.Mathlib.Omega.{arith}
-use lib.ListN.{length}
-use Rattle.trace_walk.specs.Walking.{Walking, start, met_inside, met_next, end as whole, near}
-use borrow.Author.Rules.{rules}
+use Rattle.trace_walk.specs.Walking.{start, met_inside, met_next, end as whole, near}
 use Rattle.trace_walk.proofs.places.Goals as goal
 
 pub loop-p-init : goal.loop-p-init

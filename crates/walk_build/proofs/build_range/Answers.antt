@@ -1,5 +1,4 @@
 -- `walk_build::build_range` meets its contract. Assumes nothing.
-use borrow.Author.Rules.{rules}
 use Rattle.walk_build.proofs.build_range.Goals as goal
 
 pub range_small-requires : goal.range_small-requires

@@ -1,5 +1,4 @@
 -- `walk_build::build_whole` meets its contract. Assumes nothing.
-use borrow.Author.Rules.{rules}
 use Rattle.law_accepted.specs.Formed.{readable}
 use Rattle.walk_build.proofs.build_whole.Goals as goal
 

@@ -1,5 +1,4 @@
 -- `walk_build::make` meets its contract. Assumes nothing.
-use borrow.Author.Rules.{rules}
 use Rattle.walk_build.proofs.Ways.{lent, make_way}
 use Rattle.walk_build.proofs.make.Goals as goal
 

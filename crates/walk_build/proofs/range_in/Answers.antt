@@ -1,5 +1,4 @@
 -- `walk_build::range_in` meets its contract. Assumes nothing.
-use borrow.Author.Rules.{rules}
 use native.Mathlib.Omega.{arith}
 use Rattle.walk_build.proofs.Ways.{plain_nots, asked_range, fits_at, room, job_model, small, built_range}
 use Rattle.walk_invariant.specs.Makes.{range_makes}

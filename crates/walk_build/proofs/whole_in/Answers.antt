@@ -1,5 +1,4 @@
 -- `walk_build::whole_in` meets its contract. Assumes nothing.
-use borrow.Author.Rules.{rules}
 use native.Mathlib.Omega.{arith}
 use Rattle.walk_build.proofs.Ways.{plain_nots, asked, read_at, fits_at, room, job_model, small, built_whole}
 use Rattle.walk_invariant.specs.Makes.{whole_makes}

@@ -1,5 +1,4 @@
 -- `walk_job_parts::add_constant_bits` meets its contract. Assumes nothing.
-use borrow.Author.Rules.{rules}
 use Rattle.walk_job_parts.proofs.add_constant_bits.Goals as goal
 
 pub returns : goal.returns

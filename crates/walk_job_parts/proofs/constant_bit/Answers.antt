@@ -1,5 +1,4 @@
 -- `walk_job_parts::constant_bit` meets its contract. Assumes nothing.
-use borrow.Author.Rules.{rules}
 use Rattle.walk_job_parts.proofs.constant_bit.Goals as goal
 
 pub returns : goal.returns

@@ -1,5 +1,4 @@
 -- `walk_job_parts::extend` meets its contract. Assumes nothing.
-use borrow.Author.Rules.{rules}
 use Rattle.net_ports.proofs.Laws.{not_net}
 use native.Mathlib.Omega.{arith}
 use Rattle.walk_job_parts.proofs.Extends.{extend_out, extend_done}

@@ -1,8 +1,7 @@
 -- `walk_job_parts::fill` meets its contract. Assumes nothing.
-use borrow.Author.Rules.{rules}
 use Prim.Native.Nat.{◌-◌}
 use native.Mathlib.Omega.{arith}
-use Rattle.walk_job_parts.proofs.Bits.{Filling, filling_start, filling_more, filling_end}
+use Rattle.walk_job_parts.proofs.Bits.{filling_start, filling_more, filling_end}
 use Rattle.walk_job_parts.proofs.fill.Goals as goal
 
 pub loop-i-init : goal.loop-i-init

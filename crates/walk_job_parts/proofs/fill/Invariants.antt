@@ -1,8 +1,6 @@
 -- `walk_job_parts::fill` meets its contract. Assumes nothing.
-use borrow.Author.Rules.{rules}
 use Prim.Native.Nat.{◌-◌}
-use native.Mathlib.Omega.{arith}
-use Rattle.walk_job_parts.proofs.Bits.{Filling, filling_start, filling_more, filling_end}
+use Rattle.walk_job_parts.proofs.Bits.{Filling}
 use Rattle.walk_job_parts.proofs.fill.Given as goal
 
 abbrev pub invariant-loop-i : goal.invariant-loop-i

@@ -1,5 +1,4 @@
 -- `walk_job_parts::task_width` meets its contract. Assumes nothing.
-use borrow.Author.Rules.{rules}
 use native.Mathlib.Omega.{arith}
 use Rattle.walk_job_parts.proofs.task_width.Goals as goal
 

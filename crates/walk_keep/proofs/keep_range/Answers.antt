@@ -1,5 +1,4 @@
 -- `walk_keep::keep_range` meets its contract. Assumes nothing.
-use borrow.Author.Rules.{rules}
 use Rattle.walk_keep.proofs.Ways.{keeps_done, keeps_nets, keeps_list}
 use Rattle.walk_keep.proofs.keep_range.Goals as goal
 

@@ -1,5 +1,4 @@
 -- `walk_left::keep_driven` meets its contract. Assumes nothing.
-use borrow.Author.Rules.{rules}
 use Rattle.walk_view.proofs.Answers.{not-done-tag}
 use Rattle.walk_left.proofs.Keeps.{keep_refused, net_small, keep_done}
 use borrow.Enum.Refused.{opened}

@@ -1,5 +1,4 @@
 -- `walk_left::left_by` meets its contract. Assumes nothing.
-use borrow.Author.Rules.{rules}
 use Rattle.walk_left.proofs.Lefts.{left_lower, left_last, left_bits, left_ends}
 use Rattle.walk_left.proofs.left_by.Goals as goal
 

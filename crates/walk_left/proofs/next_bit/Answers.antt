@@ -1,10 +1,6 @@
 -- `walk_left::next_bit` meets its contract. Assumes nothing.
-use Prim.Native.Nat.{◌-◌, ◌≤◌}
-use lib.ListN.{drop}
+use Prim.Native.Nat.{◌-◌}
 use native.Mathlib.Omega.{arith}
-use borrow.Author.Rules.{rules}
-use Rattle.walk_plan.specs.Plan.{bits_needs}
-use Rattle.walk_left.specs.Left.{Skips}
 use Rattle.walk_left.proofs.Lefts.{bits_begin, bits_on, bits_found, bits_over, bit_met}
 use Rattle.walk_left.proofs.next_bit.Goals as goal
 

@@ -1,7 +1,6 @@
 -- `walk_left::range_known` meets its contract. Assumes nothing.
 use mathlib.Core.Path.{refl}
 use native.Mathlib.Omega.{arith}
-use borrow.Author.Rules.{rules}
 use Rattle.walk_left.proofs.range_known.Goals as goal
 
 pub returns-then-k-eq0 : goal.returns-then-k-eq0

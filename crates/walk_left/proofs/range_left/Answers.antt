@@ -1,5 +1,4 @@
 -- `walk_left::range_left` meets its contract. Assumes nothing.
-use borrow.Author.Rules.{rules}
 use native.Mathlib.Omega.{arith}
 use Rattle.walk_plan.specs.Plan.{range_rest}
 use Rattle.walk_plan.specs.Fits.{range_short}

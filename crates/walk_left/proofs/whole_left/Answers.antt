@@ -1,5 +1,4 @@
 -- `walk_left::whole_left` meets its contract. Assumes nothing.
-use borrow.Author.Rules.{rules}
 use native.Mathlib.Omega.{arith}
 use Rattle.walk_plan.specs.Fits.{whole_short}
 use Rattle.walk_left.specs.Left.{whole_rest}

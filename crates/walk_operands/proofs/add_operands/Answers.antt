@@ -1,5 +1,4 @@
 -- `walk_operands::add_operands` meets its contract. Assumes nothing.
-use borrow.Author.Rules.{rules}
 use native.Mathlib.Omega.{arith}
 use mathlib.Core.Path.{refl, sym, ap, ◌∙◌}
 use Rattle.expr_fusion.specs.Fusion.{fusion_of, operands_are}

@@ -1,5 +1,4 @@
 -- `walk_operands::binary_operands` meets its contract. Assumes nothing.
-use borrow.Author.Rules.{rules}
 use native.Mathlib.Omega.{arith}
 use Rattle.walk_operands.proofs.Ways.{binary_read}
 use Rattle.walk_operands.proofs.binary_operands.Goals as goal

@@ -1,7 +1,6 @@
 -- `walk_operands::copy_parts` meets its contract. Assumes nothing.
-use borrow.Author.Rules.{rules}
 use native.Mathlib.Omega.{arith}
-use Rattle.walk_operands.proofs.Ways.{PartsAt, parts_begin, parts_turn, parts_room, parts_end}
+use Rattle.walk_operands.proofs.Ways.{parts_begin, parts_turn, parts_room, parts_end}
 use Rattle.walk_operands.proofs.copy_parts.Goals as goal
 
 pub loop-i-init : goal.loop-i-init

@@ -1,7 +1,5 @@
 -- `walk_operands::copy_parts` meets its contract. Assumes nothing.
-use borrow.Author.Rules.{rules}
-use native.Mathlib.Omega.{arith}
-use Rattle.walk_operands.proofs.Ways.{PartsAt, parts_begin, parts_turn, parts_room, parts_end}
+use Rattle.walk_operands.proofs.Ways.{PartsAt}
 use Rattle.walk_operands.proofs.copy_parts.Given as goal
 
 abbrev pub invariant-loop-i : goal.invariant-loop-i

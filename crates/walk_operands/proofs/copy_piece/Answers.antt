@@ -1,5 +1,4 @@
 -- `walk_operands::copy_piece` meets its contract. Assumes nothing.
-use borrow.Author.Rules.{rules}
 use native.Mathlib.Omega.{arith}
 use Rattle.walk_operands.proofs.RangeWays.{piece_inside, piece_some, piece_none}
 use Rattle.walk_operands.proofs.copy_piece.Goals as goal

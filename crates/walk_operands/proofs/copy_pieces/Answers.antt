@@ -1,7 +1,6 @@
 -- `walk_operands::copy_pieces` meets its contract. Assumes nothing.
-use borrow.Author.Rules.{rules}
 use native.Mathlib.Omega.{arith}
-use Rattle.walk_operands.proofs.RangeWays.{PiecesAt, pieces_begin, piece_room, piece_place, pieces_turn, pieces_end}
+use Rattle.walk_operands.proofs.RangeWays.{pieces_begin, piece_room, piece_place, pieces_turn, pieces_end}
 use Rattle.walk_operands.proofs.copy_pieces.Goals as goal
 
 pub overflow_add-end : goal.overflow_add-end

@@ -1,7 +1,5 @@
 -- `walk_operands::copy_pieces` meets its contract. Assumes nothing.
-use borrow.Author.Rules.{rules}
-use native.Mathlib.Omega.{arith}
-use Rattle.walk_operands.proofs.RangeWays.{PiecesAt, pieces_begin, piece_room, piece_place, pieces_turn, pieces_end}
+use Rattle.walk_operands.proofs.RangeWays.{PiecesAt}
 use Rattle.walk_operands.proofs.copy_pieces.Given as goal
 
 abbrev pub invariant-loop-i : goal.invariant-loop-i

@@ -1,5 +1,4 @@
 -- `walk_operands::copy_whole` meets its contract. Assumes nothing.
-use borrow.Author.Rules.{rules}
 use Rattle.walk_operands.proofs.Ways.{whole_copied}
 use Rattle.walk_operands.proofs.copy_whole.Goals as goal
 

@@ -1,5 +1,4 @@
 -- `walk_operands::is_narrow` meets its contract. Assumes nothing.
-use borrow.Author.Rules.{rules}
 use borrow.Author.Tests.{leb-true}
 use mathlib.Core.Bool.{true≢false}
 use mathlib.Core.Path.{sym}

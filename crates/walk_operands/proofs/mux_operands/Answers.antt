@@ -1,5 +1,4 @@
 -- `walk_operands::mux_operands` meets its contract. Assumes nothing.
-use borrow.Author.Rules.{rules}
 use native.Mathlib.Omega.{arith}
 use Rattle.walk_operands.proofs.Ways.{mux_read}
 use Rattle.walk_operands.proofs.mux_operands.Goals as goal

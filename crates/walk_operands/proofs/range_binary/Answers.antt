@@ -1,5 +1,4 @@
 -- `walk_operands::range_binary` meets its contract. Assumes nothing.
-use borrow.Author.Rules.{rules}
 use native.Mathlib.Omega.{arith}
 use mathlib.Core.Path.{sym, ◌∙◌}
 use Rattle.walk_operands.proofs.RangeWays.{gate_read, gate_other}

@@ -1,5 +1,4 @@
 -- `walk_operands::range_mux` meets its contract. Assumes nothing.
-use borrow.Author.Rules.{rules}
 use native.Mathlib.Omega.{arith}
 use Rattle.walk_operands.proofs.RangeWays.{mux_read}
 use Rattle.walk_operands.proofs.range_mux.Goals as goal

@@ -1,5 +1,4 @@
 -- `walk_operands::range_unary` meets its contract. Assumes nothing.
-use borrow.Author.Rules.{rules}
 use native.Mathlib.Omega.{arith}
 use Rattle.walk_operands.proofs.RangeWays.{not_read, not_other, not_bitnot, is_bitnot}
 use borrow.Enum.Refused.{opened}

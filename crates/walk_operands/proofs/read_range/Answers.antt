@@ -1,5 +1,4 @@
 -- `walk_operands::read_range` meets its contract. Assumes nothing.
-use borrow.Author.Rules.{rules}
 use native.Mathlib.Omega.{arith}
 use Rattle.walk_operands.proofs.ByKind.{own_range, signal_in, signal_few, signal_read, slice_in, slice_few, slice_read, constant_read, unary_in, unary_made, binary_in, binary_made, mux_in, mux_made, parts_in, parts_wide, pieces_read}
 use Rattle.walk_operands.proofs.read_range.Goals as goal

@@ -1,5 +1,4 @@
 -- `walk_operands::read_whole` meets its contract. Assumes nothing.
-use borrow.Author.Rules.{rules}
 use native.Mathlib.Omega.{arith}
 use Rattle.walk_operands.proofs.WholeWays.{least, most, fit, signal_in, signal_read, slice_in, slice_read, constant_read, unary_in, unary_fit, unary_width_law, unary_made, binary_in, binary_fit, binary_made, mux_in, mux_made, parts_in, parts_wide, parts_read}
 use Rattle.walk_operands.proofs.read_whole.Goals as goal

@@ -1,5 +1,4 @@
 -- `walk_operands::two_operands` meets its contract. Assumes nothing.
-use borrow.Author.Rules.{rules}
 use Rattle.expr_laws.specs.Exprs.{width_least}
 use Rattle.walk_operands.proofs.WholeWays.{add_in, add_made_law, no_add, not_adds, plain_sides, plain_width, plain_made}
 use borrow.Enum.Refused.{opened}

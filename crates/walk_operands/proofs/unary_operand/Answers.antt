@@ -1,5 +1,4 @@
 -- `walk_operands::unary_operand` meets its contract. Assumes nothing.
-use borrow.Author.Rules.{rules}
 use native.Mathlib.Omega.{arith}
 use Rattle.walk_operands.proofs.Ways.{unary_read}
 use Rattle.walk_operands.proofs.unary_operand.Goals as goal

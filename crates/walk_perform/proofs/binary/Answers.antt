@@ -1,5 +1,4 @@
 -- `walk_perform::binary` meets its contract. Assumes nothing.
-use borrow.Author.Rules.{rules}
 use mathlib.Core.Path.{sym}
 use lib.Seq.{length-take-le}
 use Rattle.op_makers.specs.Class.{class_of}

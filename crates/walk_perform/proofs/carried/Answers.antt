@@ -1,5 +1,4 @@
 -- `walk_perform::carried` meets its contract. Assumes nothing.
-use borrow.Author.Rules.{rules}
 use mathlib.Core.Path.{refl, sym, ◌∙◌}
 use lib.Seq.{length-take-le}
 use Rattle.walk_perform.proofs.Carry.{carry_net}

@@ -1,5 +1,4 @@
 -- `walk_perform::mux` meets its contract. Assumes nothing.
-use borrow.Author.Rules.{rules}
 use mathlib.Core.Path.{sym, ◌∙◌}
 use lib.Seq.{length-take-le}
 use Rattle.walk_job_parts.proofs.Lent.{back_whole}

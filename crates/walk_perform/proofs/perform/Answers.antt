@@ -1,5 +1,4 @@
 -- `walk_perform::perform` meets its contract. Assumes nothing.
-use borrow.Author.Rules.{rules}
 use native.Mathlib.Omega.{arith}
 use Rattle.op_bits.proofs.Laws.{not_done}
 use Rattle.walk_perform.proofs.Jobs.{made_within, fits_more, fits_whole, fits_narrowed, job_whole, job_out, job_narrowed}

@@ -1,5 +1,4 @@
 -- `walk_perform::perform_task` meets its contract. Assumes nothing.
-use borrow.Author.Rules.{rules}
 use mathlib.Core.Path.{refl}
 use native.Mathlib.Omega.{arith}
 use Rattle.walk_operands.specs.Tasks.{task_made}

@@ -1,5 +1,4 @@
 -- `walk_perform::unary` meets its contract. Assumes nothing.
-use borrow.Author.Rules.{rules}
 use mathlib.Core.Path.{sym}
 use lib.Seq.{length-take-le}
 use Rattle.walk_perform.proofs.Laws.{back_unary}

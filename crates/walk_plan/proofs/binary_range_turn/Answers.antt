@@ -1,11 +1,9 @@
 -- `walk_plan::binary_range_turn` meets its contract. Assumes nothing.
-use borrow.Author.Rules.{rules}
 use mathlib.Core.Path.{◌≡◌, sym, ◌∙◌}
 use mathlib.Core.Bool.{true, false}
 use Prim.Native.Nat.{◌≤◌}
 use native.Mathlib.Omega.{arith}
 use Rattle.walk_plan.specs.Kinds.{none_left, binary_yes, binary_no, turn_for}
-use Rattle.expr_fusion.specs.Fusion.{not_true, not_false}
 use Rattle.image_records.specs.OpClass.{bitwise}
 use Rattle.walk_plan.proofs.binary_range_turn.Goals as goal
 

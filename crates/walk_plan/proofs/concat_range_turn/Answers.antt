@@ -1,5 +1,4 @@
 -- `walk_plan::concat_range_turn` meets its contract. Assumes nothing.
-use borrow.Author.Rules.{rules}
 use native.Mathlib.Omega.{arith}
 use Rattle.walk_plan.specs.Kinds.{part_most, piece_turn, pieces_end}
 use Rattle.walk_plan.proofs.concat_range_turn.Goals as goal

@@ -1,5 +1,4 @@
 -- `walk_plan::kind_range_turn` meets its contract. Assumes nothing.
-use borrow.Author.Rules.{rules}
 use native.Mathlib.Omega.{arith}
 use Rattle.walk_plan.specs.Kinds.{turn_list, turn_as, rest_signal, rest_constant, rest_unary, rest_binary, rest_mux, rest_concat, rest_slice}
 use Rattle.walk_plan.proofs.kind_range_turn.Goals as goal

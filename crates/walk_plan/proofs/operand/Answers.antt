@@ -1,5 +1,4 @@
 -- `walk_plan::operand` meets its contract. Assumes nothing.
-use borrow.Author.Rules.{rules}
 use mathlib.Core.Path.{ap}
 use Rattle.expr_fusion.specs.Fusion.{carry_of, shown}
 use Rattle.walk_plan.specs.Kinds.{operand_two, operand_three, turn_for}

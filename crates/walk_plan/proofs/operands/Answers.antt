@@ -1,5 +1,4 @@
 -- `walk_plan::operands` meets its contract. Assumes nothing.
-use borrow.Author.Rules.{rules}
 use mathlib.Core.Path.{◌∙◌, ap}
 use Rattle.image_records.specs.OpClass.{adds_of}
 use Rattle.walk_plan.specs.Kinds.{operands_plain, operands_add}

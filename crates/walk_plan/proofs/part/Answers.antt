@@ -1,5 +1,4 @@
 -- `walk_plan::part` meets its contract. Assumes nothing.
-use borrow.Author.Rules.{rules}
 use native.Mathlib.Omega.{arith}
 use Rattle.walk_plan.specs.Kinds.{part_next, parts_end}
 use Rattle.walk_plan.proofs.part.Goals as goal

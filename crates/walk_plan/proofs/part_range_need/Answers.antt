@@ -1,5 +1,4 @@
 -- `walk_plan::part_range_need` meets its contract. Assumes nothing.
-use borrow.Author.Rules.{rules}
 use Rattle.walk_plan.specs.Kinds.{part_yes, part_no}
 use Rattle.walk_plan.proofs.part_range_need.Goals as goal
 

@@ -1,5 +1,4 @@
 -- `walk_plan::range_turn` meets its contract. Assumes nothing.
-use borrow.Author.Rules.{rules}
 use Rattle.walk_plan.specs.Fits.{asked_range}
 use Rattle.walk_plan.proofs.range_turn.Goals as goal
 

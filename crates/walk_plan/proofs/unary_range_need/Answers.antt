@@ -1,5 +1,4 @@
 -- `walk_plan::unary_range_need` meets its contract. Assumes nothing.
-use borrow.Author.Rules.{rules}
 use Rattle.image_records.specs.Expr.{unary_means}
 use Rattle.walk_plan.specs.Plan.{unary_needs}
 use Rattle.walk_plan.proofs.unary_range_need.Goals as goal

@@ -1,5 +1,4 @@
 -- `walk_plan::whole_turn` meets its contract. Assumes nothing.
-use borrow.Author.Rules.{rules}
 use Rattle.law_accepted.specs.Formed.{readable}
 use Rattle.walk_plan.specs.Kinds.{whole_read}
 use Rattle.walk_plan.specs.Fits.{asked}

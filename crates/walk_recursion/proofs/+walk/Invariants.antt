@@ -1,21 +1,9 @@
 -- The walk: each of its functions gives what the model says, for all fuel above the cost. Assumes nothing.
-use Prim.Native.Nat.{ℕ, ◌+◌, ◌*◌, ◌-◌, ◌<◌}
-use mathlib.Core.Path.{◌≡◌, refl, sym, ap, ◌∙◌}
-use mathlib.Core.Bool.{false}
-use mathlib.Core.Option.{none, some}
-use native.Mathlib.Omega.{arith}
-use borrow.Author.Rules.{rules}
-use Rattle.spec_rules.specs.Image.{decode}
+use Prim.Native.Nat.{◌+◌, ◌*◌, ◌-◌}
 use Rattle.spec_model.specs.Lowering as M
-use Rattle.spec_model.specs.Lowering.{signal_bit, cell, driver_of}
-use Rattle.net_view.specs.View.{netlist_of}
-use Rattle.scratch_view.specs.View.{limit_of}
-use Rattle.scratch_tables.specs.Answers.{known_of, driven_by}
-use Rattle.walk_view.specs.View.{walk_state, cost_of, There}
-use Rattle.walk_view.proofs.Answers.{not-done-tag}
+use Rattle.walk_view.specs.View.{cost_of}
 use Rattle.walk_recursion.specs.declared.Part.TheVariants as P
 use Rattle.walk_recursion.specs.Walk.{cost_need, At}
-use Rattle.walk_recursion.proofs.Ways.{turn_start, turn_next, whole_at_law, met_whole, bit_known, bit_none, bit_marked, driver_there, marked_ready, marked_sure, marked_less, bit_lowered}
 use Rattle.walk_recursion.proofs.+walk.Given as goal
 
 abbrev pub decreases-lower_bit : goal.decreases-lower_bit

@@ -1,5 +1,4 @@
 -- `walk_recursion::turn` meets its contract. Assumes nothing.
-use borrow.Author.Rules.{rules}
 use Rattle.walk_recursion.proofs.Ways.{whole_at_law}
 use Rattle.walk_recursion.proofs.turn.Goals as goal
 

@@ -1,5 +1,4 @@
 -- `walk_recursion::turn_range` meets its contract. Assumes nothing.
-use borrow.Author.Rules.{rules}
 use mathlib.Core.Path.{refl}
 use mathlib.Core.List.{[]}
 use Rattle.spec_model.specs.Lowering as M
