@@ -1,1 +1,2 @@
 // Laws of the expressions that an image stands for. No code.
+#![tactic(auto)]

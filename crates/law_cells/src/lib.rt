@@ -1,1 +1,2 @@
 // Arithmetic and comparison cells: their nets stand for their operations. The laws are in specs/.
+#![tactic(auto)]

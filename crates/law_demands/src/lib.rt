@@ -1,1 +1,2 @@
 // Demands 2 and 3 of a lowering: laws only, in specs/.
+#![tactic(auto)]

@@ -1,1 +1,2 @@
 // The fuel of the lowering is enough: laws only, in specs/.
+#![tactic(auto)]

@@ -1,1 +1,2 @@
 // A netlist whose nodes and records are listed is accepted: laws only, in specs/.
+#![tactic(auto)]

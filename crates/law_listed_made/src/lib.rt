@@ -1,1 +1,2 @@
 // The lowering lists each node and record: laws only, in specs/.
+#![tactic(auto)]

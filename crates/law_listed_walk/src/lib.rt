@@ -1,1 +1,2 @@
 // What the builder and the walk keep of a netlist's fields: laws only, in specs/.
+#![tactic(auto)]

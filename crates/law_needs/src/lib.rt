@@ -1,1 +1,2 @@
 // The lowering and what bits need: laws only, in specs/.
+#![tactic(auto)]

@@ -1,1 +1,2 @@
 // Whose the nodes and port records of a lowered netlist are: laws only, in specs/.
+#![tactic(auto)]

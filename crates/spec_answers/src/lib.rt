@@ -1,1 +1,2 @@
 // What the lowering call's answers say: definitions only, in specs/.
+#![tactic(auto)]

@@ -1,1 +1,2 @@
 // The lowering as a definition: definitions in specs/, no code.
+#![tactic(auto)]
