@@ -1,5 +1,6 @@
 // What the listing program writes for an input, as text at the start of a lent buffer.
 #![tactic(auto)]
+
 ghost use Rattle.std.specs.Prelude.{◌≤◌, ◌≡◌, length, replicate};
 ghost use Rattle.spec_call.specs.Call as call;
 ghost use Rattle.listing_outcome.specs.Written.{Written};

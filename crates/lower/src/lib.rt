@@ -1,6 +1,7 @@
 // The lowering of a module image into a netlist image, in lent words: the checks, the start of the walk, its phases, and the clearing.
 // Follows `lower` of struo-synth.
 #![tactic(auto)]
+
 ghost use Rattle.std.specs.Prelude.{◌≡◌, false};
 ghost use Rattle.spec_rules.specs.Image.{decode};
 ghost use Rattle.spec_rules.specs.Checks as rule;
