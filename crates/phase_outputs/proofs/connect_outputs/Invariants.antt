@@ -1,0 +1,21 @@
+-- `phase_outputs::connect_outputs` meets its contract. Assumes nothing.
+use borrow.Author.Rules.{rules}
+use mathlib.Core.Bool.{false}
+use Prim.Native.Nat.{◌-◌}
+use native.Mathlib.Omega.{arith}
+use Rattle.spec_rules.specs.Image.{decode}
+use Rattle.spec_model.specs.Lowering.{connect_outputs}
+use Rattle.walk_view.specs.View.{walk_state, Sure}
+use Rattle.walk_view.specs.Turns.{Turning, turning_start, turning_more, turning_out, turning_end}
+use Rattle.phase_parts.specs.Ran.{ran_phase}
+use Rattle.walk_view.proofs.Answers.{not-done-tag}
+use Rattle.phase_outputs.specs.Outputs.{output_turn}
+use Rattle.phase_outputs.proofs.Laws.{all_outputs}
+use Rattle.phase_outputs.proofs.connect_outputs.Given as goal
+
+abbrev pub invariant-loop-p : goal.invariant-loop-p
+invariant-loop-p l =
+    (Turning (connect_outputs (decode l.image) false 0 (decode l.image).signals (walk_state l.image l.initial.net l.initial.scr)) (output_turn l.image) l.n l.image l.initial.net l.initial.scr l.net l.scr l.p) × (Sure l.image l.net l.scr)
+
+abbrev pub decreases-loop-p : goal.decreases-loop-p
+decreases-loop-p l = l.n - l.p

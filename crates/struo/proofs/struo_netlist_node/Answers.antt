@@ -1,0 +1,10 @@
+-- `struo::struo_netlist_node` meets its contract. Assumes nothing.
+use borrow.Author.Rules.{rules}
+use mathlib.Core.Path.{ap, ◌∙◌}
+use mathlib.Core.Bool.{Bool}
+use Prim.Native.Nat.{ℕ}
+use Rattle.spec_tests.specs.Rules.{pick}
+use Rattle.struo.proofs.struo_netlist_node.Goals as goal
+
+pub returns : goal.returns
+returns c = (c.flag.ensures ∙ ap (λ (b : Bool). pick {A = ℕ} b 1 0) c.is_node.ensures, c.node.ensures)
