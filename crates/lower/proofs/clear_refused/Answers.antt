@@ -1,5 +1,4 @@
 -- `lower::clear_refused` meets its contract. Assumes nothing.
-use borrow.Author.Rules.{rules}
 use mathlib.Core.Path.{◌∙◌}
 use Rattle.walk_view.proofs.Answers.{not-done-tag}
 use Rattle.lower.proofs.Ends.{kept_refused, kept_done}

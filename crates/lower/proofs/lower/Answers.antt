@@ -1,5 +1,4 @@
 -- `lower::lower` meets its contract. Assumes nothing.
-use borrow.Author.Rules.{rules}
 use mathlib.Core.Path.{refl, sym}
 use lib.Seq.{length-take-le}
 use Rattle.lower.proofs.Ends.{not_fine, passed, refused_way, good, netlist_fits, scratch_fits, lent, room_is, lowered_way}

@@ -1,5 +1,4 @@
 -- `lower::lower_accepted` meets its contract. Assumes nothing.
-use borrow.Author.Rules.{rules}
 use native.Mathlib.Omega.{arith}
 use Rattle.lower.proofs.Ends.{ended_way}
 use Rattle.lower.proofs.lower_accepted.Goals as goal

@@ -1,5 +1,4 @@
 -- `lower::phases` meets its contract. Assumes nothing.
-use borrow.Author.Rules.{rules}
 use mathlib.Core.Path.{◌∙◌}
 use Rattle.walk_view.proofs.Answers.{not-done-tag}
 use Rattle.lower.proofs.Stages.{done_phase, sure_1, sure_2, sure_3, refused_1, refused_2, refused_3, ended}

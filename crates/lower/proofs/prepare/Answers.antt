@@ -1,5 +1,4 @@
 -- `lower::prepare` meets its contract. Assumes nothing.
-use borrow.Author.Rules.{rules}
 use mathlib.Core.Path.{refl}
 use Rattle.law_accepted.specs.Sized.{sized}
 use Rattle.law_accepted.specs.Formed.{readable}

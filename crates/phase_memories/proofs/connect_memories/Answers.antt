@@ -1,15 +1,10 @@
 -- `phase_memories::connect_memories` meets its contract. Assumes nothing.
-use borrow.Author.Rules.{rules}
 use mathlib.Core.Bool.{false}
 use Prim.Native.Nat.{◌-◌}
 use native.Mathlib.Omega.{arith}
-use Rattle.spec_rules.specs.Image.{decode}
-use Rattle.spec_model.specs.Lowering.{connect_memories}
-use Rattle.walk_view.specs.View.{walk_state, Sure}
 use Rattle.walk_view.proofs.Answers.{not-done-tag}
-use Rattle.walk_view.specs.Turns.{Turning, turning_start, turning_more, turning_out, turning_end}
+use Rattle.walk_view.specs.Turns.{turning_start, turning_more, turning_out, turning_end}
 use Rattle.phase_parts.specs.Ran.{ran_phase}
-use Rattle.phase_memories.specs.Turns.{memory_turn}
 use Rattle.phase_memories.proofs.Laws.{all_memories}
 use borrow.Enum.Refused.{opened}
 use Rattle.phase_memories.proofs.connect_memories.Goals as goal

@@ -1,5 +1,4 @@
 -- `phase_memories::connect_memory` meets its contract. Assumes nothing.
-use borrow.Author.Rules.{rules}
 use mathlib.Core.Path.{sym, subst}
 use Rattle.spec_rules.specs.Image.{decode}
 use Rattle.spec_model.specs.Lowering.{push_record}

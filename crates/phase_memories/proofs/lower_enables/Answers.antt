@@ -1,5 +1,4 @@
 -- `phase_memories::lower_enables` meets its contract. Assumes nothing.
-use borrow.Author.Rules.{rules}
 use native.Mathlib.Omega.{arith}
 use Rattle.spec_model.specs.Lowering.{Bit, control_steps}
 use Rattle.image_records.specs.Others.{control_means, enable_means, port_means}

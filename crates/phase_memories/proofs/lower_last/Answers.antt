@@ -1,5 +1,4 @@
 -- `phase_memories::lower_last` meets its contract. Assumes nothing.
-use borrow.Author.Rules.{rules}
 use native.Mathlib.Omega.{arith}
 use mathlib.Core.List.{◌++◌}
 use Rattle.spec_model.specs.Lowering.{Bit, bit_step, enable_steps}

@@ -1,5 +1,4 @@
 -- `phase_memories::lower_memory` meets its contract. Assumes nothing.
-use borrow.Author.Rules.{rules}
 use Rattle.spec_model.specs.Lowering.{second_steps}
 use Rattle.image_records.specs.Others.{second_means, memory_means}
 use Rattle.walk_view.proofs.Answers.{not-done-tag}

@@ -1,5 +1,4 @@
 -- `phase_memories::lower_second` meets its contract. Assumes nothing.
-use borrow.Author.Rules.{rules}
 use Rattle.phase_parts.specs.Steps.{gives_none}
 use Rattle.phase_memory_records.specs.Second.{absent_means, present_means}
 use Rattle.phase_memories.proofs.lower_second.Goals as goal

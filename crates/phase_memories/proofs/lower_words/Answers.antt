@@ -1,5 +1,4 @@
 -- `phase_memories::lower_words` meets its contract. Assumes nothing.
-use borrow.Author.Rules.{rules}
 use Rattle.image_records.specs.Others.{port_means}
 use Rattle.walk_view.proofs.Answers.{not-done-tag}
 use Rattle.phase_memories.proofs.Laws.{read_given, read_out, write_given, write_out, data_given}

@@ -1,5 +1,4 @@
 -- `phase_outputs::connect_output` meets its contract. Assumes nothing.
-use borrow.Author.Rules.{rules}
 use Rattle.walk_view.specs.View.{walk_state}
 use Rattle.phase_parts.specs.Ran.{ran_as, ran_none}
 use Rattle.phase_outputs.proofs.Laws.{width_is, internal, input, output}

@@ -1,5 +1,4 @@
 -- `phase_outputs::connect_port` meets its contract. Assumes nothing.
-use borrow.Author.Rules.{rules}
 use native.Mathlib.Omega.{arith}
 use Rattle.spec_rules.specs.Image.{decode}
 use Rattle.law_walk.specs.Walk.{bits_asked}

@@ -1,5 +1,4 @@
 -- `phase_registers::connect_register` meets its contract. Assumes nothing.
-use borrow.Author.Rules.{rules}
 use mathlib.Core.Path.{sym, subst}
 use Rattle.image_records.specs.Others.{register_means}
 use Rattle.walk_view.specs.View.{walk_state}

@@ -1,16 +1,11 @@
 -- `phase_registers::connect_registers` meets its contract. Assumes nothing.
-use borrow.Author.Rules.{rules}
 use mathlib.Core.Bool.{false}
 use Prim.Native.Nat.{◌-◌}
-use native.Mathlib.Omega.{arith}
 use Rattle.spec_rules.specs.Image.{decode}
 use Rattle.spec_model.specs.Lowering.{connect_registers}
 use Rattle.walk_view.specs.View.{walk_state, Sure}
-use Rattle.walk_view.proofs.Answers.{not-done-tag}
-use Rattle.walk_view.specs.Turns.{Turning, turning_start, turning_more, turning_out, turning_end}
-use Rattle.phase_parts.specs.Ran.{ran_phase}
+use Rattle.walk_view.specs.Turns.{Turning}
 use Rattle.phase_registers.specs.Turns.{register_turn}
-use Rattle.phase_registers.proofs.Laws.{all_registers}
 use Rattle.phase_registers.proofs.connect_registers.Given as goal
 
 abbrev pub invariant-loop-k : goal.invariant-loop-k

@@ -1,5 +1,4 @@
 -- `phase_registers::lower_present` meets its contract. Assumes nothing.
-use borrow.Author.Rules.{rules}
 use native.Mathlib.Omega.{arith}
 use Rattle.spec_model.specs.Lowering.{Whole, Bit, bit_step}
 use Rattle.walk_view.proofs.Answers.{not-done-tag}

@@ -1,5 +1,4 @@
 -- `phase_registers::lower_register` meets its contract. Assumes nothing.
-use borrow.Author.Rules.{rules}
 use native.Mathlib.Omega.{arith}
 use Rattle.image_records.specs.Others.{register_means}
 use Rattle.walk_view.proofs.Answers.{not-done-tag}

@@ -1,5 +1,4 @@
 -- `phase_registers::lower_reset` meets its contract. Assumes nothing.
-use borrow.Author.Rules.{rules}
 use Rattle.phase_parts.specs.Steps.{gives_none}
 use Rattle.phase_register_records.specs.Resets.{absent_means, present_means}
 use Rattle.phase_registers.proofs.lower_reset.Goals as goal

@@ -7,7 +7,6 @@ use lib.Seq.{length-take-le}
 use Rattle.spec_call.specs.Call.{numbers_of}
 use Rattle.spec_netlist.specs.Accept.{accepts}
 use Rattle.stored_check.specs.Cut.{end_cut}
-use Prim.Native.Nat.{ℕ, ◌<◌}
 use Rattle.struo.proofs.+struo_netlist_check.Goals as goal
 
 pub struo_netlist_check-requires : goal.struo_netlist_check-requires

@@ -1,5 +1,4 @@
 -- `struo::struo_check` meets its contract. Assumes nothing.
-use borrow.Author.Rules.{rules}
 use mathlib.Core.Path.{ap, ◌∙◌}
 use Rattle.spec_call.specs.Call.{numbers_of}
 use Rattle.struo.proofs.struo_check.Goals as goal

@@ -1,5 +1,4 @@
 -- `struo::struo_lower` meets its contract. Assumes nothing.
-use borrow.Author.Rules.{rules}
 use Rattle.struo.proofs.Ways.{answers}
 use Rattle.struo.proofs.struo_lower.Goals as goal
 
