@@ -1,0 +1,20 @@
+-- `trace_text::lines_text` meets its contract. Assumes nothing.
+use mathlib.Core.Path.{refl, sym, ap, ◌∙◌}
+use native.Mathlib.Omega.{arith}
+use lib.ListN.{length}
+use Rattle.trace_open.specs.Begins.{underway_at, zero_at}
+use Rattle.trace_text.specs.Begins.{lines_last, lines_wait, lines_cut}
+use borrow.Author.Rules.{rules}
+use Rattle.trace_text.proofs.lines_text.Goals as goal
+
+pub take_lines-r-requires : goal.take_lines-r-requires
+take_lines-r-requires c = (underway_at refl refl c.value_table-values.ensures c.memory_table-memory.ensures c.name_table-names.ensures c.kept_table-kept.ensures c.requires, ap length (c.value_table-old.ensures ∙ sym c.value_table-values.ensures))
+
+pub returns-then-r : goal.returns-then-r
+returns-then-r c = lines_last (underway_at refl refl c.value_table-values.ensures c.memory_table-memory.ensures c.name_table-names.ensures c.kept_table-kept.ensures c.requires) (zero_at 1024 c.value_table-values.ensures) (zero_at 65536 c.memory_table-memory.ensures) (zero_at 4 c.name_table-names.ensures) _ c.take_lines-r.ensures c.if-r.true
+
+pub returns-then-r-2 : goal.returns-then-r-2
+returns-then-r-2 c = lines_wait (underway_at refl refl c.value_table-values.ensures c.memory_table-memory.ensures c.name_table-names.ensures c.kept_table-kept.ensures c.requires) (zero_at 1024 c.value_table-values.ensures) (zero_at 65536 c.memory_table-memory.ensures) (zero_at 4 c.name_table-names.ensures) _ c.take_lines-r.ensures c.if-r.false c.if-r-2.true _ refl (omega arith) c.put_end.ensures
+
+pub returns : goal.returns
+returns c = lines_cut (underway_at refl refl c.value_table-values.ensures c.memory_table-memory.ensures c.name_table-names.ensures c.kept_table-kept.ensures c.requires) (zero_at 1024 c.value_table-values.ensures) (zero_at 65536 c.memory_table-memory.ensures) (zero_at 4 c.name_table-names.ensures) _ c.take_lines-r.ensures c.if-r.false c.if-r-2.false
