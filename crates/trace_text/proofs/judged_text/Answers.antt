@@ -7,7 +7,6 @@ use Rattle.trace_open.specs.Opens.{answer_of}
 use Rattle.trace_open.specs.Begins.{opened_fresh}
 use Rattle.trace_text.specs.Begins.{begins_refusal}
 use Rattle.trace_text.specs.Input.{text_taken, text_not}
-use borrow.Author.Rules.{rules}
 use Rattle.trace_text.proofs.judged_text.Goals as goal
 
 pub slice_bounds-inputs-end : goal.slice_bounds-inputs-end

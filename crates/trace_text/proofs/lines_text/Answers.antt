@@ -4,7 +4,6 @@ use native.Mathlib.Omega.{arith}
 use lib.ListN.{length}
 use Rattle.trace_open.specs.Begins.{underway_at, zero_at}
 use Rattle.trace_text.specs.Begins.{lines_last, lines_wait, lines_cut}
-use borrow.Author.Rules.{rules}
 use Rattle.trace_text.proofs.lines_text.Goals as goal
 
 pub take_lines-r-requires : goal.take_lines-r-requires

@@ -3,7 +3,6 @@ use mathlib.Core.Path.{refl}
 use native.Mathlib.Omega.{arith}
 use Rattle.trace_text.specs.Input.{program_text}
 use Rattle.trace_open.specs.Image.{few_words}
-use borrow.Author.Rules.{rules}
 use Rattle.trace_text.proofs.text.Goals as goal
 
 pub read_image-n-requires : goal.read_image-n-requires
