@@ -6,7 +6,7 @@ use Rattle.bench.specs.Row.{Row, RowHolds, Promised}
 use Rattle.bench.specs.Carried.{seen, said, carried}
 use Rattle.bench.specs.Rows.{k1_seen, k3_seen, k3_sum_seen, k3'_seen, k4_seen, k4_sum_seen, k4'_seen, k5_seen, k6_seen, k7_seen, k8_seen, k9_seen, k10_seen, k10_sum_seen, k10'_seen, k11_seen, k12_seen}
 use Rattle.bench.proofs.Rows.{k2_seen}
-use Rattle.bench.specs.Table.{Each, differs, each, end, table}
+use Rattle.bench.specs.Table.{◌&◌, Each, differs, each, end, table}
 
 every_seen : Each (λ r. seen r ≡ said r) table
 every_seen =

@@ -18,7 +18,8 @@ use Rattle.spec_model.specs.Words.{Netlist}
 use Rattle.spec_model.specs.Lowering.{lower}
 use Rattle.spec_call.specs.Call.{outcome, image_of, numbers_of}
 use Rattle.check_image.specs.Checked.{then_fine, then_refused, then_both, refuse_yes, refuse_no}
-use Rattle.law_call.specs.Further.{Whole, netlist_same}
+use Rattle.law_call.specs.Further.{Whole}
+use Rattle.law_call.proofs.Further.{netlist_same}
 use Rattle.bench.specs.Row.{Question, Numbers, Nets, AdderWidths, Carries, Outputs, ResetValue, output_number, reply, Row, words, room, Shows, Refuses, RowHolds, Promised}
 
 -- ---- a row computed from the image's bytes ----

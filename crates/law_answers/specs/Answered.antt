@@ -36,14 +36,14 @@ use Rattle.law_needs.specs.Inside as inside
 use Rattle.law_phases.proofs.Outputs as outputs
 use Rattle.law_fuel.proofs.Spent.{never_spent}
 use Rattle.law_limits.specs.Bounds.{states, limited_state}
-use Rattle.law_limits.specs.Larger as grown
+use Rattle.law_limits.proofs.Larger as grown
 use Rattle.law_limits.specs.Larger.{not_done, refused_is}
 use Rattle.law_limits.proofs.Phases.{limits}
 use Rattle.law_limits.proofs.Limits.{accepted_only, refused_nets, refused_words}
 use Rattle.law_limits.proofs.Limits.{freely_lower}
 use Rattle.law_refused.specs.Stands as stands
 use Rattle.law_refused.specs.Stands.{AllGot, got_split}
-use Rattle.law_refused.specs.Phases as phases
+use Rattle.law_refused.proofs.Phases as phases
 use Rattle.law_refused.proofs.Phases.{Faults}
 use Rattle.law_refused.proofs.Lowered.{accepts, needed_served, none_undriven, none_looping}
 use Rattle.law_refused.proofs.Lowered.{Accepts, told}

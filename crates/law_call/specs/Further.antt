@@ -21,14 +21,14 @@ module _ (ws : List ℕ) (whole : Whole ws) (rest : List ℕ) where
   word_same : (i : ℕ) → i < length ws → get_or (ws ++ rest) i 0 ≡ get_or ws i 0
   word_same i h = get_or-append ws rest 0 i h
 
-  header_same : (i : ℕ) → i < 5 → get_or (ws ++ rest) i 0 ≡ get_or ws i 0
+  pub header_same : (i : ℕ) → i < 5 → get_or (ws ++ rest) i 0 ≡ get_or ws i 0
   header_same i h = word_same i (omega (arith, whole.header))
 
   node_word_law : (k f : ℕ) → k < get_or ws 1 0 → f < 6 → node_word (ws ++ rest) k f ≡ node_word ws k f
   unfolding node_word
   node_word_law k f h l = rw (header_same 2 (omega arith)) (word_same _ (omega (arith, whole.nodes)))
 
-  node_same : (k : ℕ) → k < get_or ws 1 0 → node_at_of (ws ++ rest) k ≡ node_at_of ws k
+  pub node_same : (k : ℕ) → k < get_or ws 1 0 → node_at_of (ws ++ rest) k ≡ node_at_of ws k
   unfolding node_at_of
   node_same k h =
       rw (
@@ -52,20 +52,14 @@ module _ (ws : List ℕ) (whole : Whole ws) (rest : List ℕ) where
           rw (node_word_law k 0 h (omega arith), node_word_law k 1 h (omega arith), node_word_law k 2 h (omega arith))
       go false e = refl
 
-  port_same : (r : List ℕ) → is_output_port (ws ++ rest) r ≡ is_output_port ws r
+  pub port_same : (r : List ℕ) → is_output_port (ws ++ rest) r ≡ is_output_port ws r
   unfolding is_output_port
   port_same r = ap (λ (f : ℕ → Bool). not (any f (get_or r 2 0))) (fun_ext (λ i. output_same (get_or r (3 + i) 0) (get_or r 1 0) i))
 
-  records_same : records_of (ws ++ rest) ≡ records_of ws
+  pub records_same : records_of (ws ++ rest) ≡ records_of ws
   unfolding records_of
   records_same =
       let d : drop (get_or ws 4 0) (ws ++ rest) ≡ drop (get_or ws 4 0) ws ++ rest = drop-append-le (get_or ws 4 0) ws rest (omega (arith, whole.list)) in
       let t : take (get_or ws 3 0) (drop (get_or ws 4 0) ws ++ rest) ≡ take (get_or ws 3 0) (drop (get_or ws 4 0) ws)
       = take-append-le (get_or ws 3 0) (drop (get_or ws 4 0) ws) rest (omega (arith, whole.list, length-drop (get_or ws 4 0) ws)) in
       rw (header_same 3 (omega arith), header_same 4 (omega arith), d, t)
-
-  pub netlist_same : netlist (ws ++ rest) ≡ netlist ws
-  unfolding netlist records_with
-  netlist_same =
-      let p : is_output_port (ws ++ rest) ≡ is_output_port ws = fun_ext port_same in
-      rw (header_same 1 (omega arith), list_of_agree (get_or ws 1 0) (node_at_of (ws ++ rest)) (node_at_of ws) node_same, p, records_same)

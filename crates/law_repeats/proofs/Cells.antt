@@ -67,23 +67,24 @@ again_comparison op lhs rhs l q =
     again_found key (add_comparison op lhs rhs) l (λ n.
     again_made key (add_comparison op lhs rhs) l (source 11 (W.count 4 l.records)) 1 q.few (λ i. omega arith) (λ ns. other_kind l (key ++ ns) (omega arith)) n refl)
 
-module _ (op : ArithmeticOp) (lhs rhs : List ℕ) (carry : Option ℕ) (l : Netlist) (q : Sound l) (bc : CarryBelow (count l) carry) (same : length rhs ≡ length lhs) where
-  abbrev key : List ℕ
-  key = arithmetic_key (arithmetic_word op) lhs rhs carry
-
+module _ (op : ArithmeticOp) (lhs rhs : List ℕ) (carry : Option ℕ) (l : Netlist) (q : Sound l) (below : CarryBelow (count l) carry) (same : length rhs ≡ length lhs) where
   -- a cell that is not folded has the key of none that is
-  other_cell : fold_constant_arithmetic op lhs rhs carry l ≡ none → (ns : List ℕ) → Other l (key ++ ns)
-  other_cell e ns op' lhs' rhs' carry' vs same' f = go (begins key' (key ++ ns)) refl
+  other_cell : fold_constant_arithmetic op lhs rhs carry l ≡ none → (ns : List ℕ) → Other l (arithmetic_key (arithmetic_word op) lhs rhs carry ++ ns)
+  other_cell e ns op' lhs' rhs' carry' vs same' f = go (begins key' (arithmetic_key (arithmetic_word op) lhs rhs carry ++ ns)) refl
     where
       key' : List ℕ
       key' = arithmetic_key (arithmetic_word op') lhs' rhs' carry'
 
-      go : (t : Bool) → begins key' (key ++ ns) ≡ t → begins key' (key ++ ns) ≡ false
+      go : (t : Bool) → begins key' (arithmetic_key (arithmetic_word op) lhs rhs carry ++ ns) ≡ t → begins key' (arithmetic_key (arithmetic_word op) lhs rhs carry ++ ns) ≡ false
       go false b = b
       go true b =
-          let x = sym (arithmetic_of_law lhs rhs ns same op carry (carry_low l q carry bc)) ∙ ap arithmetic_of (begins_is key' (key ++ ns) b)
-          ∙ arithmetic_of_law lhs' rhs' (drop (length key') (key ++ ns)) same' op' carry' (carry_low l q carry' (fold_carry op' lhs' rhs' carry' l vs f)) in
+          let x = sym (arithmetic_of_law lhs rhs ns same op carry (carry_low l q carry below)) ∙ ap arithmetic_of (begins_is key' (arithmetic_key (arithmetic_word op) lhs rhs carry ++ ns) b)
+          ∙ arithmetic_of_law lhs' rhs' (drop (length key') (arithmetic_key (arithmetic_word op) lhs rhs carry ++ ns)) same' op' carry' (carry_low l q carry' (fold_carry op' lhs' rhs' carry' l vs f)) in
           absurd (fold_any op op' lhs' rhs' carry' l vs (ap (λ (z : N.Arithmetic). fold_constant_arithmetic op z.lhs z.rhs z.carry l) (sym x) ∙ e) f)
+
+module _ (op : ArithmeticOp) (lhs rhs : List ℕ) (carry : Option ℕ) (l : Netlist) (q : Sound l) (bc : CarryBelow (count l) carry) (same : length rhs ≡ length lhs) where
+  abbrev key : List ℕ
+  key = arithmetic_key (arithmetic_word op) lhs rhs carry
 
   pub again_arithmetic : Again (arithmetic op lhs rhs carry) l
   unfolding arithmetic add_arithmetic
@@ -96,4 +97,4 @@ module _ (op : ArithmeticOp) (lhs rhs : List ℕ) (carry : Option ℕ) (l : Netl
       go : find_cell key l.records ≡ none → (o : Option (List Bool)) → fold_constant_arithmetic op lhs rhs carry l ≡ o → Again (arithmetic op lhs rhs carry) l
       go n (some vs) e = again_as (again_constants vs l) (folded vs l n e)
           (λ l' s. folded vs l' (s.folds op lhs rhs carry vs same e n) (fold_grew s.grew op lhs rhs carry vs e))
-      go n none e = again_made key (add_arithmetic op lhs rhs carry) l (source 10 (W.count 3 l.records)) (length lhs) q.few (λ i. omega arith) (other_cell e) n (rw e)
+      go n none e = again_made key (add_arithmetic op lhs rhs carry) l (source 10 (W.count 3 l.records)) (length lhs) q.few (λ i. omega arith) (other_cell op lhs rhs carry l q bc same e) n (rw e)

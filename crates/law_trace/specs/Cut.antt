@@ -13,7 +13,8 @@ use Rattle.spec_netlist.specs.Given.{Same}
 use Rattle.spec_trace.specs.Opened.{word_count, ports_with}
 use Rattle.law_told.specs.Told.{Told, told, whole, few, list_starts_law, nodes_start}
 use Rattle.law_told.specs.Behind.{only_these, records_same}
-use Rattle.law_call.specs.Further.{Whole, netlist_same}
+use Rattle.law_call.specs.Further.{Whole}
+use Rattle.law_call.proofs.Further.{netlist_same}
 use Rattle.law_trace.specs.Shown.{Mem, this, that, mem_in, mem_only, port_at}
 
 abbrev pub cut : List ℕ → List ℕ

@@ -10,24 +10,11 @@ use Rattle.spec_rtl.specs.Rtl as R
 use Rattle.spec_rtl.specs.Rtl.{Expr, Binary, Valuation, word, binary}
 use Rattle.spec_model.specs.Ranges.{expr_at, width_at, class_of, adder_width}
 use Rattle.spec_model.specs.Lowering.{is_add, add_operands, carry_lsb, Operands, fused, operands_of}
-use Rattle.word_laws.specs.Add.{fuse, fuse_r, narrow_add, narrow_carry}
+use Rattle.word_laws.specs.Add.{fuse, fuse_r}
 use Rattle.word_laws.specs.Widths.{BelowE, WidthOk, Formed, word_is, word_width}
 use Rattle.word_ranges.proofs.Sound.{narrow_fits}
 use Rattle.word_ranges.specs.Carry.{carry_sound}
-use Rattle.word_ranges.specs.Fusion.{Narrowed, Operate, add_kind_law, add_only, carry_bit, cell_word, taken}
-
-cell_narrow : (k w : ℕ) (a b : List Bool) (c : Option Bool) → length a ≡ w → length b ≡ w → k ≤ w → value (cell_word R.Add a b c) < 2 ^ k
-    → Narrowed k w (take k a) (take k b) c (cell_word R.Add a b c)
-cell_narrow k w a b none l m h s = record {
-  left = taken k a (omega arith);
-  right = taken k b (omega arith);
-  sum = narrow_add a b k (omega arith) s ∙ rw (l, taken k a (omega arith));
-}
-cell_narrow k w a b (some c) l m h s = record {
-  left = taken k a (omega arith);
-  right = taken k b (omega arith);
-  sum = narrow_carry a b c k (omega arith) s ∙ rw (l, taken k a (omega arith));
-}
+use Rattle.word_ranges.specs.Fusion.{cell_narrow, Narrowed, Operate, add_kind_law, add_only, carry_bit, cell_word, taken}
 
 module _ (xs : List Expr) (f : Formed xs) (v : Valuation) where
   -- an inner Add: its operands stand below it and have its width

@@ -1,13 +1,15 @@
 -- What a Binary's operands give, fused or not, narrowed or not: the expression's word, for every valuation of the signals. Assumes nothing.
-use Rattle.std.specs.Prelude.{◌≡◌, Bool, cond, List, ◌++◌, ℕ, ◌-◌, ◌≤◌, ◌<◌, T, length, get_or, take, replicate}
+use Rattle.std.specs.Prelude.{◌≡◌, Bool, cond, List, ◌++◌, ℕ, ◌-◌, ◌^◌, ◌≤◌, ◌<◌, T, length, get_or, take, replicate}
 use Rattle.std.proofs.Math.Path.{refl}
 use Rattle.std.proofs.Common.{◌∙◌, arith, length-take}
 use Rattle.std.proofs.Math.Bool.{true, false}
 use Rattle.std.proofs.Math.Option.{Option, none, some}
+use Rattle.spec_rtl.specs.Word.{value}
 use Rattle.spec_rtl.specs.Ops.{add_c}
 use Rattle.spec_rtl.specs.Rtl as R
 use Rattle.spec_rtl.specs.Rtl.{Expr, Kind, Binary, Valuation, word, binary}
 use Rattle.spec_model.specs.Ranges.{class_of}
+use Rattle.word_laws.specs.Add.{narrow_add, narrow_carry}
 use Rattle.spec_model.specs.Lowering.{is_add, add_kind, Operands}
 
 -- a cell or gates of the operator, with a carry an adder
@@ -80,3 +82,16 @@ pub record Narrowed (k w : ℕ) (a b : List Bool) (c : Option Bool) (out : List 
 
 pub taken : (k : ℕ) (a : List Bool) → k ≤ length a → length (take k a) ≡ k
 taken k a h = length-take k a ∙ omega arith
+
+pub cell_narrow : (k w : ℕ) (a b : List Bool) (c : Option Bool) → length a ≡ w → length b ≡ w → k ≤ w → value (cell_word R.Add a b c) < 2 ^ k
+    → Narrowed k w (take k a) (take k b) c (cell_word R.Add a b c)
+cell_narrow k w a b none l m h s = record {
+  left = taken k a (omega arith);
+  right = taken k b (omega arith);
+  sum = narrow_add a b k (omega arith) s ∙ rw (l, taken k a (omega arith));
+}
+cell_narrow k w a b (some c) l m h s = record {
+  left = taken k a (omega arith);
+  right = taken k b (omega arith);
+  sum = narrow_carry a b c k (omega arith) s ∙ rw (l, taken k a (omega arith));
+}
