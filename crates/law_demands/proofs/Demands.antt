@@ -29,7 +29,8 @@ use Rattle.law_phases.specs.Made.{bit_in, port_in, IsBit, SamePort, SameSecond, 
 use Rattle.law_phases.specs.Drivers.{input_driver}
 use Rattle.law_phases.specs.Sources.{inside}
 use Rattle.law_phases.proofs.Outputs.{Lowered, lowered}
-use Rattle.law_demands.proofs.ReadsLaws.{bit_at, word_at, half_load, half_load_law, net_load_law, half_access, half_access_law, net_access_law}
+use Rattle.law_demands.specs.Reads.{half_load, half_access}
+use Rattle.law_demands.proofs.ReadsLaws.{bit_at, word_at, half_load_law, net_load_law, half_access_law, net_access_law}
 use Rattle.law_demands.specs.Demands.{machine_alike, map_elem, output_there, past, tab_elem, tab_past}
 
 module _ (m : Module) (good : Good m) (ob : Bool) (lim : ℕ × ℕ) (st : State) (w : Lowered m good ob lim st) where

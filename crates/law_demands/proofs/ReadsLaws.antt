@@ -1,22 +1,21 @@
 -- What is proved of specs/Reads: What a step reads in the module and in its netlist, where the nets have the values that they are to have. Assumes nothing.
 -- Each reading of the module is first put in terms of the netlist before the step and the new inputs; with the clocks and
 -- asynchronous resets input ports it is then the netlist's.
-use Rattle.std.specs.Prelude.{◌≡◌, refl, Bool, true, false, not, ◌&&◌, List, [], ◌∷◌, map, ℕ, eqb, get_or}
+use Rattle.std.specs.Prelude.{◌≡◌, refl, Bool, true, false, not, ◌&&◌, List, [], ◌∷◌, map, ℕ, eqb}
 use Rattle.std.proofs.Common.{sym}
 use Rattle.std.proofs.Math.Option.{Option, none, some}
-use Rattle.spec_rtl.specs.Word.{value}
 use Rattle.spec_rtl.specs.Ops.{xor_b}
 use Rattle.spec_rtl.specs.Rtl as R
 use Rattle.spec_rtl.specs.Rtl.{Module, Valuation, Control, word, dir_of}
 use Rattle.spec_rules.specs.NetlistImage as N
-use Rattle.spec_rules.specs.Step.{Setting, Contents, edge, active, enabled, resets, Load, Access, reset_bit, module_load, module_access, net_load, net_access}
+use Rattle.spec_rules.specs.Step.{Setting, Contents, enabled, resets, reset_bit, module_load, module_access, net_load, net_access}
 use Rattle.spec_model.specs.Words.{Netlist}
 use Rattle.law_nets.specs.Meaning.{net_value}
 use Rattle.law_nets.specs.Sound.{Sound}
 use Rattle.law_nets.proofs.Run.{later_refl}
 use Rattle.law_walk.specs.Kept.{Table, Agrees, NetsGive}
 use Rattle.law_phases.specs.Made.{IsBit, SameControl, SamePort, SameReset, SameBit}
-use Rattle.law_demands.specs.Reads.{head_eq}
+use Rattle.law_demands.specs.Reads.{head_eq, half_load, half_access}
 
 -- ---- before the step: the nets g have the values of the signals' bits v ----
 
@@ -45,18 +44,7 @@ module _ (m : Module) (l : Netlist) (q : Sound l) (t : Table) (s : Setting) (c :
   value_at i (some x) none h = absurd h
   value_at i (some x) (some y) h = h.3.is l (later_refl q) s c v a
 
-  -- of a register's bit, with the new inputs u
-  abbrev pub half_load : Setting → R.Register → N.RegisterBit → Load
-  half_load u r b = record {
-    ticks = edge r.rising (net_value l s c b.register.clock) (u r.clock 0);
-    synchronous = resets false (net_value l s c) b.register.reset;
-    enabled = enabled (net_value l s c) b.register.enable;
-    next = net_value l s c b.register.next;
-    asynchronous = resets true (λ p. u p 0) r.reset;
-    value = reset_bit (λ x. eqb x 1 ∷ []) b.register.reset 0;
-  }
-
-  pub half_load_law : (u : Setting) (i : ℕ) (r : R.Register) (b : N.RegisterBit) → SameBit m l t i r b → module_load (word m.exprs v) v u i r ≡ half_load u r b
+  pub half_load_law : (u : Setting) (i : ℕ) (r : R.Register) (b : N.RegisterBit) → SameBit m l t i r b → module_load (word m.exprs v) v u i r ≡ half_load m l q t s c v a u r b
   half_load_law u i r b h =
       rw (
         sym (bit_at b.register.clock r.clock h.clock),
@@ -66,18 +54,7 @@ module _ (m : Module) (l : Netlist) (q : Sound l) (t : Table) (s : Setting) (c :
         value_at i r.reset b.register.reset h.reset,
       )
 
-  -- of a memory's port
-  abbrev pub half_access : Setting → R.Port → N.MemoryPort → Access
-  half_access u p b = record {
-    ticks = edge p.rising (net_value l s c b.clock) (u p.clock 0);
-    reads = enabled (net_value l s c) b.read_enable;
-    read_at_of = value (map (net_value l s c) b.read_address);
-    writes = active (net_value l s c) b.write_enable;
-    write_at = value (map (net_value l s c) b.write_address);
-    written = λ i. get_or (map (net_value l s c) b.write_data) i false;
-  }
-
-  pub half_access_law : (u : Setting) (p : R.Port) (b : N.MemoryPort) → SamePort m l t p b → module_access (word m.exprs v) v u p ≡ half_access u p b
+  pub half_access_law : (u : Setting) (p : R.Port) (b : N.MemoryPort) → SamePort m l t p b → module_access (word m.exprs v) v u p ≡ half_access m l q t s c v a u p b
   half_access_law u p b h =
       rw (
         sym (bit_at b.clock p.clock h.clock),
