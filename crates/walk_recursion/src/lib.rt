@@ -81,6 +81,7 @@ fn turn(image: &[u8], net: &mut [u32], scr: &mut [u32], part: Part, k: u32, at: 
 // ---- the recursion ----
 
 #[cycle(walk)]
+#[inline(never)]
 pub fn resolve_signal_bit(image: &[u8], net: &mut [u32], scr: &mut [u32], p: u32, b: u32) -> Lowered
     requires { (Ready image.now net.old scr.old) × (Sure image.now net.old scr.old) × (p < count_at_of image.now 0) × (b < signal_width image.now p) }
     ensures { Gives image.now net.old scr.old (model.Bit p b) result net.new scr.new }
@@ -102,6 +103,7 @@ pub fn resolve_signal_bit(image: &[u8], net: &mut [u32], scr: &mut [u32], p: u32
 }
 
 #[cycle(walk)]
+#[inline(never)]
 pub fn lower_expression(image: &[u8], net: &mut [u32], scr: &mut [u32], e: u32) -> Lowered
     requires { (Ready image.now net.old scr.old) × (Sure image.now net.old scr.old) × (e < count_at_of image.now 1) }
     ensures { Gives image.now net.old scr.old (model.Whole e) result net.new scr.new }
@@ -123,6 +125,7 @@ pub fn lower_expression(image: &[u8], net: &mut [u32], scr: &mut [u32], e: u32) 
 }
 
 #[cycle(walk)]
+#[inline(never)]
 pub fn lower_expression_range(
     image: &[u8],
     net: &mut [u32],
@@ -152,8 +155,10 @@ pub fn lower_expression_range(
     }
 }
 
+// The hints keep a level of the recursion to one frame: what lower_need does stands in the frame of its caller (docs/BENCH.md, stack).
 // `lower_need` calls these two, so that what their calls lend takes no room in its own frame.
 #[cycle(walk)]
+#[inline(always)]
 fn lower_bit(image: &[u8], net: &mut [u32], scr: &mut [u32], p: u32, b: u32) -> Lowered
     requires { (Ready image.now net.old scr.old) × (Sure image.now net.old scr.old) × (p < count_at_of image.now 0) × (b < signal_width image.now p) }
     ensures { Gives image.now net.old scr.old (model.Bit p b) result net.new scr.new }
@@ -162,6 +167,7 @@ fn lower_bit(image: &[u8], net: &mut [u32], scr: &mut [u32], p: u32, b: u32) -> 
 }
 
 #[cycle(walk)]
+#[inline(always)]
 fn lower_whole(image: &[u8], net: &mut [u32], scr: &mut [u32], e: u32) -> Lowered
     requires { (Ready image.now net.old scr.old) × (Sure image.now net.old scr.old) × (e < count_at_of image.now 1) }
     ensures { Gives image.now net.old scr.old (model.Whole e) result net.new scr.new }
@@ -171,6 +177,7 @@ fn lower_whole(image: &[u8], net: &mut [u32], scr: &mut [u32], e: u32) -> Lowere
 
 // What a need names.
 #[cycle(walk)]
+#[inline(always)]
 fn lower_need(image: &[u8], net: &mut [u32], scr: &mut [u32], need: Need) -> Lowered
     requires { (Ready image.now net.old scr.old) × (Sure image.now net.old scr.old) × (ThereNeed image.now need) }
     ensures { GivesNeed image.now net.old scr.old need result net.new scr.new }
