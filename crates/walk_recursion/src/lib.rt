@@ -155,8 +155,8 @@ pub fn lower_expression_range(
     }
 }
 
-// The hints keep a level of the recursion to one frame: what lower_need does stands in the frame of its caller (docs/BENCH.md, stack).
-// `lower_need` calls these two, so that what their calls lend takes no room in its own frame.
+// The hints keep a level of the recursion to one frame: `lower_need` and these two, which it calls, stand in the frame of their caller
+// (docs/BENCH.md, stack).
 #[cycle(walk)]
 #[inline(always)]
 fn lower_bit(image: &[u8], net: &mut [u32], scr: &mut [u32], p: u32, b: u32) -> Lowered
