@@ -65,12 +65,10 @@ pub fn first_assign(image: &[u8], firsts: &[u32], taken: &mut [u8]) -> u32
     ensures { (result ≡ first (bad_assign image.now) (count_at_of image.now 3)) × (count_at_of image.now 3 ≤ result → Marks image.now (count_at_of image.now 3) 0 0 taken.new) }
 {
     let n = image_fields::count(image, image_fields::ASSIGNMENTS);
-    let mut r: u32 = 0;
-    while r < n {
+    for r in 0..n {
         if check_assign(image, firsts, taken, r) {
             return r;
         }
-        r += 1;
     }
     n
 }

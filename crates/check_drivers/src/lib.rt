@@ -15,11 +15,9 @@ pub fn lay_firsts(image: &[u8], firsts: &mut [u32]) -> u32
 {
     let n = image_fields::count(image, image_fields::SIGNALS);
     let mut sum: u32 = 0;
-    let mut p: u32 = 0;
-    while p < n {
+    for p in 0..n {
         firsts[p as usize] = sum;
         sum += image_fields::signal_width(image, p);
-        p += 1;
     }
     sum
 }
@@ -29,12 +27,10 @@ fn any_marked(taken: &[u8], at: usize, n: u32) -> bool
     requires { at + n ≤ length taken.now }
     ensures { result ≡ any (λ k. marked taken.now (at + k)) n }
 {
-    let mut i: u32 = 0;
-    while i < n {
+    for i in 0..n {
         if taken[at + i as usize] == 1 {
             return true;
         }
-        i += 1;
     }
     false
 }
@@ -44,10 +40,8 @@ fn mark(taken: &mut [u8], at: usize, n: u32)
     requires { at + n ≤ length taken.old }
     ensures { Marked at n taken.old taken.new }
 {
-    let mut i: u32 = 0;
-    while i < n {
+    for i in 0..n {
         taken[at + i as usize] = 1;
-        i += 1;
     }
 }
 

@@ -45,12 +45,10 @@ fn has_late_part(image: &[u8], r: u32, start: u32, count: u32) -> bool
     requires { start + count ≤ 4294967295 }
     ensures { result ≡ any (late_word image.now r start) count }
 {
-    let mut i: u32 = 0;
-    while i < count {
+    for i in 0..count {
         if is_late(r, image_fields::list_word(image, start + i)) {
             return true;
         }
-        i += 1;
     }
     false
 }
@@ -61,10 +59,8 @@ fn parts_sum(image: &[u8], start: u32, count: u32) -> u64
     ensures { result ≡ sum_to (part_width image.now start) count }
 {
     let mut t: u64 = 0;
-    let mut i: u32 = 0;
-    while i < count {
+    for i in 0..count {
         t += image_fields::expr_width(image, image_fields::list_word(image, start + i)) as u64;
-        i += 1;
     }
     t
 }
@@ -239,13 +235,11 @@ pub fn first_expr(image: &[u8]) -> u32
 {
     let n = image_fields::count(image, image_fields::EXPRESSIONS);
     let mut sum: u32 = 0;
-    let mut r: u32 = 0;
-    while r < n {
+    for r in 0..n {
         if bad_expr(image, r, sum) {
             return r;
         }
         sum += image_fields::expr_width(image, r);
-        r += 1;
     }
     n
 }

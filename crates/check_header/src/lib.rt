@@ -23,10 +23,8 @@ pub fn start(image: &[u8], k: u32) -> u64
     ensures { result ≡ start_of image.now k }
 {
     let mut at: u64 = 64;
-    let mut j: u32 = 0;
-    while j < k {
+    for j in 0..k {
         at += (image_fields::count(image, j) as u64) * (image_fields::size(j) as u64);
-        j += 1;
     }
     at
 }
@@ -68,12 +66,10 @@ pub fn first_field(image: &[u8]) -> u32
     if image.len() < 64 {
         return 0;
     }
-    let mut i: u32 = 0;
-    while i < 16 {
+    for i in 0..16 {
         if wrong_field(image, i) {
             return i;
         }
-        i += 1;
     }
     16
 }
@@ -101,10 +97,8 @@ fn field_sum(image: &[u8], k: u32, f: u32) -> u64
 {
     let n = image_fields::count(image, k);
     let mut sum: u64 = 0;
-    let mut r: u32 = 0;
-    while r < n {
+    for r in 0..n {
         sum += image_fields::record_field(image, k, r, f) as u64;
-        r += 1;
     }
     sum
 }

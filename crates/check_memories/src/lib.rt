@@ -179,12 +179,10 @@ fn first_rest(image: &[u8], firsts: &[u32], taken: &mut [u8]) -> u32
     ensures { result ≡ first (bad_rest image.now) (count_at_of image.now 5) }
 {
     let n = image_fields::count(image, image_fields::MEMORIES);
-    let mut r: u32 = 0;
-    while r < n {
+    for r in 0..n {
         if check_rest(image, firsts, taken, r) {
             return r;
         }
-        r += 1;
     }
     n
 }

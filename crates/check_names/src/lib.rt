@@ -13,12 +13,10 @@ ghost use Rattle.check_names.specs.Names.{bad_byte, same_name, wrong_name, mixed
 fn bad_bytes(t: &[u8], n: u32) -> bool
     ensures { result ≡ any (bad_byte t.now) n }
 {
-    let mut i: u32 = 0;
-    while i < n {
+    for i in 0..n {
         if image_fields::is_outside(image_fields::byte(t, i as usize), 33, 126) {
             return true;
         }
-        i += 1;
     }
     false
 }
@@ -45,12 +43,10 @@ pub fn same_text(a: &[u8], b: &[u8]) -> bool
     if a.len() != b.len() {
         return false;
     }
-    let mut i: usize = 0;
-    while i < a.len() {
+    for i in 0..a.len() {
         if a[i] != b[i] {
             return false;
         }
-        i += 1;
     }
     true
 }
@@ -67,10 +63,8 @@ fn hash(t: &[u8]) -> u32
     ensures { result ≡ hash_from 0 t.now }
 {
     let mut h: u32 = 0;
-    let mut i: usize = 0;
-    while i < t.len() {
+    for i in 0..t.len() {
         h = mix(h, t[i]);
-        i += 1;
     }
     h
 }
@@ -87,10 +81,8 @@ fn lay_hashes(image: &[u8], k: u32, n: u32, hs: &mut [u32])
     requires { n ≤ length hs.old }
     ensures { Hashed image.now k n hs.new }
 {
-    let mut i: u32 = 0;
-    while i < n {
+    for i in 0..n {
         hs[i as usize] = name_hash(image, k, i);
-        i += 1;
     }
 }
 
@@ -113,12 +105,10 @@ fn name_taken(image: &[u8], k: u32, r: u32, hs: &[u32]) -> bool
     requires { (r < length hs.now) × (Hashed image.now k (r + 1) hs.now) }
     ensures { result ≡ name_taken image.now k r }
 {
-    let mut j: u32 = 0;
-    while j < r {
+    for j in 0..r {
         if same_name(image, k, r, j, hs) {
             return true;
         }
-        j += 1;
     }
     false
 }
@@ -142,15 +132,13 @@ fn first_among(image: &[u8], k: u32, n: u32, hs: &mut [u32], seen: &mut [u8]) ->
     ensures { result ≡ first (wrong_name image.now k) n }
 {
     lay_hashes(image, k, n, hs);
-    let mut r: u32 = 0;
-    while r < n {
+    for r in 0..n {
         if bad_name(image, k, r) {
             return r;
         }
         if name_seen(image, k, r, hs, seen) {
             return r;
         }
-        r += 1;
     }
     n
 }

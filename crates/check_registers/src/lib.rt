@@ -83,12 +83,10 @@ fn first_rest(image: &[u8], firsts: &[u32], taken: &mut [u8]) -> u32
     ensures { (result ≡ first (bad_rest image.now) (count_at_of image.now 4)) × (count_at_of image.now 4 ≤ result → Marks image.now (count_at_of image.now 3) (count_at_of image.now 4) 0 taken.new) }
 {
     let n = image_fields::count(image, image_fields::REGISTERS);
-    let mut r: u32 = 0;
-    while r < n {
+    for r in 0..n {
         if check_rest(image, firsts, taken, r) {
             return r;
         }
-        r += 1;
     }
     n
 }

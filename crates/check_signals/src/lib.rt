@@ -28,13 +28,11 @@ fn first_wrong(image: &[u8]) -> u32
 {
     let n = image_fields::count(image, image_fields::SIGNALS);
     let mut sum: u32 = 0;
-    let mut r: u32 = 0;
-    while r < n {
+    for r in 0..n {
         if wrong_signal(image, r, sum) {
             return r;
         }
         sum += image_fields::signal_width(image, r);
-        r += 1;
     }
     n
 }

@@ -106,10 +106,8 @@ fn some_nets(net: &[u32], pool: &[u32], start: u32, w: usize) -> [u32; 1024]
     ensures { length result ≡ 1024 }
 {
     let mut nets = [0u32; 1024];
-    let mut i = 0;
-    while i < w {
+    for i in 0..w {
         nets[i] = some_net(net, pool_word(pool, start as usize + i));
-        i += 1;
     }
     nets
 }
@@ -117,10 +115,8 @@ fn some_nets(net: &[u32], pool: &[u32], start: u32, w: usize) -> [u32; 1024]
 // One word for several nets.
 fn digest(nets: &[u32]) -> u32 {
     let mut h: u32 = 0;
-    let mut i = 0;
-    while i < nets.len() {
+    for i in 0..nets.len() {
         h = net_gate_index::mix(h, nets[i]);
-        i += 1;
     }
     h
 }
@@ -273,14 +269,12 @@ fn run(
 ) -> [u64; 2]
     requires { (Held n net.old idx.old) × (PlainNots (netlist_of n net.old)) × (5 * turns ≤ length ops.now) × (turns ≤ length results.old) }
 {
-    let mut at = 0;
-    while at < turns {
+    for at in 0..turns {
         let x = step(net, idx, n, ops, 5 * at, pool);
         let Added::Net(k) = x else {
             return [refusal(x), at as u64];
         };
         results[at] = k;
-        at += 1;
     }
     [0, 0]
 }

@@ -50,12 +50,10 @@ pub fn is_zero_expression(image: &[u8], e: u32) -> bool
         ZeroTest::Zero => true,
         ZeroTest::NotZero => false,
         ZeroTest::Parts(start, count) => {
-            let mut i: u32 = 0;
-            while i < count {
+            for i in 0..count {
                 if !is_zero_expression(image, image_fields::list_word(image, start + i)) {
                     return false;
                 }
-                i += 1;
             }
             true
         }
@@ -78,12 +76,10 @@ fn carry_part(image: &[u8], start: u32, count: u32) -> Carry
         return Carry::Nothing;
     }
     let last = count - 1;
-    let mut i: u32 = 0;
-    while i < last {
+    for i in 0..last {
         if !is_zero_expression(image, image_fields::list_word(image, start + i)) {
             return Carry::Nothing;
         }
-        i += 1;
     }
     let part = image_fields::list_word(image, start + last);
     if image_fields::expr_width(image, part) == 1 {

@@ -138,15 +138,13 @@ fn range_of_concat(image: &[u8], table: &[u32], start: u32, count: u32, width: u
     ensures { shown result ≡ parts_range image.now start count width }
 {
     let mut result = Range { min: 0, max: 0 };
-    let mut i: u32 = 0;
-    while i < count {
+    for i in 0..count {
         let part = image_fields::list_word(image, start + i);
         let known = known_range(image, table, part);
         let Known::Of(r) = known else {
             return expr_range_rows::full(width);
         };
         result = expr_range_rows::join_range(result, r, image_fields::expr_width(image, part));
-        i += 1;
     }
     result
 }
@@ -192,9 +190,7 @@ pub fn adder_widths(image: &[u8], table: &mut [u32])
     ensures { table.new ≡ filled (exprs_of image.now) (count_at_of image.now 1) table.old }
 {
     let count = image_fields::count(image, image_fields::EXPRESSIONS);
-    let mut e: u32 = 0;
-    while e < count {
+    for e in 0..count {
         fill_row(image, table, e);
-        e += 1;
     }
 }

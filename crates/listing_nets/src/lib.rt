@@ -211,10 +211,8 @@ pub fn net_lines(image: &[u8], net: &[u32], out: &mut [u8], at: usize) -> usize
 {
     let count = net_words::word_at(net, NET_COUNT);
     let mut to = at;
-    let mut n = 0;
-    while n < count {
+    for n in 0..count {
         to = net_line(image, net, out, to, n);
-        n += 1;
     }
     to
 }

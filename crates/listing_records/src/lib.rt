@@ -16,10 +16,8 @@ fn put_numbers(out: &mut [u8], at: usize, words: &[u32]) -> usize
     ensures { Wrote out.old at (spaced (map listing.decimal words.now)) out.new result }
 {
     let mut to = at;
-    let mut i = 0;
-    while i < words.len() {
+    for i in 0..words.len() {
         to = listing_text::put_number(out, to, words[i]);
-        i += 1;
     }
     to
 }

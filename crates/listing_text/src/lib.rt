@@ -24,10 +24,8 @@ pub fn put(out: &mut [u8], at: usize, text: &[u8]) -> usize
     ensures { Wrote out.old at text.now out.new result }
 {
     let mut to = at;
-    let mut i = 0;
-    while i < text.len() {
+    for i in 0..text.len() {
         to = put_byte(out, to, text[i]);
-        i += 1;
     }
     to
 }

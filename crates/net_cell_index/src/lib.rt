@@ -20,10 +20,8 @@ pub fn hash_key(key: &[u32], n: u32) -> u32
     ensures { (result ≡ hash_key n key.now) × (result < n) }
 {
     let mut h: u32 = 0;
-    let mut i = 0;
-    while i < key.len() {
+    for i in 0..key.len() {
         h = net_gate_index::mix(h, key[i]);
-        i += 1;
     }
     net_gate_index::bucket(n, h)
 }
@@ -33,15 +31,13 @@ fn begins_with(net: &[u32], at: usize, key: &[u32]) -> bool
     requires { at ≤ length net.now }
     ensures { result ≡ begins key.now (drop at net.now) }
 {
-    let mut i = 0;
-    while i < key.len() {
+    for i in 0..key.len() {
         if net.len() - at <= i {
             return false;
         }
         if key[i] != net[at + i] {
             return false;
         }
-        i += 1;
     }
     true
 }

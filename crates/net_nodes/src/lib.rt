@@ -31,10 +31,8 @@ pub enum Constant {
 pub fn clear(words: &mut [u32])
     ensures { words.new ≡ replicate (length words.old) 0 }
 {
-    let mut i = 0;
-    while i < words.len() {
+    for i in 0..words.len() {
         words[i] = 0;
-        i += 1;
     }
 }
 

@@ -20,13 +20,11 @@ pub fn add_nodes(net: &mut [u32], n: u32, kind: u32, owner: u32, b: u32, w: u32)
     ensures { Runs (add_nodes (source kind owner) b w (netlist_of n net.old)) n w result net.old net.new }
 {
     let first = net[NET_COUNT];
-    let mut i = 0;
-    while i < w {
+    for i in 0..w {
         let x = net_nodes::add_node(net, n, kind, owner, b + i, ABSENT);
         let Added::Net(_) = x else {
             return x;
         };
-        i += 1;
     }
     Added::Net(first)
 }
@@ -36,10 +34,8 @@ pub fn put_run(out: &mut [u32], at: usize, first: u32, w: u32)
     requires { (at + w ≤ length out.old) × (first + w ≤ 131070) }
     ensures { out.new ≡ sets out.old at (from first w) }
 {
-    let mut i = 0;
-    while i < w {
+    for i in 0..w {
         out[at + i as usize] = first + i;
-        i += 1;
     }
 }
 

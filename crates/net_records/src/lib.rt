@@ -20,10 +20,8 @@ pub fn put_words(net: &mut [u32], at: usize, r: &[u32])
     requires { at + length r.now ≤ length net.old }
     ensures { net.new ≡ sets net.old at r.now }
 {
-    let mut i = 0;
-    while i < r.len() {
+    for i in 0..r.len() {
         net[at + i] = r[i];
-        i += 1;
     }
 }
 

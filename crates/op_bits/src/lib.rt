@@ -55,14 +55,12 @@ pub fn not_bits(net: &mut [u32], idx: &mut [u32], n: u32, xs: &mut [u32]) -> Fil
     requires { Held n net.old idx.old }
     ensures { Fills (each add_not xs.old (netlist_of n net.old)) n result xs.new net.new idx.new }
 {
-    let mut i = 0;
-    while i < xs.len() {
+    for i in 0..xs.len() {
         let x = net_gates::add_not(net, idx, n, xs[i]);
         let Added::Net(k) = x else {
             return net_fold::refusal(x);
         };
         xs[i] = k;
-        i += 1;
     }
     Filled::Done
 }
@@ -89,14 +87,12 @@ pub fn pairwise(
     requires { (Held n net.old idx.old) × (length xs.old ≡ length ys.now) }
     ensures { Fills (both (pair_made p) xs.old ys.now (netlist_of n net.old)) n result xs.new net.new idx.new }
 {
-    let mut i = 0;
-    while i < xs.len() {
+    for i in 0..xs.len() {
         let x = add_pair(net, idx, n, p, xs[i], ys[i]);
         let Added::Net(k) = x else {
             return net_fold::refusal(x);
         };
         xs[i] = k;
-        i += 1;
     }
     Filled::Done
 }
@@ -112,14 +108,12 @@ pub fn mux_bits(
     requires { (Held n net.old idx.old) × (length then_bits.old ≡ length else_bits.now) × (PlainNots (netlist_of n net.old)) }
     ensures { Fills (both (add_mux condition) then_bits.old else_bits.now (netlist_of n net.old)) n result then_bits.new net.new idx.new }
 {
-    let mut i = 0;
-    while i < then_bits.len() {
+    for i in 0..then_bits.len() {
         let x = net_gates::add_mux(net, idx, n, condition, then_bits[i], else_bits[i]);
         let Added::Net(k) = x else {
             return net_fold::refusal(x);
         };
         then_bits[i] = k;
-        i += 1;
     }
     Filled::Done
 }

@@ -64,15 +64,13 @@ fn mux_moved(
     requires { (Held n net.old idx.old) × (length xs.old ≡ length original.now) × (distance ≤ length original.now) × (length original.now ≤ 1024) × (PlainNots (netlist_of n net.old)) }
     ensures { Fills (both (add_mux select) (shifted (shift_of kind) z distance original.now) original.now (netlist_of n net.old)) n result xs.new net.new idx.new }
 {
-    let mut i = 0;
-    while i < xs.len() {
+    for i in 0..xs.len() {
         let shifted = moved_bit(kind, z, distance, original, i);
         let x = net_gates::add_mux(net, idx, n, select, shifted, original[i]);
         let Added::Net(k) = x else {
             return net_fold::refusal(x);
         };
         xs[i] = k;
-        i += 1;
     }
     Filled::Done
 }
@@ -122,14 +120,12 @@ fn shift_stages(
 {
     let w = xs.len();
     let mut distance: usize = 1;
-    let mut k = 0;
-    while k < amount.len() {
+    for k in 0..amount.len() {
         let r = shift_stage(net, idx, n, kind, z, distance, amount[k], xs);
         let Filled::Done = r else {
             return r;
         };
         distance = shift_distance(distance, w);
-        k += 1;
     }
     Filled::Done
 }

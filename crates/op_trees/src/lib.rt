@@ -19,14 +19,12 @@ fn level(net: &mut [u32], idx: &mut [u32], n: u32, g: Gate, xs: &mut [u32], len:
     ensures { Fills (level (gate_of g) (take len xs.old) (netlist_of n net.old)) n result (take ((len + 1) / 2) xs.new) net.new idx.new }
 {
     let half = len / 2;
-    let mut i = 0;
-    while i < half {
+    for i in 0..half {
         let x = op_bits::add_gate(net, idx, n, g, xs[2 * i], xs[2 * i + 1]);
         let Added::Net(k) = x else {
             return net_fold::refusal(x);
         };
         xs[i] = k;
-        i += 1;
     }
     xs[half] = xs[len - 1];
     Filled::Done

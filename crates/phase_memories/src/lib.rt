@@ -117,13 +117,11 @@ pub fn connect_memories(image: &[u8], net: &mut [u32], scr: &mut [u32]) -> Lower
     ensures { Phase (model.connect_memories (decode image.now) false 0 (decode image.now).memories (walk_state image.now net.old scr.old)) image.now net.old scr.old result net.new scr.new }
 {
     let n = image_fields::count(image, image_fields::MEMORIES);
-    let mut k = 0;
-    while k < n {
+    for k in 0..n {
         let x = connect_memory(image, net, scr, k);
         let Lowered::Done = x else {
             return x;
         };
-        k += 1;
     }
     Lowered::Done
 }

@@ -67,13 +67,11 @@ pub fn connect_outputs(image: &[u8], net: &mut [u32], scr: &mut [u32]) -> Lowere
     ensures { Phase (model.connect_outputs (decode image.now) false 0 (decode image.now).signals (walk_state image.now net.old scr.old)) image.now net.old scr.old result net.new scr.new }
 {
     let n = image_fields::count(image, image_fields::SIGNALS);
-    let mut p = 0;
-    while p < n {
+    for p in 0..n {
         let x = connect_output(image, net, scr, p);
         let Lowered::Done = x else {
             return x;
         };
-        p += 1;
     }
     Lowered::Done
 }

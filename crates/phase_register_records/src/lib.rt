@@ -129,13 +129,11 @@ pub fn push_bits(image: &[u8], net: &mut [u32], scr: &[u32], k: u32, x: Register
     ensures { Ran (bits_turn image.now k (register_means x) (walk_state image.now net.old scr.now)) image.now net.old scr.now result net.new scr.now }
 {
     let n = image_fields::signal_width(image, x.target);
-    let mut b = 0;
-    while b < n {
+    for b in 0..n {
         let r = push_bit(image, net, scr, k, x, b);
         let Lowered::Done = r else {
             return r;
         };
-        b += 1;
     }
     Lowered::Done
 }

@@ -28,13 +28,11 @@ pub fn resolve_signal(image: &[u8], net: &mut [u32], scr: &mut [u32], p: u32, w:
     requires { (Ready image.now net.old scr.old) × (Sure image.now net.old scr.old) × (p < count_at_of image.now 0) × (w ≤ signal_width image.now p) }
     ensures { GivesAll image.now net.old scr.old (model.signal_steps p 0 w) result net.new scr.new }
 {
-    let mut b = 0;
-    while b < w {
+    for b in 0..w {
         let x = walk_recursion::resolve_signal_bit(image, net, scr, p, b);
         let Lowered::Done = x else {
             return x;
         };
-        b += 1;
     }
     Lowered::Done
 }

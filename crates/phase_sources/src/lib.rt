@@ -93,13 +93,11 @@ fn reserve_inputs(image: &[u8], net: &mut [u32], scr: &mut [u32]) -> Lowered
     ensures { Phase (reserve_inputs 0 (decode image.now).signals (walk_state image.now net.old scr.old)) image.now net.old scr.old result net.new scr.new }
 {
     let count = image_fields::count(image, image_fields::SIGNALS);
-    let mut p = 0;
-    while p < count {
+    for p in 0..count {
         let x = reserve_input(image, net, scr, p);
         let Lowered::Done = x else {
             return x;
         };
-        p += 1;
     }
     Lowered::Done
 }
@@ -120,13 +118,11 @@ fn reserve_registers(image: &[u8], net: &mut [u32], scr: &mut [u32]) -> Lowered
     ensures { Phase (reserve_registers (decode image.now) 0 (decode image.now).registers (walk_state image.now net.old scr.old)) image.now net.old scr.old result net.new scr.new }
 {
     let count = image_fields::count(image, image_fields::REGISTERS);
-    let mut k = 0;
-    while k < count {
+    for k in 0..count {
         let x = reserve_register(image, net, scr, k);
         let Lowered::Done = x else {
             return x;
         };
-        k += 1;
     }
     Lowered::Done
 }
@@ -164,13 +160,11 @@ fn reserve_memories(image: &[u8], net: &mut [u32], scr: &mut [u32]) -> Lowered
     ensures { Phase (reserve_memories (decode image.now) 0 (decode image.now).memories (walk_state image.now net.old scr.old)) image.now net.old scr.old result net.new scr.new }
 {
     let count = image_fields::count(image, image_fields::MEMORIES);
-    let mut k = 0;
-    while k < count {
+    for k in 0..count {
         let x = reserve_memory(image, net, scr, k);
         let Lowered::Done = x else {
             return x;
         };
-        k += 1;
     }
     Lowered::Done
 }

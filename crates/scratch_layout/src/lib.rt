@@ -17,10 +17,8 @@ fn signal_bits(image: &[u8]) -> u32
 {
     let count = image_fields::count(image, image_fields::SIGNALS);
     let mut sum = 0;
-    let mut p = 0;
-    while p < count {
+    for p in 0..count {
         sum += image_fields::signal_width(image, p);
-        p += 1;
     }
     sum
 }
@@ -52,11 +50,9 @@ fn lay_firsts(image: &[u8], scr: &mut [u32])
         + 4 * (scr[scratch_view::LIMIT] as usize)
         + 3 * (scr[scratch_view::SIGNAL_BITS] as usize);
     let mut sum = 0;
-    let mut p = 0;
-    while p < count {
+    for p in 0..count {
         scr[at + p as usize] = sum;
         sum += image_fields::signal_width(image, p);
-        p += 1;
     }
 }
 
@@ -68,11 +64,9 @@ fn lay_starts(image: &[u8], scr: &mut [u32])
     let count = image_fields::count(image, image_fields::EXPRESSIONS);
     let at = scr[scratch_view::ROWS] as usize;
     let mut sum = 0;
-    let mut e = 0;
-    while e < count {
+    for e in 0..count {
         scr[at + scratch_view::ROW * (e as usize)] = sum;
         sum += image_fields::expr_width(image, e);
-        e += 1;
     }
 }
 
@@ -81,10 +75,8 @@ fn put_drivers(scr: &mut [u32], at: usize, n: u32, base: u32)
     requires { (at + n ≤ length scr.old) × (base + n < 4294967296) }
     ensures { scr.new ≡ paste scr.old at (list_of n (λ i. base + i)) n }
 {
-    let mut i = 0;
-    while i < n {
+    for i in 0..n {
         scr[at + i as usize] = base + i;
-        i += 1;
     }
 }
 

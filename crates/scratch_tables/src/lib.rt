@@ -139,12 +139,10 @@ fn all_known(scr: &[u32], at: usize, n: u32) -> bool
     requires { at + n ≤ length scr.now }
     ensures { result ≡ all_some (list_of n (λ i. known (get_or scr.now (at + i) 0))) }
 {
-    let mut i = 0;
-    while i < n {
+    for i in 0..n {
         if scr[at + i as usize] == 0 {
             return false;
         }
-        i += 1;
     }
     true
 }
@@ -167,10 +165,8 @@ fn copy_nets(scr: &[u32], at: usize, n: u32, out: &mut [u32], to: usize)
     requires { (at + n ≤ length scr.now) × (to + n ≤ length out.old) }
     ensures { out.new ≡ paste out.old to (list_of n (λ i. net_word (get_or scr.now (at + i) 0))) n }
 {
-    let mut i = 0;
-    while i < n {
+    for i in 0..n {
         out[to + i as usize] = net_word(scr[at + i as usize]);
-        i += 1;
     }
 }
 
@@ -205,10 +201,8 @@ fn fill(part: &mut [u32], nets: &[u32], n: u32)
     requires { (n ≤ length part.old) × (n ≤ length nets.now) × Small n nets.now }
     ensures { part.new ≡ paste part.old 0 (map suc nets.now) n }
 {
-    let mut i = 0;
-    while i < n {
+    for i in 0..n {
         put_bit(part, i, nets[i as usize]);
-        i += 1;
     }
 }
 

@@ -37,12 +37,10 @@ fn first_left(net: &[u32], marks: &[u16]) -> u32
     ensures { result ≡ first (alone net.now) (nets net.now) }
 {
     let count = net[NET_COUNT];
-    let mut n: u32 = 0;
-    while n < count {
+    for n in 0..count {
         if is_left(net, marks, n) {
             return n;
         }
-        n += 1;
     }
     count
 }
@@ -52,12 +50,10 @@ fn first_count(net: &[u32], counts: &[u32]) -> usize
     requires { (length counts.now ≡ 5) × (Opened net.now) × (Counted (records_of net.now) counts.now) }
     ensures { result ≡ first (wrong_count net.now) 5 }
 {
-    let mut t: usize = 0;
-    while t < 5 {
+    for t in 0..5 {
         if net[RECORD_COUNTS + t] != counts[t] {
             return t;
         }
-        t += 1;
     }
     5
 }

@@ -70,12 +70,10 @@ pub fn first_word(net: &[u32]) -> usize
     ensures { result ≡ first (wrong_header net.now) (min 16 (length net.now)) }
 {
     let n = header_words(net);
-    let mut i: usize = 0;
-    while i < n {
+    for i in 0..n {
         if wrong_word(net, i) {
             return i;
         }
-        i += 1;
     }
     n
 }

@@ -20,13 +20,11 @@ fn ports_fit(l: &[u32]) -> bool
     }
     let ports = l[5];
     let mut at: usize = 6;
-    let mut i: u32 = 0;
-    while i < ports {
+    for i in 0..ports {
         at += net_words::port_length(net_words::part(l, at));
         if l.len() < at {
             return false;
         }
-        i += 1;
     }
     true
 }
@@ -100,10 +98,8 @@ fn mark_one(marks: &mut [u16], x: u32)
 fn mark(marks: &mut [u16], own: &[u32])
     ensures { (x : ℕ) → x < length marks.old → (get_or marks.new x 0 ≢? 0) ≡ (get_or marks.old x 0 ≢? 0 or member x own.now) }
 {
-    let mut i: usize = 0;
-    while i < own.len() {
+    for i in 0..own.len() {
         mark_one(marks, own[i]);
-        i += 1;
     }
 }
 

@@ -132,8 +132,7 @@ fn find(net: &[u32], n: u32, table: &[u16]) -> usize
     let count = net[NET_COUNT];
     let mut rest = key(net, n);
     let mut at = root(rest, count) as usize;
-    let mut depth: u32 = 0;
-    while depth < 48 {
+    for depth in 0..48 {
         let c = table[at];
         if c == 0 {
             return at;
@@ -143,7 +142,6 @@ fn find(net: &[u32], n: u32, table: &[u16]) -> usize
         }
         at = under(count, c, rest);
         rest = rest / 2;
-        depth += 1;
     }
     at
 }
@@ -199,12 +197,10 @@ fn first_unused(net: &[u32], a: usize, e: usize) -> usize
     requires { (Opened net.now) × (a ≡ 6 * nets net.now) × (e ≡ 6 * limit net.now) }
     ensures { result ≡ from (wrong_node net.now) e a }
 {
-    let mut i = a;
-    while i < e {
+    for i in a..e {
         if net[HEADER_LENGTH + i] != 0 {
             return i;
         }
-        i += 1;
     }
     e
 }
@@ -217,13 +213,11 @@ pub fn first_word(net: &[u32], table: &mut [u16]) -> usize
 {
     let count = net[NET_COUNT];
     stored_view::clear(table, 3 * (count as usize));
-    let mut n: u32 = 0;
-    while n < count {
+    for n in 0..count {
         let f = first_in_node(net, n, table);
         if f < 6 {
             return NODE_LENGTH * (n as usize) + f as usize;
         }
-        n += 1;
     }
     first_unused(
         net,

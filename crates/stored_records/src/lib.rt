@@ -104,13 +104,11 @@ fn above(l: &[u32], m: usize, a: usize, e: usize) -> usize
     ensures { result ≡ above_all m (take (e - a) (drop a l.now)) }
 {
     let mut m = m;
-    let mut i = a;
-    while i < e {
+    for i in a..e {
         let x = l[i] as usize + 1;
         if m < x {
             m = x;
         }
-        i += 1;
     }
     m
 }
@@ -129,8 +127,7 @@ fn first_wrong_output(
     requires { (Opened net.now) × (nets net.now ≤ length marks.now) × (a ≤ e) × (e ≤ length l.now) × (length l.now ≤ 65535) }
     ensures { (earlier : List (List ℕ)) → Marked net.now earlier marks.now → result ≡ from (wrong_output net.now earlier l.now number least a) e a }
 {
-    let mut i = a;
-    while i < e {
+    for i in a..e {
         let x = l[i];
         if stored_view::not_own(net, marks, x, ARITHMETIC_OUTPUT, number, (i - a) as u32) {
             return i;
@@ -138,7 +135,6 @@ fn first_wrong_output(
         if (x as usize) < least {
             return i;
         }
-        i += 1;
     }
     e
 }

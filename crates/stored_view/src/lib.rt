@@ -65,12 +65,10 @@ pub fn first_no_net(net: &[u32], l: &[u32], a: usize, e: usize) -> usize
     requires { (Opened net.now) × (a ≤ e) × (e ≤ length l.now) }
     ensures { result ≡ from (λ j. no_net net.now (get_or l.now j 0)) e a }
 {
-    let mut i = a;
-    while i < e {
+    for i in a..e {
         if no_net(net, l[i]) {
             return i;
         }
-        i += 1;
     }
     e
 }
@@ -90,12 +88,10 @@ pub fn first_not_own(
     requires { (Opened net.now) × (nets net.now ≤ length marks.now) × (a ≤ e) × (e ≤ length l.now) × (base ≤ 65535) × (length l.now ≤ 65535) }
     ensures { (earlier : List (List ℕ)) → Marked net.now earlier marks.now → result ≡ from (not_own_at net.now earlier l.now kind owner base a) e a }
 {
-    let mut i = a;
-    while i < e {
+    for i in a..e {
         if not_own(net, marks, l[i], kind, owner, base + (i - a) as u32) {
             return i;
         }
-        i += 1;
     }
     e
 }
@@ -105,9 +101,7 @@ pub fn clear(table: &mut [u16], n: usize)
     requires { n ≤ length table.old }
     ensures { (x : ℕ) → x < n → get_or table.new x 0 ≡ 0 }
 {
-    let mut i: usize = 0;
-    while i < n {
+    for i in 0..n {
         table[i] = 0;
-        i += 1;
     }
 }

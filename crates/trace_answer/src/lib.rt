@@ -29,12 +29,10 @@ fn is_wrong_letter(b: u8) -> bool
 fn has_wrong_letter(line: &[u8]) -> bool
     ensures { result ≡ having (λ b. b ≢? 48 and b ≢? 49) line.now }
 {
-    let mut i: usize = 0;
-    while i < line.len() {
+    for i in 0..line.len() {
         if is_wrong_letter(line[i]) {
             return true;
         }
-        i += 1;
     }
     false
 }

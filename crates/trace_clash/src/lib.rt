@@ -48,11 +48,9 @@ pub fn lowest_clash(net: &[u32], places: &[u32], count: usize, old: &[u32], new:
     ensures { result ≡ lowest_clash net.now old.now new.now places.now count }
 {
     let mut k: u32 = 16;
-    let mut i: usize = 0;
-    while i < count {
+    for i in 0..count {
         let r = net_words::part(net, net_words::word_at(places, i) as usize);
         k = word_order::smaller(k, clash_number(r, old, new));
-        i += 1;
     }
     k
 }

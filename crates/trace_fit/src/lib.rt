@@ -39,13 +39,11 @@ fn register_unfit(net: &[u32], r: &[u32]) -> bool
 fn registers_unfit(net: &[u32], places: &[u32], count: usize) -> bool
     ensures { result ≡ any (λ i. register_unfit net.now (drop (get_or places.now i 0) net.now)) count }
 {
-    let mut i: usize = 0;
-    while i < count {
+    for i in 0..count {
         let r = net_words::part(net, net_words::word_at(places, i) as usize);
         if register_unfit(net, r) {
             return true;
         }
-        i += 1;
     }
     false
 }
@@ -75,13 +73,11 @@ fn memory_unfit(net: &[u32], r: &[u32]) -> bool
 fn memories_unfit(net: &[u32], places: &[u32], count: usize) -> bool
     ensures { result ≡ any (λ i. memory_unfit net.now (memory_of (drop (get_or places.now i 0) net.now))) count }
 {
-    let mut i: usize = 0;
-    while i < count {
+    for i in 0..count {
         let r = net_words::part(net, net_words::word_at(places, i) as usize);
         if memory_unfit(net, r) {
             return true;
         }
-        i += 1;
     }
     false
 }
@@ -92,11 +88,9 @@ pub fn memory_bits(net: &[u32], places: &[u32], count: usize) -> u64
     ensures { result ≡ sum_to (bits_at net.now places.now) count }
 {
     let mut sum: u64 = 0;
-    let mut i: usize = 0;
-    while i < count {
+    for i in 0..count {
         let r = net_words::part(net, net_words::word_at(places, i) as usize);
         sum += net_words::word_at(r, 2) as u64 * net_words::word_at(r, 7) as u64;
-        i += 1;
     }
     sum
 }

@@ -26,10 +26,8 @@ pub fn read_words(bytes: &[u8], net: &mut [u32]) -> usize
     ensures { ReadWords bytes.now net.new result }
 {
     let n = bytes.len() / 4;
-    let mut i: usize = 0;
-    while i < n {
+    for i in 0..n {
         net[i] = image_fields::word(bytes, 4 * i);
-        i += 1;
     }
     n
 }

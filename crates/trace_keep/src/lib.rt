@@ -15,10 +15,8 @@ fn copy_words(from: &[u32], a: usize, to: &mut [u32], b: usize, n: usize)
     requires { (a + n ≤ length from.now) × (b + n ≤ length to.old) }
     ensures { Copied from.now a to.old b n to.new }
 {
-    let mut i: usize = 0;
-    while i < n {
+    for i in 0..n {
         to[b + i] = from[a + i];
-        i += 1;
     }
 }
 

@@ -22,10 +22,8 @@ fn char_at(line: &[u8], i: usize) -> u32
 fn load_line(inputs: &[u32], line: &[u8], values: &mut [u32])
     ensures { values.new ≡ spread char values.old inputs.now line.now }
 {
-    let mut i: usize = 0;
-    while i < inputs.len() {
+    for i in 0..inputs.len() {
         trace_step::put(values, inputs[i], char_at(line, i));
-        i += 1;
     }
 }
 
@@ -34,10 +32,8 @@ fn copy(values: &[u32], old: &mut [u32])
     requires { length old.old ≡ length values.now }
     ensures { old.new ≡ values.now }
 {
-    let mut i: usize = 0;
-    while i < values.len() {
+    for i in 0..values.len() {
         old[i] = values[i];
-        i += 1;
     }
 }
 
@@ -47,10 +43,8 @@ pub fn print_nets(nets: &[u32], values: &[u32], out: &mut [u8], at: usize) -> us
     ensures { Wrote out.old at (map (λ n. digit (on values.now n)) nets.now ++ (10 ∷ [])) out.new result }
 {
     let mut to = at;
-    let mut i: usize = 0;
-    while i < nets.len() {
+    for i in 0..nets.len() {
         to = listing_text::put_byte(out, to, digit_of(trace_step::is_on(values, nets[i])));
-        i += 1;
     }
     listing_text::put_byte(out, to, 10)
 }

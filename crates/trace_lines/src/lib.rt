@@ -19,12 +19,10 @@ pub struct Progress {
 fn line_end(bytes: &[u8]) -> usize
     ensures { LineEnd bytes.now result }
 {
-    let mut i: usize = 0;
-    while i < bytes.len() {
+    for i in 0..bytes.len() {
         if bytes[i] == 10 {
             return i;
         }
-        i += 1;
     }
     i
 }

@@ -27,10 +27,8 @@ fn number(list: &[u32], values: &[u32]) -> u64
 fn spread_words(nets: &[u32], words: &[u32], values: &mut [u32])
     ensures { values.new ≡ spread identity values.old nets.now words.now }
 {
-    let mut i: usize = 0;
-    while i < nets.len() {
+    for i in 0..nets.len() {
         trace_step::put(values, nets[i], net_words::word_at(words, i));
-        i += 1;
     }
 }
 
@@ -39,10 +37,8 @@ fn lay_bits(nets: &[u32], values: &[u32], memory: &mut [u32], at: usize)
     requires { at + length nets.now ≤ length memory.old }
     ensures { memory.new ≡ laid memory.old at (map (λ n. bit (on values.now n)) nets.now) }
 {
-    let mut i: usize = 0;
-    while i < nets.len() {
+    for i in 0..nets.len() {
         memory[at + i] = trace_step::bit_of(trace_step::is_on(values, nets[i]));
-        i += 1;
     }
 }
 
@@ -188,12 +184,10 @@ pub fn read_memories(
     ensures { new.new ≡ memories_read net.now memory.now old.now places.now count new.old }
 {
     let mut base: usize = 0;
-    let mut i: usize = 0;
-    while i < count {
+    for i in 0..count {
         let r = net_words::part(net, net_words::word_at(places, i) as usize);
         read_memory(r, memory, base, old, new);
         base += net_words::word_at(r, 2) as usize * net_words::word_at(r, 7) as usize;
-        i += 1;
     }
 }
 
@@ -210,11 +204,9 @@ pub fn write_memories(
     ensures { memory.new ≡ memories_written net.now old.now new.now places.now count memory.old }
 {
     let mut base: usize = 0;
-    let mut i: usize = 0;
-    while i < count {
+    for i in 0..count {
         let r = net_words::part(net, net_words::word_at(places, i) as usize);
         write_memory(r, memory, base, old, new);
         base += net_words::word_at(r, 2) as usize * net_words::word_at(r, 7) as usize;
-        i += 1;
     }
 }

@@ -11,12 +11,10 @@ ghost use Rattle.trace_names.specs.Numbers.{number};
 fn has_other_letter(name: &[u8]) -> bool
     ensures { result ≡ having (λ b. outside b 97 122) name.now }
 {
-    let mut i: usize = 0;
-    while i < name.len() {
+    for i in 0..name.len() {
         if image_fields::is_outside(image_fields::byte(name, i), 97, 122) {
             return true;
         }
-        i += 1;
     }
     false
 }
@@ -62,15 +60,13 @@ pub fn number_of(name: &[u8]) -> u64
 pub fn place_of(held: &[u64], n: u64) -> usize
     ensures { result ≡ first (λ i. get_or held.now i 0 ≡? n or get_or held.now i 0 ≡? 0) (length held.now) }
 {
-    let mut i: usize = 0;
-    while i < held.len() {
+    for i in 0..held.len() {
         if held[i] == n {
             return i;
         }
         if held[i] == 0 {
             return i;
         }
-        i += 1;
     }
     i
 }

@@ -80,9 +80,7 @@ pub fn run(net: &[u32], steps: &[u32], count: usize, values: &mut [u32])
     requires { Plan net.now steps.now count × ((size net.now ≤ length values.old) × Bits values.old) }
     ensures { ((s : Setting) (c : Contents) → Loaded net.now s c values.old → Valued net.now s c values.new) × Bits values.new }
 {
-    let mut i = 0;
-    while i < count {
+    for i in 0..count {
         step(net, steps, i, values);
-        i += 1;
     }
 }

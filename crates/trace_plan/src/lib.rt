@@ -92,10 +92,8 @@ fn mark_all(outs: &[u32], n: usize, due: &mut [u32])
     requires { (Nets outs.now (length due.old)) × (n < 65535) }
     ensures { Marked outs.now due.old due.new n (length outs.now) }
 {
-    let mut i: usize = 0;
-    while i < outs.len() {
+    for i in 0..outs.len() {
         mark(outs[i], n, due);
-        i += 1;
     }
 }
 
@@ -189,10 +187,8 @@ fn clear(due: &mut [u32], n: usize)
     requires { n ≤ length due.old }
     ensures { Cleared due.new n }
 {
-    let mut i: usize = 0;
-    while i < n {
+    for i in 0..n {
         due[i] = ABSENT;
-        i += 1;
     }
 }
 
@@ -210,10 +206,8 @@ pub fn make_plan(
     let count = net_words::word_at(net, NET_COUNT);
     clear(due, count as usize);
     let mut n: usize = 0;
-    let mut k: u32 = 0;
-    while k < count {
+    for k in 0..count {
         n = plan_net(net, cells, comparisons, k, n, due, steps);
-        k += 1;
     }
     n
 }

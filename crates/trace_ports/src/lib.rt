@@ -24,10 +24,8 @@ fn put_all(out: &mut [u32], at: usize, list: &[u32]) -> usize
     ensures { Wrote out.old at list.now out.new result }
 {
     let mut to = at;
-    let mut i: usize = 0;
-    while i < list.len() {
+    for i in 0..list.len() {
         to = put(out, to, list[i]);
-        i += 1;
     }
     to
 }
@@ -53,10 +51,8 @@ pub fn port_nets(net: &[u32], ports: &[u32], count: usize, kind: u32, out: &mut 
     ensures { Wrote out.old 0 (joined net.now kind ports.now count) out.new result }
 {
     let mut at: usize = 0;
-    let mut i: usize = 0;
-    while i < count {
+    for i in 0..count {
         at = put_port(net, net_words::word_at(ports, i), kind, out, at);
-        i += 1;
     }
     at
 }

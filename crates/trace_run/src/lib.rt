@@ -116,10 +116,8 @@ pub fn move_down(bytes: &mut [u8], from: usize, n: usize)
     requires { from + n ≤ length bytes.old }
     ensures { (take n bytes.new ≡ take n (drop from bytes.old)) × (length bytes.new ≡ length bytes.old) }
 {
-    let mut i: usize = 0;
-    while i < n {
+    for i in 0..n {
         bytes[i] = bytes[from + i];
-        i += 1;
     }
 }
 

@@ -138,13 +138,11 @@ fn load_register(r: &[u32], old: &[u32], new: &mut [u32])
 pub fn load_registers(net: &[u32], places: &[u32], count: usize, old: &[u32], new: &mut [u32])
     ensures { new.new ≡ registers_done net.now old.now places.now count new.old }
 {
-    let mut i: usize = 0;
-    while i < count {
+    for i in 0..count {
         load_register(
             net_words::part(net, net_words::word_at(places, i) as usize),
             old,
             new,
         );
-        i += 1;
     }
 }

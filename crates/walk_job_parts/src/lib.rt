@@ -30,10 +30,8 @@ fn put_bits(image: &[u8], start: u32, lsb: u32, out: &mut [u32])
     requires { (start ≤ 8192) × (lsb + length out.old ≤ 1024) }
     ensures { (v : ℕ) → lsb + length out.old ≤ v → held out.new ≡ take (length out.old) (drop lsb (bits v (constant_of image.now v start))) }
 {
-    let mut i = 0;
-    while i < out.len() {
+    for i in 0..out.len() {
         out[i] = constant_bit(image, start, lsb + i as u32);
-        i += 1;
     }
 }
 
@@ -77,10 +75,8 @@ fn fill(xs: &mut [u32], a: usize, e: usize, z: u32)
     requires { (a ≤ e) × (e ≤ length xs.old) }
     ensures { take e xs.new ≡ take a xs.old ++ replicate (e - a) z }
 {
-    let mut i = a;
-    while i < e {
+    for i in a..e {
         xs[i] = z;
-        i += 1;
     }
 }
 

@@ -34,12 +34,10 @@ fn next_bit(image: &[u8], scr: &[u32], p: u32, first: u32, n: u32, from: u32) ->
     requires { (Laid image.now scr.now) × BitsThere image.now p first n }
     ensures { LeftIn image.now scr.now (bits_needs p first n) from result }
 {
-    let mut k = from;
-    while k < n {
+    for k in from..n {
         let Known::Net(_) = scratch_tables::signal_net(image, scr, p, first + k) else {
             return Left::Lower(Need::Bit(p, first + k), k + 1, 0);
         };
-        k += 1;
     }
     Left::Build
 }

@@ -11,6 +11,3 @@ use Rattle.check_assignments.proofs.first_assign.Given as goal
 
 abbrev pub invariant-loop-r : goal.invariant-loop-r
 invariant-loop-r l = (l.r ≤ count_at_of l.image 3) × (first (bad_assign l.image) (count_at_of l.image 3) ≡ from (bad_assign l.image) (count_at_of l.image 3) l.r) × (Marks l.image l.r 0 0 l.taken) × (length l.taken ≡ length l.initial.taken)
-
-abbrev pub decreases-loop-r : goal.decreases-loop-r
-decreases-loop-r l = l.n - l.r

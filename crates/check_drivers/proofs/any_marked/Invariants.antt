@@ -8,6 +8,3 @@ use Rattle.check_drivers.proofs.any_marked.Given as goal
 
 abbrev pub invariant-loop-i : goal.invariant-loop-i
 invariant-loop-i l = (l.i ≤ l.n) × (first (λ k. marked l.taken (l.at + k)) l.n ≡ from (λ k. marked l.taken (l.at + k)) l.n l.i)
-
-abbrev pub decreases-loop-i : goal.decreases-loop-i
-decreases-loop-i l = l.n - l.i

@@ -8,6 +8,3 @@ use Rattle.check_drivers.proofs.lay_firsts.Given as goal
 
 abbrev pub invariant-loop-p : goal.invariant-loop-p
 invariant-loop-p l = (l.p ≤ count_at_of l.image 0) × (l.sum ≡ sum_to (signal_width l.image) l.p) × (length l.firsts ≡ length l.initial.firsts) × ((q : ℕ) → q < l.p → get_or l.firsts q 0 ≡ sum_to (signal_width l.image) q)
-
-abbrev pub decreases-loop-p : goal.decreases-loop-p
-decreases-loop-p l = l.n - l.p

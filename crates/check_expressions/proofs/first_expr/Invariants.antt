@@ -9,6 +9,3 @@ use Rattle.check_expressions.proofs.first_expr.Given as goal
 
 abbrev pub invariant-loop-r : goal.invariant-loop-r
 invariant-loop-r l = (l.r ≤ l.n) × (l.sum ≤ 32768) × (l.sum ≡ sum_to (expr_width l.image) l.r) × (first (bad_expr l.image) l.n ≡ from (bad_expr l.image) l.n l.r)
-
-abbrev pub decreases-loop-r : goal.decreases-loop-r
-decreases-loop-r l = l.n - l.r

@@ -8,6 +8,3 @@ use Rattle.check_expressions.proofs.has_late_part.Given as goal
 
 abbrev pub invariant-loop-i : goal.invariant-loop-i
 invariant-loop-i l = (l.i ≤ l.count) × (first (late_word l.image l.r l.start) l.count ≡ from (late_word l.image l.r l.start) l.count l.i)
-
-abbrev pub decreases-loop-i : goal.decreases-loop-i
-decreases-loop-i l = l.count - l.i

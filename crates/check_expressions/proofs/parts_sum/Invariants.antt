@@ -7,6 +7,3 @@ use Rattle.check_expressions.proofs.parts_sum.Given as goal
 
 abbrev pub invariant-loop-i : goal.invariant-loop-i
 invariant-loop-i l = (l.i ≤ l.count) × (l.t ≡ sum_to (part_width l.image l.start) l.i) × (l.t ≤ l.i * 4294967295)
-
-abbrev pub decreases-loop-i : goal.decreases-loop-i
-decreases-loop-i l = l.count - l.i

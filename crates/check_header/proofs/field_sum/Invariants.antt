@@ -7,6 +7,3 @@ use Rattle.check_header.proofs.field_sum.Given as goal
 
 abbrev pub invariant-loop-r : goal.invariant-loop-r
 invariant-loop-r l = (l.r ≤ l.n) × (l.sum ≡ sum_to (field_of l.image l.k l.f) l.r) × (l.sum ≤ l.r * 4294967295)
-
-abbrev pub decreases-loop-r : goal.decreases-loop-r
-decreases-loop-r l = l.n - l.r

@@ -9,6 +9,3 @@ use Rattle.check_header.proofs.first_field.Given as goal
 
 abbrev pub invariant-loop-i : goal.invariant-loop-i
 invariant-loop-i l = (l.i ≤ 16) × (first (wrong_field l.image) 16 ≡ from (wrong_field l.image) 16 l.i) × (64 ≤ length l.image)
-
-abbrev pub decreases-loop-i : goal.decreases-loop-i
-decreases-loop-i l = 16 - l.i

@@ -6,6 +6,3 @@ use Rattle.check_header.proofs.start.Given as goal
 
 abbrev pub invariant-loop-j : goal.invariant-loop-j
 invariant-loop-j l = (l.j ≤ l.k) × (l.at ≡ start_of l.image l.j) × (l.at ≤ 64 + l.j * 463856467968)
-
-abbrev pub decreases-loop-j : goal.decreases-loop-j
-decreases-loop-j l = l.k - l.j

@@ -8,6 +8,3 @@ use Rattle.check_names.proofs.bad_bytes.Given as goal
 
 abbrev pub invariant-loop-i : goal.invariant-loop-i
 invariant-loop-i l = (l.i ≤ l.n) × (first (bad_byte l.t) l.n ≡ from (bad_byte l.t) l.n l.i)
-
-abbrev pub decreases-loop-i : goal.decreases-loop-i
-decreases-loop-i l = l.n - l.i

@@ -9,6 +9,3 @@ use Rattle.check_names.proofs.first_among.Given as goal
 
 abbrev pub invariant-loop-r : goal.invariant-loop-r
 invariant-loop-r l = (l.r ≤ l.n) × (first (wrong_name l.image l.k) l.n ≡ from (wrong_name l.image l.k) l.n l.r) × (Seen l.image l.k l.r l.seen) × (length l.seen ≡ length l.initial.seen)
-
-abbrev pub decreases-loop-r : goal.decreases-loop-r
-decreases-loop-r l = l.n - l.r

@@ -7,6 +7,3 @@ use Rattle.check_names.proofs.hash.Given as goal
 
 abbrev pub invariant-loop-i : goal.invariant-loop-i
 invariant-loop-i l = (l.i ≤ length l.t) × (hash_from l.h (drop l.i l.t) ≡ hash_from 0 l.t)
-
-abbrev pub decreases-loop-i : goal.decreases-loop-i
-decreases-loop-i l = length l.t - l.i

@@ -7,6 +7,3 @@ use Rattle.check_names.proofs.lay_hashes.Given as goal
 
 abbrev pub invariant-loop-i : goal.invariant-loop-i
 invariant-loop-i l = (l.i ≤ l.n) × (length l.hs ≡ length l.initial.hs) × (Hashed l.image l.k l.i l.hs)
-
-abbrev pub decreases-loop-i : goal.decreases-loop-i
-decreases-loop-i l = l.n - l.i

@@ -8,6 +8,3 @@ use Rattle.check_names.proofs.name_taken.Given as goal
 
 abbrev pub invariant-loop-j : goal.invariant-loop-j
 invariant-loop-j l = (l.j ≤ l.r) × (first (same_name l.image l.k l.r) l.r ≡ from (same_name l.image l.k l.r) l.r l.j)
-
-abbrev pub decreases-loop-j : goal.decreases-loop-j
-decreases-loop-j l = l.r - l.j

@@ -8,6 +8,3 @@ use Rattle.check_references.proofs.not_zero.Given as goal
 
 abbrev pub invariant-loop-i : goal.invariant-loop-i
 invariant-loop-i l = (l.i ≤ l.n) × (first (non_zero l.image l.k l.r l.f) l.n ≡ from (non_zero l.image l.k l.r l.f) l.n l.i)
-
-abbrev pub decreases-loop-i : goal.decreases-loop-i
-decreases-loop-i l = l.n - l.i

@@ -11,6 +11,3 @@ use Rattle.check_registers.proofs.first_rest.Given as goal
 
 abbrev pub invariant-loop-r : goal.invariant-loop-r
 invariant-loop-r l = (l.r ≤ count_at_of l.image 4) × (first (bad_rest l.image) (count_at_of l.image 4) ≡ from (bad_rest l.image) (count_at_of l.image 4) l.r) × (Marks l.image (count_at_of l.image 3) l.r 0 l.taken) × (length l.taken ≡ length l.initial.taken)
-
-abbrev pub decreases-loop-r : goal.decreases-loop-r
-decreases-loop-r l = l.n - l.r

@@ -11,6 +11,3 @@ abbrev pub invariant-loop-r : goal.invariant-loop-r
 invariant-loop-r l =
     (l.r ≤ count_at_of l.image 0) × (first (wrong_signal l.image) (count_at_of l.image 0) ≡ from (wrong_signal l.image) (count_at_of l.image 0) l.r)
     × (l.sum ≡ sum_to (signal_width l.image) l.r) × (l.sum ≤ 4096)
-
-abbrev pub decreases-loop-r : goal.decreases-loop-r
-decreases-loop-r l = l.n - l.r

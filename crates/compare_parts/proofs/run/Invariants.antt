@@ -10,6 +10,3 @@ use Rattle.compare_parts.proofs.run.Given as goal
 abbrev pub invariant-loop-at : goal.invariant-loop-at
 invariant-loop-at l =
     (Held l.n l.net l.idx) × (PlainNots (netlist_of l.n l.net)) × (length l.net ≡ length l.initial.net) × (length l.idx ≡ length l.initial.idx) × (length l.results ≡ length l.initial.results)
-
-abbrev pub decreases-loop-at : goal.decreases-loop-at
-decreases-loop-at l = l.turns - l.at

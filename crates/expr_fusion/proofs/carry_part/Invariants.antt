@@ -5,6 +5,3 @@ use Rattle.expr_fusion.proofs.carry_part.Given as goal
 
 abbrev pub invariant-loop-i : goal.invariant-loop-i
 invariant-loop-i l = (l.i ≤ l.last) × CarryFrom l.image l.start l.count l.i
-
-abbrev pub decreases-loop-i : goal.decreases-loop-i
-decreases-loop-i l = l.last - l.i

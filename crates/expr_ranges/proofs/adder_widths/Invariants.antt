@@ -7,6 +7,3 @@ use Rattle.expr_ranges.proofs.adder_widths.Given as goal
 
 abbrev pub invariant-loop-e : goal.invariant-loop-e
 invariant-loop-e l = (l.e ≤ l.count) × (l.table ≡ filled (exprs_of l.image) l.e l.initial.table)
-
-abbrev pub decreases-loop-e : goal.decreases-loop-e
-decreases-loop-e l = l.count - l.e

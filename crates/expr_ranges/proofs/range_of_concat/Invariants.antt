@@ -6,6 +6,3 @@ use Rattle.expr_ranges.proofs.range_of_concat.Given as goal
 
 abbrev pub invariant-loop-i : goal.invariant-loop-i
 invariant-loop-i l = (l.i ≤ l.count) × Joining l.image l.start l.count l.width l.i (shown l.result)
-
-abbrev pub decreases-loop-i : goal.decreases-loop-i
-decreases-loop-i l = l.count - l.i

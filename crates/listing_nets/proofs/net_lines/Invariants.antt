@@ -7,6 +7,3 @@ use Rattle.listing_nets.proofs.net_lines.Given as goal
 
 abbrev pub invariant-loop-n : goal.invariant-loop-n
 invariant-loop-n l = Lines (net_line l.image l.net) l.count l.initial.out l.at l.out l.to l.n
-
-abbrev pub decreases-loop-n : goal.decreases-loop-n
-decreases-loop-n l = l.count - l.n

@@ -7,6 +7,3 @@ use Rattle.net_cell_index.proofs.hash_key.Given as goal
 
 abbrev pub invariant-loop-i : goal.invariant-loop-i
 invariant-loop-i l = (l.i ≤ length l.key) × (hash_words 0 l.key ≡ hash_words l.h (drop l.i l.key))
-
-abbrev pub decreases-loop-i : goal.decreases-loop-i
-decreases-loop-i l = length l.key - l.i

@@ -6,6 +6,3 @@ use Rattle.net_ports.proofs.add_nodes.Given as goal
 
 abbrev pub invariant-loop-i : goal.invariant-loop-i
 invariant-loop-i l = Going (source l.kind l.owner) l.n l.b l.w l.first l.initial.net l.net l.i
-
-abbrev pub decreases-loop-i : goal.decreases-loop-i
-decreases-loop-i l = l.w - l.i

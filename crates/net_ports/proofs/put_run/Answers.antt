@@ -23,9 +23,6 @@ offset_bounds-out-at c = omega (arith, length_from c.args.first c.args.w)
 pub bounds-out-at : goal.bounds-out-at
 bounds-out-at c = omega (arith, length_from c.args.first c.args.w)
 
-pub overflow_add-i : goal.overflow_add-i
-overflow_add-i c = omega (arith, length_from c.args.first c.args.w)
-
 pub loop-i-preserved : goal.loop-i-preserved
 loop-i-preserved c =
     let s = c.args in

@@ -57,11 +57,6 @@ bounds-then_bits-i-in-loop-i c =
     let loop = c.loop-i in
     omega (arith, loop.invariant.0.sized)
 
-pub loop-i-smaller : goal.loop-i-smaller
-loop-i-smaller c =
-    let loop = c.loop-i in
-    omega (arith, loop.invariant.0.sized)
-
 pub loop-i-preserved : goal.loop-i-preserved
 loop-i-preserved c =
     let add-mux = c.add_mux-x in

@@ -8,6 +8,3 @@ use Rattle.op_bits.proofs.not_bits.Given as goal
 
 abbrev pub invariant-loop-i : goal.invariant-loop-i
 invariant-loop-i l = Going (λ j. add_not (get_or l.initial.xs j 0)) (each add_not l.initial.xs (netlist_of l.n l.initial.net)) l.n (length l.initial.xs) l.initial.net l.initial.xs l.net l.idx l.xs l.i
-
-abbrev pub decreases-loop-i : goal.decreases-loop-i
-decreases-loop-i l = length l.initial.xs - l.i

@@ -56,11 +56,6 @@ bounds-xs-i-in-loop-i c =
     let loop = c.loop-i in
     omega (arith, loop.invariant.sized)
 
-pub loop-i-smaller : goal.loop-i-smaller
-loop-i-smaller c =
-    let loop = c.loop-i in
-    omega (arith, loop.invariant.sized)
-
 pub loop-i-preserved : goal.loop-i-preserved
 loop-i-preserved c =
     let add-pair = c.add_pair-x in

@@ -9,6 +9,3 @@ use Rattle.op_bits.proofs.pairwise.Given as goal
 
 abbrev pub invariant-loop-i : goal.invariant-loop-i
 invariant-loop-i l = Going (λ j. pair_made l.p (get_or l.initial.xs j 0) (get_or l.ys j 0)) (both (pair_made l.p) l.initial.xs l.ys (netlist_of l.n l.initial.net)) l.n (length l.initial.xs) l.initial.net l.initial.xs l.net l.idx l.xs l.i
-
-abbrev pub decreases-loop-i : goal.decreases-loop-i
-decreases-loop-i l = length l.initial.xs - l.i

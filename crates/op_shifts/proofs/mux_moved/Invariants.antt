@@ -13,6 +13,3 @@ abbrev pub invariant-loop-i : goal.invariant-loop-i
 invariant-loop-i l =
     Going (λ j. add_mux l.select (get_or (shifted (shift_of l.kind) l.z l.distance l.original) j 0) (get_or l.original j 0)) (both (add_mux l.select) (shifted (shift_of l.kind) l.z l.distance l.original) l.original (netlist_of l.n l.initial.net)) l.n (length l.original) l.initial.net l.initial.xs l.net l.idx l.xs l.i
     × PlainNots (netlist_of l.n l.net)
-
-abbrev pub decreases-loop-i : goal.decreases-loop-i
-decreases-loop-i l = length l.original - l.i

@@ -9,6 +9,3 @@ use Rattle.op_shifts.proofs.shift_stages.Given as goal
 
 abbrev pub invariant-loop-k : goal.invariant-loop-k
 invariant-loop-k l = Staging (stages (shift_of l.kind) l.z 0 l.amount l.initial.xs (netlist_of l.n l.initial.net)) (shift_of l.kind) l.z l.n l.initial.net l.initial.xs l.amount l.net l.idx l.xs l.distance l.k
-
-abbrev pub decreases-loop-k : goal.decreases-loop-k
-decreases-loop-k l = length l.amount - l.k

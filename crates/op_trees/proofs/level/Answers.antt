@@ -29,11 +29,6 @@ overflow_mul-i-in-loop-i c =
     let loop = c.loop-i in
     omega (arith, loop.invariant.sized)
 
-pub overflow_add-i : goal.overflow_add-i
-overflow_add-i c =
-    let loop = c.loop-i in
-    omega (arith, loop.invariant.sized)
-
 pub offset_bounds-xs-i-in-loop-i : goal.offset_bounds-xs-i-in-loop-i
 offset_bounds-xs-i-in-loop-i c =
     let loop = c.loop-i in
@@ -80,11 +75,6 @@ offset_bounds-xs-i-in-loop-i-2 c =
 
 pub bounds-xs-i-in-loop-i-2 : goal.bounds-xs-i-in-loop-i-2
 bounds-xs-i-in-loop-i-2 c =
-    let loop = c.loop-i in
-    omega (arith, loop.invariant.sized)
-
-pub overflow_add-i-in-loop-i : goal.overflow_add-i-in-loop-i
-overflow_add-i-in-loop-i c =
     let loop = c.loop-i in
     omega (arith, loop.invariant.sized)
 

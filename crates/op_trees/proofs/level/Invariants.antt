@@ -9,6 +9,3 @@ use Rattle.op_trees.proofs.level.Given as goal
 
 abbrev pub invariant-loop-i : goal.invariant-loop-i
 invariant-loop-i l = Going (pair_at (gate_of l.g) (take l.len l.initial.xs)) (nets (pair_at (gate_of l.g) (take l.len l.initial.xs)) 0 l.half (netlist_of l.n l.initial.net)) l.n l.half l.initial.net l.initial.xs l.net l.idx l.xs l.i
-
-abbrev pub decreases-loop-i : goal.decreases-loop-i
-decreases-loop-i l = l.half - l.i

@@ -11,6 +11,3 @@ use Rattle.phase_outputs.proofs.connect_outputs.Given as goal
 abbrev pub invariant-loop-p : goal.invariant-loop-p
 invariant-loop-p l =
     (Turning (connect_outputs (decode l.image) false 0 (decode l.image).signals (walk_state l.image l.initial.net l.initial.scr)) (output_turn l.image) l.n l.image l.initial.net l.initial.scr l.net l.scr l.p) × (Sure l.image l.net l.scr)
-
-abbrev pub decreases-loop-p : goal.decreases-loop-p
-decreases-loop-p l = l.n - l.p

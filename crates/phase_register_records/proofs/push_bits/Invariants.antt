@@ -10,6 +10,3 @@ use Rattle.phase_register_records.proofs.push_bits.Given as goal
 abbrev pub invariant-loop-b : goal.invariant-loop-b
 invariant-loop-b l =
     (Turning (bits_turn l.image l.k (register_means l.x) (walk_state l.image l.initial.net l.scr)) (register_bit (register_means l.x).reset l.k (register_means l.x)) l.n l.image l.initial.net l.scr l.net l.scr l.b) × (Sure l.image l.net l.scr)
-
-abbrev pub decreases-loop-b : goal.decreases-loop-b
-decreases-loop-b l = l.n - l.b

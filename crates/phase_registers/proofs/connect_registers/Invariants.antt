@@ -11,6 +11,3 @@ use Rattle.phase_registers.proofs.connect_registers.Given as goal
 abbrev pub invariant-loop-k : goal.invariant-loop-k
 invariant-loop-k l =
     (Turning (connect_registers (decode l.image) false 0 (decode l.image).registers (walk_state l.image l.initial.net l.initial.scr)) (register_turn l.image) l.n l.image l.initial.net l.initial.scr l.net l.scr l.k) × (Sure l.image l.net l.scr)
-
-abbrev pub decreases-loop-k : goal.decreases-loop-k
-decreases-loop-k l = l.n - l.k

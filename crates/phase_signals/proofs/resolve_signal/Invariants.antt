@@ -6,6 +6,3 @@ use Rattle.phase_signals.proofs.resolve_signal.Given as goal
 
 abbrev pub invariant-loop-b : goal.invariant-loop-b
 invariant-loop-b l = StepsAt l.image l.initial.net l.initial.scr (signal_steps l.p 0 l.w) (signal_steps l.p l.b (l.w - l.b)) l.net l.scr
-
-abbrev pub decreases-loop-b : goal.decreases-loop-b
-decreases-loop-b l = l.w - l.b

@@ -9,6 +9,3 @@ use Rattle.phase_sources.proofs.reserve_inputs.Given as goal
 
 abbrev pub invariant-loop-p : goal.invariant-loop-p
 invariant-loop-p l = Turning (reserve_inputs 0 (decode l.image).signals (walk_state l.image l.initial.net l.initial.scr)) (input_at l.image) l.count l.image l.initial.net l.initial.scr l.net l.scr l.p
-
-abbrev pub decreases-loop-p : goal.decreases-loop-p
-decreases-loop-p l = l.count - l.p

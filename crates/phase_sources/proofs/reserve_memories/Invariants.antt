@@ -9,6 +9,3 @@ use Rattle.phase_sources.proofs.reserve_memories.Given as goal
 
 abbrev pub invariant-loop-k : goal.invariant-loop-k
 invariant-loop-k l = Turning (reserve_memories (decode l.image) 0 (decode l.image).memories (walk_state l.image l.initial.net l.initial.scr)) (data_at l.image) l.count l.image l.initial.net l.initial.scr l.net l.scr l.k
-
-abbrev pub decreases-loop-k : goal.decreases-loop-k
-decreases-loop-k l = l.count - l.k

@@ -9,6 +9,3 @@ use Rattle.phase_sources.proofs.reserve_registers.Given as goal
 
 abbrev pub invariant-loop-k : goal.invariant-loop-k
 invariant-loop-k l = Turning (reserve_registers (decode l.image) 0 (decode l.image).registers (walk_state l.image l.initial.net l.initial.scr)) (outputs_at l.image) l.count l.image l.initial.net l.initial.scr l.net l.scr l.k
-
-abbrev pub decreases-loop-k : goal.decreases-loop-k
-decreases-loop-k l = l.count - l.k

@@ -8,6 +8,3 @@ use Rattle.scratch_layout.proofs.lay_firsts.Given as goal
 
 abbrev pub invariant-loop-p : goal.invariant-loop-p
 invariant-loop-p l = (l.sum ≡ sum_to (signal_width l.image) l.p) × PastedAt l.initial.scr l.at (list_of (count_at_of l.image 0) (sum_to (signal_width l.image))) (count_at_of l.image 0) l.scr l.p
-
-abbrev pub decreases-loop-p : goal.decreases-loop-p
-decreases-loop-p l = l.count - l.p

@@ -9,6 +9,3 @@ use Rattle.scratch_layout.proofs.lay_starts.Given as goal
 
 abbrev pub invariant-loop-e : goal.invariant-loop-e
 invariant-loop-e l = (l.sum ≡ sum_to (expr_width l.image) l.e) × StartsAt l.image (limit_of l.initial.scr) l.initial.scr l.scr l.e
-
-abbrev pub decreases-loop-e : goal.decreases-loop-e
-decreases-loop-e l = l.count - l.e

@@ -6,6 +6,3 @@ use Rattle.scratch_layout.proofs.put_drivers.Given as goal
 
 abbrev pub invariant-loop-i : goal.invariant-loop-i
 invariant-loop-i l = PastedAt l.initial.scr l.at (list_of l.n (λ i. l.base + i)) l.n l.scr l.i
-
-abbrev pub decreases-loop-i : goal.decreases-loop-i
-decreases-loop-i l = l.n - l.i

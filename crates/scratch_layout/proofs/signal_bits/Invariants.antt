@@ -7,6 +7,3 @@ use Rattle.scratch_layout.proofs.signal_bits.Given as goal
 
 abbrev pub invariant-loop-p : goal.invariant-loop-p
 invariant-loop-p l = (l.p ≤ l.count) × (l.sum ≡ sum_to (signal_width l.image) l.p)
-
-abbrev pub decreases-loop-p : goal.decreases-loop-p
-decreases-loop-p l = l.count - l.p

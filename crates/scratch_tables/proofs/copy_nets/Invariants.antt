@@ -8,6 +8,3 @@ use Rattle.scratch_tables.proofs.copy_nets.Given as goal
 
 abbrev pub invariant-loop-i : goal.invariant-loop-i
 invariant-loop-i l = PastedAt l.initial.out l.to (list_of l.n (λ i. net_word (get_or l.scr (l.at + i) 0))) l.n l.out l.i
-
-abbrev pub decreases-loop-i : goal.decreases-loop-i
-decreases-loop-i l = l.n - l.i

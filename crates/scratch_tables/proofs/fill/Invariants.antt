@@ -6,6 +6,3 @@ use Rattle.scratch_tables.proofs.fill.Given as goal
 
 abbrev pub invariant-loop-i : goal.invariant-loop-i
 invariant-loop-i l = PastedAt l.initial.part 0 (map suc l.nets) l.n l.part l.i
-
-abbrev pub decreases-loop-i : goal.decreases-loop-i
-decreases-loop-i l = l.n - l.i

@@ -8,6 +8,3 @@ use Rattle.stored_check.proofs.first_count.Given as goal
 
 abbrev pub invariant-loop-t : goal.invariant-loop-t
 invariant-loop-t l = (l.t ≤ 5) × (first (wrong_count l.net) 5 ≡ from (wrong_count l.net) 5 l.t)
-
-abbrev pub decreases-loop-t : goal.decreases-loop-t
-decreases-loop-t l = 5 - l.t

@@ -8,6 +8,3 @@ use Rattle.stored_check.proofs.first_left.Given as goal
 
 abbrev pub invariant-loop-n : goal.invariant-loop-n
 invariant-loop-n l = (l.n ≤ nets l.net) × (first (alone l.net) (nets l.net) ≡ from (alone l.net) (nets l.net) l.n)
-
-abbrev pub decreases-loop-n : goal.decreases-loop-n
-decreases-loop-n l = l.count - l.n

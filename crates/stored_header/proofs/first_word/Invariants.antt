@@ -8,6 +8,3 @@ use Rattle.stored_header.proofs.first_word.Given as goal
 
 abbrev pub invariant-loop-i : goal.invariant-loop-i
 invariant-loop-i l = (l.i ≤ l.n) × (first (wrong_header l.net) l.n ≡ from (wrong_header l.net) l.n l.i)
-
-abbrev pub decreases-loop-i : goal.decreases-loop-i
-decreases-loop-i l = l.n - l.i

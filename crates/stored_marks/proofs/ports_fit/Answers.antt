@@ -18,9 +18,6 @@ loop-i-init c = (omega arith, omega arith, ports_start c.args.l.now (get_or c.ar
 pub returns-then-l-at : goal.returns-then-l-at
 returns-then-l-at c = ap not (sym (lt_yes _ _ (omega (arith, ports_passed c.args.l.now _ _ _ _ _ (omega arith) (c.port_length-at.ensures.0 ∙ ap port_length c.part.ensures) c.loop-i.invariant.2))))
 
-pub overflow_add-i : goal.overflow_add-i
-overflow_add-i c = omega (arith, c.shared_slice_known-2-1.given 5)
-
 pub loop-i-preserved : goal.loop-i-preserved
 loop-i-preserved c = (omega arith, omega arith, ports_passed c.args.l.now _ _ _ _ _ (omega arith) (c.port_length-at.ensures.0 ∙ ap port_length c.part.ensures) c.loop-i.invariant.2)
 

@@ -7,6 +7,3 @@ use Rattle.stored_marks.proofs.ports_fit.Given as goal
 
 abbrev pub invariant-loop-i : goal.invariant-loop-i
 invariant-loop-i l = (l.i ≤ l.ports) × (l.at ≤ length l.l) × (6 + ports_length (get_or l.l 5 0) (drop 6 l.l) ≡ l.at + ports_length (l.ports - l.i) (drop l.at l.l))
-
-abbrev pub decreases-loop-i : goal.decreases-loop-i
-decreases-loop-i l = l.ports - l.i

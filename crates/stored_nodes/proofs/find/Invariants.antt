@@ -5,6 +5,3 @@ use Rattle.stored_nodes.proofs.find.Given as goal
 
 abbrev pub invariant-loop-depth : goal.invariant-loop-depth
 invariant-loop-depth l = Searches l.net l.table l.n l.rest l.at l.depth
-
-abbrev pub decreases-loop-depth : goal.decreases-loop-depth
-decreases-loop-depth l = 48 - l.depth

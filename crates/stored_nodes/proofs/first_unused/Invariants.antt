@@ -7,6 +7,3 @@ use Rattle.stored_nodes.proofs.first_unused.Given as goal
 
 abbrev pub invariant-loop-i : goal.invariant-loop-i
 invariant-loop-i l = (l.a ≤ l.i) × (l.i ≤ l.e) × (from (wrong_node l.net) l.e l.a ≡ from (wrong_node l.net) l.e l.i)
-
-abbrev pub decreases-loop-i : goal.decreases-loop-i
-decreases-loop-i l = l.e - l.i

@@ -13,6 +13,3 @@ abbrev pub invariant-loop-n : goal.invariant-loop-n
 invariant-loop-n l =
     (l.n ≤ nets l.net) × (first (wrong_node l.net) (6 * limit l.net) ≡ from (wrong_node l.net) (6 * limit l.net) (6 * l.n)) × (length l.table ≡ length l.initial.table)
     × Tree l.net l.n (slots l.net l.table)
-
-abbrev pub decreases-loop-n : goal.decreases-loop-n
-decreases-loop-n l = l.count - l.n

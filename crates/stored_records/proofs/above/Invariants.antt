@@ -7,6 +7,3 @@ use Rattle.stored_records.proofs.above.Given as goal
 
 abbrev pub invariant-loop-i : goal.invariant-loop-i
 invariant-loop-i l = (l.i ≤ l.e) × (l.m ≤ 4294967296) × (above_all l.m-2 (take (l.e - l.a) (drop l.a l.l)) ≡ above_all l.m (take (l.e - l.i) (drop l.i l.l)))
-
-abbrev pub decreases-loop-i : goal.decreases-loop-i
-decreases-loop-i l = l.e - l.i

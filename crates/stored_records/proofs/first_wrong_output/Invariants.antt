@@ -9,6 +9,3 @@ use Rattle.stored_records.proofs.first_wrong_output.Given as goal
 
 abbrev pub invariant-loop-i : goal.invariant-loop-i
 invariant-loop-i l = (l.a ≤ l.i) × (l.i ≤ l.e) × ((earlier : List (List ℕ)) → Marked l.net earlier l.marks → from (wrong_output l.net earlier l.l l.number l.least l.a) l.e l.a ≡ from (wrong_output l.net earlier l.l l.number l.least l.a) l.e l.i)
-
-abbrev pub decreases-loop-i : goal.decreases-loop-i
-decreases-loop-i l = l.e - l.i

@@ -6,6 +6,3 @@ use Rattle.stored_view.proofs.clear.Given as goal
 
 abbrev pub invariant-loop-i : goal.invariant-loop-i
 invariant-loop-i l = (l.i ≤ l.n) × (length l.initial.table ≡ length l.table) × ((x : ℕ) → x < l.i → get_or l.table x 0 ≡ 0)
-
-abbrev pub decreases-loop-i : goal.decreases-loop-i
-decreases-loop-i l = l.n - l.i

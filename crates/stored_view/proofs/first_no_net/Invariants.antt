@@ -8,6 +8,3 @@ use Rattle.stored_view.proofs.first_no_net.Given as goal
 
 abbrev pub invariant-loop-i : goal.invariant-loop-i
 invariant-loop-i l = (l.i ≤ l.e) × (from (λ j. no_net l.net (get_or l.l j 0)) l.e l.a ≡ from (λ j. no_net l.net (get_or l.l j 0)) l.e l.i)
-
-abbrev pub decreases-loop-i : goal.decreases-loop-i
-decreases-loop-i l = l.e - l.i

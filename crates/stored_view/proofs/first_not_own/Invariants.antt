@@ -9,6 +9,3 @@ use Rattle.stored_view.proofs.first_not_own.Given as goal
 
 abbrev pub invariant-loop-i : goal.invariant-loop-i
 invariant-loop-i l = (l.a ≤ l.i) × (l.i ≤ l.e) × ((earlier : List (List ℕ)) → Marked l.net earlier l.marks → from (not_own_at l.net earlier l.l l.kind l.owner l.base l.a) l.e l.a ≡ from (not_own_at l.net earlier l.l l.kind l.owner l.base l.a) l.e l.i)
-
-abbrev pub decreases-loop-i : goal.decreases-loop-i
-decreases-loop-i l = l.e - l.i

@@ -9,6 +9,3 @@ use Rattle.trace_answer.proofs.has_wrong_letter.Given as goal
 
 abbrev pub invariant-loop-i : goal.invariant-loop-i
 invariant-loop-i l = having (λ b. b ≢? 48 and b ≢? 49) (take l.i l.line) ≡ false
-
-abbrev pub decreases-loop-i : goal.decreases-loop-i
-decreases-loop-i l = length l.line - l.i

@@ -6,6 +6,3 @@ use Rattle.trace_clash.proofs.lowest_clash.Given as goal
 
 abbrev pub invariant-loop-i : goal.invariant-loop-i
 invariant-loop-i l = (l.i ≤ l.count) × (l.k ≡ lowest_clash l.net l.old l.new l.places l.i)
-
-abbrev pub decreases-loop-i : goal.decreases-loop-i
-decreases-loop-i l = l.count - l.i

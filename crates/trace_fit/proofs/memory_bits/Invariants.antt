@@ -7,6 +7,3 @@ use Rattle.trace_fit.proofs.memory_bits.Given as goal
 
 abbrev pub invariant-loop-i : goal.invariant-loop-i
 invariant-loop-i l = (l.i ≤ l.count) × ((l.sum ≡ sum_to (bits_at l.net l.places) l.i) × (l.sum ≤ l.i * 67108864))
-
-abbrev pub decreases-loop-i : goal.decreases-loop-i
-decreases-loop-i l = l.count - l.i

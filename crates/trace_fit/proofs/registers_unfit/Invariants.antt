@@ -9,6 +9,3 @@ use Rattle.trace_fit.proofs.registers_unfit.Given as goal
 
 abbrev pub invariant-loop-i : goal.invariant-loop-i
 invariant-loop-i l = (l.i ≤ l.count) × (first (λ j. register_unfit l.net (drop (get_or l.places j 0) l.net)) l.count ≡ from (λ j. register_unfit l.net (drop (get_or l.places j 0) l.net)) l.count l.i)
-
-abbrev pub decreases-loop-i : goal.decreases-loop-i
-decreases-loop-i l = l.count - l.i

@@ -7,6 +7,3 @@ use Rattle.trace_image.proofs.read_words.Given as goal
 
 abbrev pub invariant-loop-i : goal.invariant-loop-i
 invariant-loop-i l = (l.n ≡ length l.bytes / 4) × (l.n ≤ length l.initial.net) × (length l.net ≡ length l.initial.net) × Reading l.bytes l.net l.i
-
-abbrev pub decreases-loop-i : goal.decreases-loop-i
-decreases-loop-i l = l.n - l.i

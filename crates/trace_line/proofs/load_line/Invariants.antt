@@ -8,6 +8,3 @@ use Rattle.trace_line.proofs.load_line.Given as goal
 
 abbrev pub invariant-loop-i : goal.invariant-loop-i
 invariant-loop-i l = (length l.initial.values ≡ length l.values) × Spreading char l.initial.values l.inputs l.line l.values l.i
-
-abbrev pub decreases-loop-i : goal.decreases-loop-i
-decreases-loop-i l = length l.inputs - l.i

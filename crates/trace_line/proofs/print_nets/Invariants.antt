@@ -9,6 +9,3 @@ use Rattle.trace_line.proofs.print_nets.Given as goal
 
 abbrev pub invariant-loop-i : goal.invariant-loop-i
 invariant-loop-i l = Wrote l.initial.out l.at (map (λ n. digit (on l.values n)) (take l.i l.nets)) l.out l.to
-
-abbrev pub decreases-loop-i : goal.decreases-loop-i
-decreases-loop-i l = length l.nets - l.i

@@ -9,6 +9,3 @@ use Rattle.trace_memory.proofs.lay_bits.Given as goal
 
 abbrev pub invariant-loop-i : goal.invariant-loop-i
 invariant-loop-i l = (length l.initial.memory ≡ length l.memory) × Laying (λ n. bit (on l.values n)) l.initial.memory l.at l.nets l.memory l.i
-
-abbrev pub decreases-loop-i : goal.decreases-loop-i
-decreases-loop-i l = length l.nets - l.i

@@ -7,6 +7,3 @@ use Rattle.trace_memory.proofs.read_memories.Given as goal
 
 abbrev pub invariant-loop-i : goal.invariant-loop-i
 invariant-loop-i l = (length l.initial.new ≡ length l.new) × ((l.i ≤ l.count) × ((l.base ≡ base_at l.net l.places l.i) × (l.new ≡ memories_read l.net l.memory l.old l.places l.i l.initial.new)))
-
-abbrev pub decreases-loop-i : goal.decreases-loop-i
-decreases-loop-i l = l.count - l.i

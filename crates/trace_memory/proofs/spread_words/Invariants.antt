@@ -8,6 +8,3 @@ use Rattle.trace_memory.proofs.spread_words.Given as goal
 
 abbrev pub invariant-loop-i : goal.invariant-loop-i
 invariant-loop-i l = (length l.initial.values ≡ length l.values) × Spreading identity l.initial.values l.nets l.words l.values l.i
-
-abbrev pub decreases-loop-i : goal.decreases-loop-i
-decreases-loop-i l = length l.nets - l.i

@@ -7,6 +7,3 @@ use Rattle.trace_memory.proofs.write_memories.Given as goal
 
 abbrev pub invariant-loop-i : goal.invariant-loop-i
 invariant-loop-i l = (length l.initial.memory ≡ length l.memory) × ((l.i ≤ l.count) × ((l.base ≡ base_at l.net l.places l.i) × (l.memory ≡ memories_written l.net l.old l.new l.places l.i l.initial.memory)))
-
-abbrev pub decreases-loop-i : goal.decreases-loop-i
-decreases-loop-i l = l.count - l.i

@@ -9,6 +9,3 @@ use Rattle.trace_names.proofs.has_other_letter.Given as goal
 
 abbrev pub invariant-loop-i : goal.invariant-loop-i
 invariant-loop-i l = having (λ b. outside b 97 122) (take l.i l.name) ≡ false
-
-abbrev pub decreases-loop-i : goal.decreases-loop-i
-decreases-loop-i l = length l.name - l.i

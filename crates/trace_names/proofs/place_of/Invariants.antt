@@ -8,6 +8,3 @@ use Rattle.trace_names.proofs.place_of.Given as goal
 
 abbrev pub invariant-loop-i : goal.invariant-loop-i
 invariant-loop-i l = (l.i ≤ length l.held) × (first (λ j. get_or l.held j 0 ≡? l.n or get_or l.held j 0 ≡? 0) (length l.held) ≡ from (λ j. get_or l.held j 0 ≡? l.n or get_or l.held j 0 ≡? 0) (length l.held) l.i)
-
-abbrev pub decreases-loop-i : goal.decreases-loop-i
-decreases-loop-i l = length l.held - l.i

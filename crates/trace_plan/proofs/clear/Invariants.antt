@@ -7,6 +7,3 @@ use Rattle.trace_plan.proofs.clear.Given as goal
 
 abbrev pub invariant-loop-i : goal.invariant-loop-i
 invariant-loop-i l = (length l.initial.due ≡ length l.due) × ((l.i ≤ l.n) × Cleared l.due l.i)
-
-abbrev pub decreases-loop-i : goal.decreases-loop-i
-decreases-loop-i l = l.n - l.i

@@ -7,6 +7,3 @@ use Rattle.trace_plan.proofs.make_plan.Given as goal
 
 abbrev pub invariant-loop-k : goal.invariant-loop-k
 invariant-loop-k l = (length l.initial.due ≡ length l.due) × ((length l.initial.steps ≡ length l.steps) × ((l.k ≤ l.count) × Building l.net l.steps l.due l.n l.k))
-
-abbrev pub decreases-loop-k : goal.decreases-loop-k
-decreases-loop-k l = l.count - l.k

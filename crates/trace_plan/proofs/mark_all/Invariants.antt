@@ -7,6 +7,3 @@ use Rattle.trace_plan.proofs.mark_all.Given as goal
 
 abbrev pub invariant-loop-i : goal.invariant-loop-i
 invariant-loop-i l = (length l.initial.due ≡ length l.due) × ((l.i ≤ length l.outs) × Marked l.outs l.initial.due l.due l.n l.i)
-
-abbrev pub decreases-loop-i : goal.decreases-loop-i
-decreases-loop-i l = length l.outs - l.i

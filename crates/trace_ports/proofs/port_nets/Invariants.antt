@@ -6,6 +6,3 @@ use Rattle.trace_ports.proofs.port_nets.Given as goal
 
 abbrev pub invariant-loop-i : goal.invariant-loop-i
 invariant-loop-i l = (l.i ≤ l.count) × Wrote l.initial.out 0 (joined l.net l.kind l.ports l.i) l.out l.at
-
-abbrev pub decreases-loop-i : goal.decreases-loop-i
-decreases-loop-i l = l.count - l.i

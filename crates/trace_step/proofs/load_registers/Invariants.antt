@@ -7,6 +7,3 @@ use Rattle.trace_step.proofs.load_registers.Given as goal
 
 abbrev pub invariant-loop-i : goal.invariant-loop-i
 invariant-loop-i l = (length l.initial.new ≡ length l.new) × ((l.i ≤ l.count) × (l.new ≡ registers_done l.net l.old l.places l.i l.initial.new))
-
-abbrev pub decreases-loop-i : goal.decreases-loop-i
-decreases-loop-i l = l.count - l.i

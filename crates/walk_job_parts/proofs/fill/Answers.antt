@@ -10,9 +10,6 @@ loop-i-init c = filling_start _ _ _ _ c.requires.0
 pub bounds-xs-i : goal.bounds-xs-i
 bounds-xs-i c = omega (arith, c.loop-i.invariant.sized)
 
-pub loop-i-smaller : goal.loop-i-smaller
-loop-i-smaller c = omega (arith, c.loop-i.invariant.sized)
-
 pub loop-i-preserved : goal.loop-i-preserved
 loop-i-preserved c = filling_more _ _ _ _ _ _ c.loop-i.invariant (omega arith) c.requires.1
 

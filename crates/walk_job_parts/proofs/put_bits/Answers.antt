@@ -22,12 +22,6 @@ offset_bounds-out-i c = omega (arith, c.loop-i.invariant.sized, c.requires.1)
 pub bounds-out-i : goal.bounds-out-i
 bounds-out-i c = omega (arith, c.loop-i.invariant.sized)
 
-pub overflow_add-i : goal.overflow_add-i
-overflow_add-i c = omega (arith, c.loop-i.invariant.sized, c.requires.1)
-
-pub loop-i-smaller : goal.loop-i-smaller
-loop-i-smaller c = omega (arith, c.loop-i.invariant.sized)
-
 pub loop-i-preserved : goal.loop-i-preserved
 loop-i-preserved c = put_more _ _ _ _ _ _ _ c.loop-i.invariant (omega (arith, c.loop-i.invariant.sized)) c.constant_bit.ensures
 

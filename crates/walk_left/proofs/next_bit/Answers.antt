@@ -29,9 +29,6 @@ returns-in_default c =
     let q = c.loop-k in
     bits_found a.image.now a.scr.now a.p a.first a.n a.from q.k q.invariant.0 q.invariant.1 c.loop-k-test.true (omega (arith, c.requires.1.most))
 
-pub overflow_add-k : goal.overflow_add-k
-overflow_add-k c = let pre = c.requires in omega (arith, pre.1.most, c.loop-k-test.true)
-
 pub loop-k-preserved : goal.loop-k-preserved
 loop-k-preserved c =
     let a = c.args in

@@ -7,6 +7,3 @@ use Rattle.walk_left.proofs.next_bit.Given as goal
 
 abbrev pub invariant-loop-k : goal.invariant-loop-k
 invariant-loop-k l = Skips l.image l.scr (drop l.from (bits_needs l.p l.first l.n)) (drop l.k (bits_needs l.p l.first l.n)) × (l.from ≤ l.k)
-
-abbrev pub decreases-loop-k : goal.decreases-loop-k
-decreases-loop-k l = l.n - l.k
