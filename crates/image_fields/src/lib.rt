@@ -17,30 +17,19 @@ pub fn byte(image: &[u8], at: usize) -> u32
     }
 }
 
-// The part of the bytes that begins at an offset; nothing where the offset is past the end.
-pub fn part(image: &[u8], at: usize) -> &[u8]
-    ensures { result.now ≡ drop at image.now }
+// What begins at a place; nothing where the place is past the end.
+pub fn part<T>(s: &[T], at: usize) -> &[T]
+    ensures { result.now ≡ drop at s.now }
 {
-    if at <= image.len() {
-        &image[at..]
-    } else {
-        &image[image.len()..]
-    }
+    &s[at.min(s.len())..]
 }
 
-// The n bytes from an offset on, or as many as there are.
-pub fn stretch(image: &[u8], at: usize, n: usize) -> &[u8]
-    ensures { result.now ≡ take n (drop at image.now) }
+// The n elements from a place on, or as many as there are.
+pub fn stretch<T>(s: &[T], at: usize, n: usize) -> &[T]
+    ensures { result.now ≡ take n (drop at s.now) }
 {
-    if at <= image.len() {
-        if n <= image.len() - at {
-            &image[at..at + n]
-        } else {
-            &image[at..]
-        }
-    } else {
-        &image[image.len()..]
-    }
+    let rest = part(s, at);
+    &rest[..n.min(rest.len())]
 }
 
 // The 32-bit word at a place near or past the end.
