@@ -17,30 +17,19 @@ pub fn byte(image: &[u8], at: usize) -> u32
     }
 }
 
-// The part of a list that begins at an offset; nothing where the offset is past the end.
-pub fn part<T>(xs: &[T], at: usize) -> &[T]
-    ensures { result.now ≡ drop at xs.now }
+// What begins at a place; nothing where the place is past the end.
+pub fn part<T>(s: &[T], at: usize) -> &[T]
+    ensures { result.now ≡ drop at s.now }
 {
-    if at <= xs.len() {
-        &xs[at..]
-    } else {
-        &xs[xs.len()..]
-    }
+    &s[at.min(s.len())..]
 }
 
-// The n elements from an offset on, or as many as there are.
-pub fn stretch<T>(xs: &[T], at: usize, n: usize) -> &[T]
-    ensures { result.now ≡ take n (drop at xs.now) }
+// The n elements from a place on, or as many as there are.
+pub fn stretch<T>(s: &[T], at: usize, n: usize) -> &[T]
+    ensures { result.now ≡ take n (drop at s.now) }
 {
-    if at <= xs.len() {
-        if n <= xs.len() - at {
-            &xs[at..at + n]
-        } else {
-            &xs[at..]
-        }
-    } else {
-        &xs[xs.len()..]
-    }
+    let rest = part(s, at);
+    &rest[..n.min(rest.len())]
 }
 
 // The 32-bit word at a place near or past the end.
