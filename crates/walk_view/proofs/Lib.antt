@@ -1,2 +1,0 @@
--- Laws that proofs of the crates above cite.
-pub mod Answers
