@@ -18,17 +18,17 @@ pub fn byte(image: &[u8], at: usize) -> u32
 }
 
 // What begins at a place; nothing where the place is past the end.
-pub fn part<T>(s: &[T], at: usize) -> &[T]
-    ensures { result.now ≡ drop at s.now }
+pub fn part<T>(xs: &[T], at: usize) -> &[T]
+    ensures { result.now ≡ drop at xs.now }
 {
-    &s[at.min(s.len())..]
+    &xs[at.min(xs.len())..]
 }
 
 // The n elements from a place on, or as many as there are.
-pub fn stretch<T>(s: &[T], at: usize, n: usize) -> &[T]
-    ensures { result.now ≡ take n (drop at s.now) }
+pub fn stretch<T>(xs: &[T], at: usize, n: usize) -> &[T]
+    ensures { result.now ≡ take n (drop at xs.now) }
 {
-    let rest = part(s, at);
+    let rest = part(xs, at);
     &rest[..n.min(rest.len())]
 }
 
