@@ -1,5 +1,5 @@
 -- Chains over the numbers below n that look for one with a property: what `find` and `any` answer, in the words `first_of` and `any`. Assumes nothing.
-use Rattle.std.specs.Prelude.{◌≡◌, ℕ, zero, suc, ◌+◌, ◌-◌, ◌<◌, ◌≤◌, Bool, true, false, Option, Some, None, List, length, get_or, refl}
+use Rattle.std.specs.Prelude.{◌≡◌, ℕ, zero, suc, ◌<◌, ◌≤◌, Bool, true, false, Option, Some, None, List, length, get_or, refl}
 use Rattle.std.proofs.Common.{sym, ap, ◌∙◌, subst, arith, Bor, add-one}
 use Rattle.std.specs.declared.ops.Range.{Range}
 use Rattle.std.proofs.lemmas.Iterator.{YieldsList-from_range, first_from_Range, cases_from_any}
@@ -11,8 +11,8 @@ use Rattle.std.specs.List.{FoldsTo, AllWithin, HoldsAt, range_with_len}
 use Rattle.std.specs.Option.{MatchOption}
 use Rattle.std.specs.Bool.{⊤, MatchBool}
 use denote.Param.Members.{Mut}
-use Rattle.spec_tests.specs.Rules.{first, any}
-use Rattle.spec_tests.specs.Laws.{from, begins, passed, found, ended}
+use Rattle.spec_tests.specs.Rules.{◌<?◌, pick, first, any}
+use Rattle.spec_tests.specs.Laws.{from, begins, passed, found, ended, yes_lt, no_lt, first_most}
 use Rattle.spec_tests.specs.Any.{any_at, any_none}
 use Rattle.spec_tests.specs.Options.{first_of, first_some, first_none}
 
@@ -60,3 +60,24 @@ module _ {F : Type 0} (n : ℕ) (p : ℕ → Bool) where
           let l : h.0 < n = omega (arith, length-range_with_len 0 n, h.1) in
           sym (any_at p n h.0 l (ap p (sym (at h.0 l)) ∙ h.2 0))
       by false h = sym (any_none p n (λ k l. ap p (sym (at k l)) ∙ h k 0 (omega arith) (omega (arith, length-range_with_len 0 n))))
+
+-- ---- what an answer tells ----
+
+some_none : {A : Type 0} {x : A} → Some x ≡ None → ⊥
+some_none e = cc
+
+pub some_tells : (p : ℕ → Bool) (n i : ℕ) → first_of p n ≡ Some i → (i < n) × (first p n ≡ i)
+unfolding first_of pick
+some_tells p n i = go (first p n <? n) refl
+  where
+    go : (t : Bool) → (first p n <? n) ≡ t → pick t (Some (first p n)) None ≡ Some i → (i < n) × (first p n ≡ i)
+    go true e h = let s : first p n ≡ i = cc in (subst (λ (k : ℕ). k < n) s (yes_lt _ _ e), s)
+    go false e h = absurd (some_none (sym h))
+
+pub none_tells : (p : ℕ → Bool) (n : ℕ) → first_of p n ≡ None → first p n ≡ n
+unfolding first_of pick
+none_tells p n = go (first p n <? n) refl
+  where
+    go : (t : Bool) → (first p n <? n) ≡ t → pick t (Some (first p n)) None ≡ None → first p n ≡ n
+    go true e h = absurd (some_none h)
+    go false e h = omega (arith, no_lt _ _ e, first_most p n)
