@@ -409,10 +409,6 @@ range_below s net₀ w₀ e lsb m k at net w x l left =
     }
 
 -- a refusal that is passed on
-pub err_is : (r : Lowered) (e : Refusal) → IsErr r × IsErrAnd r (λ y. y ≡ e) → r ≡ Err e
-err_is (Ok u) e h = absurd h.1
-err_is (Err y) e h = ap {B = Lowered} (λ (z : Refusal). Err z) h.1
-
 pub turn_refused : (s net₀ w₀ : List ℕ) (part : Part) (k : ℕ) (r : Next) (e : Refusal) (net w : List ℕ) → IsErr r × IsErrAnd r (λ y. y ≡ e)
     → Gives s net₀ w₀ (need_of part) (Err e) net w → After s net₀ w₀ part k r net w
 turn_refused s net₀ w₀ part k (Ok x) e net w h g = absurd h.1

@@ -13,7 +13,8 @@ use Rattle.spec_tests.specs.Options.{option_of}
 use Rattle.walk_view.specs.View.{walk_state, cost_of, There}
 use Rattle.walk_recursion.specs.declared.Part.TheVariants as P
 use Rattle.std.specs.Prelude.{Ok, Err}
-use Rattle.walk_recursion.proofs.Ways.{there_is, none_is, err_is, turn_start, turn_next, whole_at_law, met_whole, bit_known, bit_none, bit_marked, driver_there, marked_ready, marked_sure, marked_less, bit_lowered}
+use Rattle.walk_view.proofs.Errors.{err_is}
+use Rattle.walk_recursion.proofs.Ways.{there_is, none_is, turn_start, turn_next, whole_at_law, met_whole, bit_known, bit_none, bit_marked, driver_there, marked_ready, marked_sure, marked_less, bit_lowered}
 use Rattle.walk_recursion.proofs.+walk.Goals as goal
 
 pub lower_bit-resolve_signal_bit-requires : goal.lower_bit-resolve_signal_bit-requires
