@@ -1,15 +1,15 @@
 -- The bits of a constant by its list words; a list filled bit by bit. Assumes nothing.
 use mathlib.Core.Path.{◌≡◌, refl, sym, ap, ◌∙◌}
 use mathlib.Core.Bool.{Bool, true, false}
-use mathlib.Core.List.{List, [], ◌∷◌, ◌++◌, append_assoc, append-nil}
+use mathlib.Core.List.{List, ◌++◌}
 use Prim.Native.Nat.{ℕ, zero, suc, ◌+◌, ◌*◌, ◌-◌, ◌^◌, ◌/◌, ◌%◌, ◌≤◌, ◌<◌, min}
 use native.Mathlib.Nat.{div-one, mod-mod, le_of_suc-le-suc, not-suc-le-zero}
 use native.Mathlib.Omega.{arith}
 use borrow.Author.Tests.{eqb-true, eqb-false, leb-true, leb-false}
 use lib.Dec.{eqb, leb}
-use lib.ListN.{length, get_or, set, take, drop, replicate, length-set, length-map, length-drop, replicate-append-replicate, get_or-map}
+use lib.ListN.{length, get_or, set, take, drop, length-set, length-map, length-drop, get_or-map}
 use lib.Pow.{high, field, shr-shr}
-use lib.Seq.{length-take-le, take_all, take-suc-set, get_or-set_same, get_or-set_other, get_or-take, get_or-drop, ext_get_or}
+use lib.Seq.{length-take-le, take_all, get_or-set_same, get_or-set_other, get_or-take, get_or-drop, ext_get_or}
 use Rattle.spec_rtl.specs.Word.{odd, bits, length_bits, bits_eq}
 use Rattle.spec_rules.specs.Image.{list_word, constant_words, constant_of}
 use Rattle.net_fold.specs.Digits.{held}

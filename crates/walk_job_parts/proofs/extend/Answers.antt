@@ -1,8 +1,6 @@
 -- `walk_job_parts::extend` meets its contract. Assumes nothing.
-use native.Mathlib.Omega.{arith}
 use Rattle.std.proofs.lemmas.Result.{err_from_is_err_and}
-use Rattle.std.proofs.lemmas.Slice.{take-put_mid}
-use Rattle.walk_job_parts.proofs.Extends.{extend_out, extend_done}
+use Rattle.walk_job_parts.proofs.Extends.{extend_out}
 use Rattle.walk_job_parts.proofs.extend.Goals as goal
 
 pub returns-in_err-z : goal.returns-in_err-z
