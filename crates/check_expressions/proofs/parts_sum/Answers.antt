@@ -16,5 +16,3 @@ loop-i-preserved c =
     let e = rw c.list_word.ensures at c.expr_width.ensures in
     (omega arith, ap₂ ◌+◌ c.loop-i.invariant.1 e ∙ sym (sum_more _ _), omega arith)
 
-pub returns : goal.returns
-returns c = c.loop-i.invariant.1 ∙ ap (sum_to (part_width _ _)) (omega arith)
