@@ -1,7 +1,6 @@
 -- `check_expressions::bad_kind` meets its contract. Assumes nothing.
 use mathlib.Core.Path.{◌∙◌}
 use native.Mathlib.Omega.{arith}
-use Rattle.check_references.specs.Tests.{beyond}
 use Rattle.check_expressions.specs.Kinds.{kind_read, kind_constant, kind_unary, kind_binary, kind_mux, kind_concat, kind_slice, kind_none}
 use Rattle.check_expressions.proofs.bad_kind.Goals as goal
 

@@ -1,6 +1,6 @@
 -- `check_expressions::first_expr` meets its contract. Assumes nothing.
 use mathlib.Core.Path.{sym, ap, ap₂, ◌∙◌}
-use Prim.Native.Nat.{◌+◌, ◌-◌}
+use Prim.Native.Nat.{◌+◌}
 use native.Mathlib.Omega.{arith}
 use Rattle.spec_tests.specs.Options.{first_of, first_some, first_none}
 use Rattle.spec_tests.specs.Laws.{begins, passed, found, ended, sum_none, sum_more}
