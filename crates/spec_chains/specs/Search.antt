@@ -1,19 +1,19 @@
 -- Chains over the numbers below n that look for one with a property: what `find` and `any` answer, in the words `first_of` and `any`. Assumes nothing.
-use Rattle.std.specs.Prelude.{◌≡◌, ℕ, zero, suc, ◌<◌, ◌≤◌, Bool, true, false, Option, Some, None, List, length, get_or, refl}
-use Rattle.std.proofs.Common.{sym, ap, ◌∙◌, subst, arith, Bor, add-one}
+use Rattle.std.specs.Prelude.{◌≡◌, ℕ, zero, suc, ◌<◌, ◌≤◌, Bool, true, false, Option, Some, None, List, [], ◌∷◌, ◌||◌, length, get_or, refl}
+use Rattle.std.proofs.Common.{⊎_elim, sym, ap, ◌∙◌, subst, arith, Bor, add-one}
 use Rattle.std.specs.declared.ops.Range.{Range}
 use Rattle.std.proofs.lemmas.Iterator.{YieldsList-from_range, first_from_Range, cases_from_any}
 use Rattle.std.proofs.lemmas.List.FromFn.{length-range_with_len, get_or-range_with_len}
 use Rattle.std.proofs.iter.Yields.{nat_range_steps}
 use Rattle.std.specs.Fn.{Called, CalledAt}
 use Rattle.std.specs.Iterator.{YieldsThen}
-use Rattle.std.specs.List.{FoldsTo, AllWithin, HoldsAt, range_with_len}
+use Rattle.std.specs.List.{FoldsTo, AllWithin, HoldsAt, range_with_len, list_any}
 use Rattle.std.specs.Option.{MatchOption}
 use Rattle.std.specs.Bool.{⊤, MatchBool}
 use denote.Param.Members.{Mut}
-use Rattle.spec_tests.specs.Rules.{◌<?◌, pick, first, any}
-use Rattle.spec_tests.specs.Laws.{from, begins, passed, found, ended, yes_lt, no_lt, first_most}
-use Rattle.spec_tests.specs.Any.{any_at, any_none}
+use Rattle.spec_tests.specs.Rules.{◌<?◌, ◌or◌, pick, first, any}
+use Rattle.spec_tests.specs.Laws.{or_yes, or_left, or_right, from, begins, passed, found, ended, yes_lt, no_lt, first_most}
+use Rattle.spec_tests.specs.Any.{same_bool, any_at, any_none, any_first, any_found, any_empty}
 use Rattle.spec_tests.specs.Options.{first_of, first_some, first_none}
 
 -- the numbers below i are passed over
@@ -81,3 +81,28 @@ none_tells p n = go (first p n <? n) refl
     go : (t : Bool) → (first p n <? n) ≡ t → pick t (Some (first p n)) None ≡ None → first p n ≡ n
     go true e h = absurd (some_none h)
     go false e h = omega (arith, no_lt _ _ e, first_most p n)
+
+-- ---- in a list ----
+
+any_later : (p : ℕ → Bool) (n : ℕ) → any p (suc n) ≡ (p 0 or any (λ k. p (suc k)) n)
+any_later p n = same_bool fore back
+  where
+    later : (i : ℕ) → i < suc n → p i ≡ true → (p 0 or any (λ k. p (suc k)) n) ≡ true
+    later zero h e = or_left _ e
+    later (suc i) h e = or_right _ (any_at _ n i (omega arith) e)
+
+    fore : any p (suc n) ≡ true → (p 0 or any (λ k. p (suc k)) n) ≡ true
+    fore e = let f = any_found p (suc n) e in later _ f.0 f.1
+
+    back : (p 0 or any (λ k. p (suc k)) n) ≡ true → any p (suc n) ≡ true
+    back e = ⊎_elim (λ q. any_first p n q) (λ q. let f = any_found _ n q in any_at p (suc n) (suc (first (λ k. p (suc k)) n)) (omega (arith, f.0)) f.1) (or_yes e)
+
+both_or : (t : Bool) {a b : Bool} → a ≡ b → (t || a) ≡ (t or b)
+unfolding ◌or◌
+both_or true e = refl
+both_or false e = e
+
+-- `any` of a slice, and `contains`
+pub any_in_list : (p : ℕ → Bool) (xs : List ℕ) → list_any p xs ≡ any (λ k. p (get_or xs k 0)) (length xs)
+any_in_list p [] = sym (any_empty _)
+any_in_list p (x ∷ xs) = both_or (p x) (any_in_list p xs) ∙ sym (any_later (λ k. p (get_or (x ∷ xs) k 0)) (length xs))
