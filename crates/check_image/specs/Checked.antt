@@ -1,8 +1,8 @@
 -- The answer of the check as its numbers, and laws of the order in which the checks run.
-use Rattle.std.specs.Prelude.{ℕ, ◌≤◌, ◌<◌, List, Bool, true, false, Option, Some, None, Result, Ok, Err, ◌≡◌, refl}
+use Rattle.std.specs.Prelude.{ℕ, List, Bool, true, false, Some, None, Result, Ok, Err, ◌≡◌, refl}
 use Rattle.std.proofs.Common.{sym, arith}
 use Rattle.spec_tests.specs.Rules.{◌<?◌, pick, first, Answer, Fine, Refused, and_then}
-use Rattle.spec_tests.specs.Laws.{lt_yes, lt_no, pick_hit, pick_skip, first_most}
+use Rattle.spec_tests.specs.Laws.{lt_yes, lt_no, pick_hit, pick_skip}
 use Rattle.spec_tests.specs.Options.{first_of}
 use Rattle.spec_chains.specs.Search.{some_tells, none_tells}
 use Rattle.spec_rules.specs.Image.{count_at_of}
