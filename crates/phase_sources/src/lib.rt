@@ -82,6 +82,7 @@ fn reserve_inputs(image: &[u8], net: &mut [u32], scr: &mut [u32]) -> Result<(), 
     ensures { Phase (reserve_inputs 0 (decode image.now).signals (walk_state image.now net.old scr.old)) image.now net.old scr.old result net.new scr.new }
 {
     let count = image_fields::count(image, image_fields::SIGNALS);
+    // Three lines; one loop over any step needs a longer contract, over all that a step may be lent.
     for p in 0..count {
         reserve_input(image, net, scr, p)?;
     }
@@ -104,6 +105,7 @@ fn reserve_registers(image: &[u8], net: &mut [u32], scr: &mut [u32]) -> Result<(
     ensures { Phase (reserve_registers (decode image.now) 0 (decode image.now).registers (walk_state image.now net.old scr.old)) image.now net.old scr.old result net.new scr.new }
 {
     let count = image_fields::count(image, image_fields::REGISTERS);
+    // Three lines; one loop over any step needs a longer contract, over all that a step may be lent.
     for k in 0..count {
         reserve_register(image, net, scr, k)?;
     }
@@ -146,6 +148,7 @@ fn reserve_memories(image: &[u8], net: &mut [u32], scr: &mut [u32]) -> Result<()
     ensures { Phase (reserve_memories (decode image.now) 0 (decode image.now).memories (walk_state image.now net.old scr.old)) image.now net.old scr.old result net.new scr.new }
 {
     let count = image_fields::count(image, image_fields::MEMORIES);
+    // Three lines; one loop over any step needs a longer contract, over all that a step may be lent.
     for k in 0..count {
         reserve_memory(image, net, scr, k)?;
     }
