@@ -1,7 +1,7 @@
 -- From a call's answer to what later calls ask. After each operation no Not has a Not or a constant as its input: over the model, then over
 -- the calls' contracts. Assumes nothing.
 use mathlib.Core.Path.{◌≡◌, refl, sym, ap, ◌∙◌}
-use mathlib.Core.Bool.{Bool, true, false, not, cond, ◌||◌}
+use mathlib.Core.Bool.{Bool, true, false, true≢false, not, cond, ◌||◌}
 use mathlib.Core.List.{List, ◌∷◌, [], ◌++◌}
 use mathlib.Core.Option.{Option, none, some}
 use Prim.Native.Nat.{ℕ, ◌+◌, ◌*◌, ◌≤◌, ◌<◌, min, max}
@@ -16,8 +16,7 @@ use Rattle.spec_model.specs.WordCells.{find_cell, arithmetic, comparison}
 use Rattle.spec_rules.specs.Checks.{checked}
 use Rattle.check_image.specs.Checked.{answer_of}
 use Rattle.check_image.specs.Accepted.{accepted}
-use Rattle.check_image.specs.declared.Checked.{Checked}
-use Rattle.check_image.specs.declared.Checked.TheVariants as C
+use Rattle.check_image.specs.declared.Refusal.{Refusal}
 use Rattle.law_accepted.specs.Formed.{readable}
 use Rattle.expr_laws.specs.Exprs.{Readable}
 use Rattle.net_view.specs.View.{netlist_of}
@@ -25,7 +24,7 @@ use Rattle.net_view.specs.Laws.{length_nodes_of, with_record, empty, Holds}
 use Rattle.net_index.specs.Index.{Held}
 use Rattle.net_index.specs.Start.{held_start}
 use Rattle.net_nodes.specs.Gives.{out_of, Gives}
-use Rattle.std.specs.Prelude.{Result, Ok, Err}
+use Rattle.std.specs.Prelude.{Result, Ok, Err, is_ok}
 use Rattle.net_nodes.specs.declared.Full.{Full}
 use Rattle.net_ports.specs.Runs.{run_of}
 use Rattle.net_fold.specs.Values.{filled_of, Fills}
@@ -34,9 +33,9 @@ use Rattle.compare_parts.specs.Steps.{Steps}
 
 -- ---- an image that passes, nets of a word ----
 
-pub fine_readable : (s : List ℕ) (c : Checked) → answer_of c ≡ checked s 1 0 22 98372 → c ≡ C.Fine → Readable s
-unfolding answer_of
-fine_readable s c e f = readable s (accepted s 1 0 22 98372 (sym e ∙ ap answer_of f)).0
+pub fine_readable : (s : List ℕ) (c : Result (Unit {0}) Refusal) → answer_of c ≡ checked s 1 0 22 98372 → is_ok c ≡ true → Readable s
+fine_readable s (Ok u) e f = readable s (accepted s 1 0 22 98372 (sym e)).0
+fine_readable s (Err r) e f = absurd (true≢false (sym f))
 
 -- the front of an array of 1,024 words
 pub front : (w : ℕ) (l : List ℕ) → length l ≡ 1024 → w ≤ 1024 → length (take w l) ≡ w

@@ -1,6 +1,5 @@
 -- `compare_parts::run` meets its contract. Assumes nothing.
 use borrow.Author.Rules.{rules}
-use Prim.Native.Nat.{◌-◌}
 use Rattle.compare_parts.proofs.run.Goals as goal
 
 pub loop-at-preserved : goal.loop-at-preserved
