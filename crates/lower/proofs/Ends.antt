@@ -2,12 +2,8 @@
 use mathlib.Core.Path.{◌≡◌, refl, sym, ap, ◌∙◌}
 use mathlib.Core.Bool.{true, false, true≢false}
 use mathlib.Core.List.{List, [], ◌∷◌, ◌++◌}
-use mathlib.Core.Logic.{⊎_elim}
 use Prim.Native.Nat.{ℕ, ◌+◌, ◌*◌, ◌≤◌}
 use native.Mathlib.Omega.{arith}
-use borrow.Author.Tests.{eqb-false}
-use types.Run.{OneOf}
-use denote.Enum.Declared.{tag_of}
 use lib.ListN.{length, take, drop, replicate}
 use lib.Seq.{length-take-le}
 use Rattle.spec_tests.specs.Rules.{Answer, Fine, Refused, and_then as both}
@@ -22,17 +18,15 @@ use Rattle.spec_call.specs.Call as Call
 use Rattle.spec_call.specs.Call.{outcome, image_of}
 use Rattle.law_call.proofs.Calls.{promise}
 use Rattle.check_image.specs.Accepted.{Accepted, Room, accepted}
-use Rattle.check_image.specs.Checked as checks
-use Rattle.check_image.specs.contracts.Checked.{the_type}
-use Rattle.check_image.specs.declared.Checked.{Checked}
-use Rattle.check_image.specs.declared.Checked.TheVariants as C
+use Rattle.check_image.specs.Checked.{refusal_of}
+use Rattle.check_image.specs.declared.Refusal as Checks
+use Rattle.check_image.specs.declared.Refusal.TheVariants as C
 use Rattle.net_view.specs.View.{room, netlist_of}
 use Rattle.scratch_view.specs.View.{limit_of}
 use Rattle.std.specs.Prelude.{Ok, Err, is_err}
 use Rattle.walk_view.specs.Refusals.{Lowered}
 use Rattle.walk_view.specs.declared.Refusal.TheVariants as W
 use Rattle.walk_view.specs.View.{walk_state, out_of, Phase}
-use Rattle.walk_view.specs.Answers as answers
 use Rattle.lower_outcome.specs.Answer.{end_of}
 use Rattle.lower.specs.Lower.{kept_of, words_after, Lent, Prepared, Ended}
 use Rattle.lower.proofs.Stages.{limit_kept}
@@ -97,19 +91,13 @@ ended_way s n p net w net₁ w₁ net₂ w₂ r sized long q a e z =
 
 -- ---- the call ----
 
--- the `else` of `let Checked::Fine = c else` knows the tag
-pub not_fine : (c : Checked) → OneOf (1 ∷ 2 ∷ 3 ∷ 4 ∷ 5 ∷ []) (tag_of the_type c) → checks.answer_of c ≡ Fine → ⊥
-unfolding checks.answer_of
-not_fine C.Fine k e = ⊎_elim (eqb-false 0 1 refl) (⊎_elim (eqb-false 0 2 refl) (⊎_elim (eqb-false 0 3 refl) (⊎_elim (eqb-false 0 4 refl) (eqb-false 0 5 refl)))) k
-not_fine C.Limits k e = let z : ◌≡◌ {A = ℕ} 0 1 = cc in omega arith
-not_fine C.NetlistShort k e = let z : ◌≡◌ {A = ℕ} 0 1 = cc in omega arith
-not_fine (C.Field f) k e = let z : ◌≡◌ {A = ℕ} 0 1 = cc in omega arith
-not_fine (C.Record i r) k e = let z : ◌≡◌ {A = ℕ} 0 1 = cc in omega arith
-not_fine C.ScratchShort k e = let z : ◌≡◌ {A = ℕ} 0 1 = cc in omega arith
-
-pub passed : {c : Checked} {a : Answer} → checks.answer_of c ≡ a → c ≡ C.Fine → a ≡ Fine
-unfolding checks.answer_of
-passed {c} {a} e f = sym e ∙ rw f
+-- no refusal of the checks is an acceptance
+pub not_fine : (e : Checks.Refusal) → refusal_of e ≡ Fine → ⊥
+not_fine C.Limits q = let z : ◌≡◌ {A = ℕ} 0 1 = cc in omega arith
+not_fine C.NetlistShort q = let z : ◌≡◌ {A = ℕ} 0 1 = cc in omega arith
+not_fine (C.Field f) q = let z : ◌≡◌ {A = ℕ} 0 1 = cc in omega arith
+not_fine (C.Record i r) q = let z : ◌≡◌ {A = ℕ} 0 1 = cc in omega arith
+not_fine C.ScratchShort q = let z : ◌≡◌ {A = ℕ} 0 1 = cc in omega arith
 
 module _ (s : List ℕ) (N P : ℕ) (buffer scratch : List ℕ) where
   -- refused by the checks: no word is touched
