@@ -1,5 +1,4 @@
 -- `trace_walk::places` meets its contract. Assumes nothing.
-use Prim.Native.Nat.{◌-◌}
 use mathlib.Core.Path.{refl, sym, ◌∙◌}
 use native.Mathlib.Omega.{arith}
 use Rattle.trace_walk.specs.Walking.{start, met_inside, met_next, end as whole, near, places_few}
@@ -27,3 +26,9 @@ slice_bounds-result-end c =
     let n = places_few _ c.requires.0 c.loop-p.invariant.1 in
     sym (length-take-le _ _ (omega (arith, c.loop-p.invariant.0, c.requires.1, n)))
 
+pub returns : goal.returns
+returns c =
+    let w = c.loop-p.invariant.1 in
+    let n = places_few _ c.requires.0 w in
+    let m : c.loop-p.n ≤ length c.loop-p.out = omega (arith, c.loop-p.invariant.0, c.requires.1, n) in
+    record { places = places_cut m (whole _ c.requires.0 w (omega (arith, c.word_at-end.ensures))); few = omega (arith, length-take-le _ _ m, n) }
