@@ -123,9 +123,9 @@ unfolding node_at_of N.node_of
 node_arithmetic ws x cell i o = rw (o.kind, o.owner, o.bit)
 
 pub arithmetic_built : {ws t t' due due' : List ℕ} {n j p : ℕ} → accepts ws ≡ Fine → (a : ArithmeticAt ws j p) → Building ws t due n j → j < size ws
-    → {outs : List ℕ} → outs ≡ outs_of (drop p ws) → Marked outs due due' n (length outs) → {y z : ℕ} → Pushed t t' n j 256 p y z → Building ws t' due' (n + 1) (j + 1)
+    → {outs : List ℕ} → outs ≡ outs_of (drop p ws) → Marked outs due due' n (length outs) → {o y z : ℕ} → Pushed t t' n o 256 p y z → Building ws t' due' (n + 1) (j + 1)
 unfolding netlist
-arithmetic_built {ws} {t} {t'} {due} {due'} {n} {j} {p} ok a b h {outs} eo m {y} {z} u =
+arithmetic_built {ws} {t} {t'} {due} {due'} {n} {j} {p} ok a b h {outs} eo m {o} {y} {z} u =
     let s = a.spot in
     let q = s.narrow in
     let i = outs_length a in
