@@ -15,11 +15,5 @@ product h n a b =
 bucket-of : (n h : ℕ) → 0 < n → h < 4294967296 → h * n / 4294967296 < n
 bucket-of n h p l = subst (λ (k : ℕ). k < n) (sym (bucket_is n h l)) (bucket_less n h p)
 
-pub overflow_mul-result : goal.overflow_mul-result
-overflow_mul-result c = omega (arith, product c.args.h c.args.n (omega arith) (omega arith))
-
-pub overflow_cast-result-3 : goal.overflow_cast-result-3
-overflow_cast-result-3 c = omega (arith, bucket-of c.args.n c.args.h c.requires (omega arith))
-
 pub returns : goal.returns
 returns c = (bucket_is _ _ (omega arith), bucket-of _ _ c.requires (omega arith))
