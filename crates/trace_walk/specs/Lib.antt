@@ -1,4 +1,3 @@
 -- The places of a netlist's records, and the walk that finds them.
 pub mod Places
 pub mod Walking
-pub mod Chains

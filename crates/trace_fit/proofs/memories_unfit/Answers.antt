@@ -4,7 +4,7 @@ use Rattle.std.proofs.lemmas.Iterator.{YieldsList-from_slice}
 use Rattle.std.proofs.lemmas.Iterator.Search.{any_from_yields_List}
 use Rattle.spec_rules.specs.NetlistImage.{memory_of}
 use Rattle.spec_trace.specs.Opened.{memory_unfit}
-use Rattle.trace_walk.specs.Chains.{any_in_list}
+use Rattle.spec_chains.specs.Slices.{any_in_list}
 use Rattle.trace_fit.proofs.memories_unfit.Goals as goal
 
 pub returns : goal.returns

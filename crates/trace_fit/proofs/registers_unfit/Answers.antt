@@ -3,7 +3,7 @@ use Rattle.std.proofs.Common.{ℕ, rules, tests, ◌∙◌, drop}
 use Rattle.std.proofs.lemmas.Iterator.{YieldsList-from_slice}
 use Rattle.std.proofs.lemmas.Iterator.Search.{any_from_yields_List}
 use Rattle.spec_trace.specs.Opened.{register_unfit}
-use Rattle.trace_walk.specs.Chains.{any_in_list}
+use Rattle.spec_chains.specs.Slices.{any_in_list}
 use Rattle.trace_fit.proofs.registers_unfit.Goals as goal
 
 pub returns : goal.returns
