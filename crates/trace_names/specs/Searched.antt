@@ -1,13 +1,10 @@
 -- What the search for a name's place tells. Assumes nothing.
 use Rattle.std.specs.Prelude.{ℕ, zero, suc, ◌≤◌, ◌<◌, ◌≡◌, refl, Bool, true, false, ◌⊎◌, List, length, get_or}
-use Rattle.std.specs.Prelude as Prelude
-use Rattle.std.proofs.Common.{arith, sym, ap, ◌∙◌, inl, inr, ⊎_elim}
+use Rattle.std.proofs.Common.{arith, ap, ◌∙◌, inl, inr, ⊎_elim}
 use Rattle.std.proofs.Math.Decide.{dec_lt}
 use Rattle.spec_tests.specs.Rules.{◌≡?◌, ◌or◌, pick, up_to, first, any}
 use Rattle.spec_tests.specs.Laws.{or_no, or_yes, no_eq, yes_eq, lt_yes, first_most}
 use Rattle.spec_tests.specs.Any.{any_found}
-use Rattle.spec_tests.specs.Options.{first_of}
-use Rattle.spec_chains.specs.Search.{some_tells, none_tells}
 
 -- no place below r has number n or is free
 abbrev pub Others : List ℕ → ℕ → ℕ → Type 0
@@ -53,14 +50,3 @@ place_there {names} {n} {r} p ne = elim (dec_lt r (length names)) [
   | yes l ↦ l
   | no l ↦ absurd (ne (let u = p.up_to in omega arith))
 ]
-
--- a place that is found; none is left
-pub place_some : {names : List ℕ} {n : ℕ} {r : ℕ} → Prelude.Some r ≡ first_of (λ i. get_or names i 0 ≡? n or get_or names i 0 ≡? 0) (length names) → Place names n r × (r < length names)
-place_some {names} {n} {r} e =
-    let t = some_tells (λ i. get_or names i 0 ≡? n or get_or names i 0 ≡? 0) (length names) r (sym e) in
-    (place_told names n r (sym t.1), t.0)
-
-pub place_none : {names : List ℕ} {n : ℕ} → Prelude.None ≡ first_of (λ i. get_or names i 0 ≡? n or get_or names i 0 ≡? 0) (length names) → Place names n (length names)
-place_none {names} {n} e =
-    let t = none_tells (λ i. get_or names i 0 ≡? n or get_or names i 0 ≡? 0) (length names) (sym e) in
-    place_told names n (length names) (sym t)
