@@ -1,2 +1,3 @@
 -- Laws of chains of iterators in the words of the rules.
 pub mod Search
+pub mod Slices

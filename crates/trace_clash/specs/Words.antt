@@ -2,6 +2,8 @@
 use Prim.Native.Nat.{ℕ, zero, suc, min, ◌+◌, ◌≤◌, ◌<◌}
 use Rattle.std.proofs.Math.Numerals.{add-one}
 use Rattle.std.proofs.Common.{arith, sym, subst, ◌∙◌, eq-eqb, ne_eqb}
+use Rattle.std.specs.Prelude as Prelude
+use Rattle.std.specs.Option.{unwrap_or}
 use Rattle.std.specs.Prelude.{◌≡◌, Bool, true, not, ◌&&◌, List, map, eqb, ltb, drop, get_or}
 use Rattle.std.proofs.Math.Path.{refl, ap}
 use Rattle.std.proofs.Math.Bool.{false}
@@ -33,6 +35,15 @@ address_first a e = subst (λ (l : List ℕ). get_or l 2 0 ≤ 32) (sym e) a.fir
 
 pub address_second : {r q : List ℕ} {k : ℕ} → Addressed r → k ≡ get_or r 5 0 → k ≡ 2 → q ≡ second_words r → get_or q 2 0 ≤ 32
 address_second a ek two e = subst (λ (l : List ℕ). get_or l 2 0 ≤ 32) (sym e) (a.second (sym ek ∙ two))
+
+-- the number of a memory, 16 where there is none
+abbrev pub clash_of : Prelude.Option ℕ → ℕ
+clash_of Prelude.None = 16
+clash_of (Prelude.Some k) = k
+
+pub clash_or : (o : Prelude.Option ℕ) {k : ℕ} → k ≡ unwrap_or o 16 → k ≡ clash_of o
+clash_or Prelude.None e = e
+clash_or (Prelude.Some k) e = e
 
 -- record r's memory if its ports write one word, else 16
 unfoldable pub clash_number : List ℕ → List ℕ → List ℕ → ℕ

@@ -1,11 +1,14 @@
 // A write clash, both ports of a memory writing one word in a step, on tables of words: old has the values of all nets before it, new the new inputs.
 #![tactic(auto)]
 
-ghost use Rattle.std.specs.Prelude.{◌≡◌};
+ghost use Rattle.std.specs.Prelude.{◌≡◌, ◌<◌, length, IfSome};
 ghost use Rattle.spec_rules.specs.NetlistImage.{memory_of};
 ghost use Rattle.spec_rules.specs.Step.{clashes, net_accesses};
 ghost use Rattle.trace_step.specs.Words.{on};
-ghost use Rattle.trace_clash.specs.Words.{Addressed, AllAddressed, clash_number, lowest_clash};
+ghost use Rattle.trace_clash.specs.Words.{Addressed, AllAddressed, clash_of, clash_number, lowest_clash};
+
+// A netlist's memories have numbers below this.
+const MEMORIES: u32 = 16;
 
 // Both ports of the memory with this record write one word.
 fn is_clash(r: &[u32], old: &[u32], new: &[u32]) -> bool
@@ -31,26 +34,30 @@ fn is_clash(r: &[u32], old: &[u32], new: &[u32]) -> bool
     b < net_words::word_at(r, 2) as u64
 }
 
-// The number of the memory with this record if its ports clash, else 16.
-fn clash_number(r: &[u32], old: &[u32], new: &[u32]) -> u32
+// The number of the memory with this record, where its ports clash.
+fn clash_number(r: &[u32], old: &[u32], new: &[u32]) -> Option<u32>
     requires { Addressed r.now }
-    ensures { result ≡ clash_number old.now new.now r.now }
+    ensures { clash_of result ≡ clash_number old.now new.now r.now }
 {
     if is_clash(r, old, new) {
-        return net_words::word_at(r, 1);
+        return Some(net_words::word_at(r, 1));
     }
-    16
+    None
 }
 
-// The lowest memory whose ports clash, of those with records at these places; 16 where there is none.
-pub fn lowest_clash(net: &[u32], places: &[u32], count: usize, old: &[u32], new: &[u32]) -> u32
-    requires { AllAddressed net.now places.now count }
-    ensures { result ≡ lowest_clash net.now old.now new.now places.now count }
+// The lowest memory whose ports clash, of those with records at these places.
+pub fn lowest_clash(net: &[u32], places: &[u32], old: &[u32], new: &[u32]) -> Option<u32>
+    requires { AllAddressed net.now places.now (length places.now) }
+    ensures lowest { clash_of result ≡ lowest_clash net.now old.now new.now places.now (length places.now) }
+    ensures memory { IfSome result (λ k. k < 16) }
 {
-    let mut k: u32 = 16;
-    for i in 0..count {
-        let r = net_words::part(net, net_words::word_at(places, i) as usize);
-        k = word_order::smaller(k, clash_number(r, old, new));
+    let mut lowest = MEMORIES;
+    for place in places {
+        let r = net_words::part(net, *place as usize);
+        lowest = lowest.min(clash_number(r, old, new).unwrap_or(MEMORIES));
     }
-    k
+    if lowest < MEMORIES {
+        return Some(lowest);
+    }
+    None
 }

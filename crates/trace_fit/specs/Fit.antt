@@ -7,7 +7,7 @@ use mathlib.Core.List.{List, [], ◌∷◌, ◌++◌, map}
 use Rattle.std.proofs.Math.Option.{none}
 use Rattle.std.proofs.Math.ListN.{drop, get_or, length-take, length-drop, get_or-append}
 use Rattle.std.proofs.Math.Seq.{get_or-drop}
-use Rattle.spec_tests.specs.Rules.{◌<?◌, ◌≡?◌, ◌≢?◌, ◌or◌, ◌and◌, pick, first, any, sum_to, only, Fine}
+use Rattle.spec_tests.specs.Rules.{◌<?◌, ◌≡?◌, ◌≢?◌, ◌and◌, pick, first, any, sum_to, only, Fine}
 use Rattle.spec_tests.specs.Laws.{not_any, or_hit, or_skip, and_miss, and_skip, pick_hit, pick_skip, lt_yes, eq_yes, eq_no, ne_yes, ne_no, ne_same, lt_same, yes_lt}
 use Rattle.spec_tests.specs.Any.{same_bool, any_found}
 use Rattle.spec_rules.specs.Image.{absent}

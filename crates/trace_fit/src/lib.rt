@@ -1,7 +1,7 @@
 // Refusal 12 after 11: a clock or asynchronous reset that is no input net, or too many memory bits.
 #![tactic(auto)]
 
-ghost use Rattle.std.specs.Prelude.{◌≡◌, ◌*◌, ◌<◌, drop, get_or};
+ghost use Rattle.std.specs.Prelude.{◌≡◌, ◌*◌, ◌<◌, length, drop, get_or};
 ghost use Rattle.spec_tests.specs.Rules.{any, sum_to, Fine};
 ghost use Rattle.spec_rules.specs.NetlistImage.{memory_port_of, memory_of};
 ghost use Rattle.spec_netlist.specs.Accept.{accepts};
@@ -36,16 +36,10 @@ fn register_unfit(net: &[u32], r: &[u32]) -> bool
 }
 
 // One of the registers' records, at these places.
-fn registers_unfit(net: &[u32], places: &[u32], count: usize) -> bool
-    ensures { result ≡ any (λ i. register_unfit net.now (drop (get_or places.now i 0) net.now)) count }
+fn registers_unfit(net: &[u32], places: &[u32]) -> bool
+    ensures { result ≡ any (λ i. register_unfit net.now (drop (get_or places.now i 0) net.now)) (length places.now) }
 {
-    for i in 0..count {
-        let r = net_words::part(net, net_words::word_at(places, i) as usize);
-        if register_unfit(net, r) {
-            return true;
-        }
-    }
-    false
+    places.iter().any(|place| register_unfit(net, net_words::part(net, *place as usize)))
 }
 
 // The clock of a memory's port is no input.
@@ -70,41 +64,35 @@ fn memory_unfit(net: &[u32], r: &[u32]) -> bool
 }
 
 // One of the memories' records, at these places.
-fn memories_unfit(net: &[u32], places: &[u32], count: usize) -> bool
-    ensures { result ≡ any (λ i. memory_unfit net.now (memory_of (drop (get_or places.now i 0) net.now))) count }
+fn memories_unfit(net: &[u32], places: &[u32]) -> bool
+    ensures { result ≡ any (λ i. memory_unfit net.now (memory_of (drop (get_or places.now i 0) net.now))) (length places.now) }
 {
-    for i in 0..count {
-        let r = net_words::part(net, net_words::word_at(places, i) as usize);
-        if memory_unfit(net, r) {
-            return true;
-        }
-    }
-    false
+    places.iter().any(|place| memory_unfit(net, net_words::part(net, *place as usize)))
 }
 
 // The bits of the memories at these places.
-pub fn memory_bits(net: &[u32], places: &[u32], count: usize) -> u64
-    requires { Small net.now places.now count }
-    ensures { result ≡ sum_to (bits_at net.now places.now) count }
+pub fn memory_bits(net: &[u32], places: &[u32]) -> u64
+    requires { Small net.now places.now (length places.now) }
+    ensures { result ≡ sum_to (bits_at net.now places.now) (length places.now) }
 {
     let mut sum: u64 = 0;
-    for i in 0..count {
-        let r = net_words::part(net, net_words::word_at(places, i) as usize);
+    for place in places {
+        let r = net_words::part(net, *place as usize);
         sum += net_words::word_at(r, 2) as u64 * net_words::word_at(r, 7) as u64;
     }
     sum
 }
 
 // The netlist is not one for the trace program. registers, memories: the places of those records.
-pub fn is_unfit(net: &[u32], registers: &[u32], n: usize, memories: &[u32], m: usize) -> bool
-    requires { (accepts net.now ≡ Fine) × (Places net.now 1 registers.now n) × (Places net.now 2 memories.now m) }
+pub fn is_unfit(net: &[u32], registers: &[u32], memories: &[u32]) -> bool
+    requires { (accepts net.now ≡ Fine) × (Places net.now 1 registers.now (length registers.now)) × (Places net.now 2 memories.now (length memories.now)) }
     ensures { result ≡ unfit 65536 net.now }
 {
-    if registers_unfit(net, registers, n) {
+    if registers_unfit(net, registers) {
         return true;
     }
-    if memories_unfit(net, memories, m) {
+    if memories_unfit(net, memories) {
         return true;
     }
-    65536 < memory_bits(net, memories, m)
+    65536 < memory_bits(net, memories)
 }

@@ -3,7 +3,7 @@ use Rattle.std.specs.Prelude.{ℕ, ◌+◌, ◌*◌, ◌≤◌, ◌<◌, ◌≡�
 use Rattle.std.proofs.Common.{arith, sym, ap, subst, ◌∙◌, inl, inr, ⊎_elim, get_or-drop, get_or-set_same, get_or-set_other}
 use Rattle.std.proofs.Math.Decide.{dec_lt}
 use Rattle.std.proofs.Math.Option.{none, some}
-use Rattle.spec_tests.specs.Rules.{◌or◌, Fine, Refused}
+use Rattle.spec_tests.specs.Rules.{Fine, Refused}
 use Rattle.spec_tests.specs.Laws.{or_left, or_right, eq_yes, lt_yes}
 use Rattle.spec_rules.specs.Step.{Setting}
 use Rattle.spec_netlist.specs.Accept.{accepts}

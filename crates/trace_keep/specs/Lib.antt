@@ -3,3 +3,4 @@ pub mod Copies
 pub mod Slots
 pub mod Places
 pub mod Kept
+pub mod Bundles

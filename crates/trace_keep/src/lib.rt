@@ -4,111 +4,100 @@
 ghost use Rattle.std.specs.Prelude.{◌≡◌, ◌+◌, ◌≤◌, ◌<◌, length};
 ghost use Rattle.trace_names.specs.Numbers.{Name};
 ghost use Rattle.trace_keep.specs.Copies.{Copied};
-ghost use Rattle.trace_keep.specs.Slots.{Roomy, Used};
-ghost use Rattle.trace_keep.specs.Kept.{Stores, Loads, Keeps, Backs};
+ghost use Rattle.trace_keep.specs.Kept.{Stores, Loads};
+ghost use Rattle.trace_keep.specs.Bundles.{UsedBy, RoomyIn, SameKept, KeepsBy, BacksBy, done_of};
+ghost use Rattle.trace_line.specs.Bundles.{SameTables};
+
+use trace_line::{State, Tables};
 
 // Words of a slot: 1,024 for the nets' values, and 65,536 for the memories' bits.
 const SLOT: usize = 66560;
+
+// A keep or a back that is refused: before the first settings line, with a fifth name, or to a name that is not kept.
+#[derive(Clone, Copy)]
+pub struct NameRefused;
+
+// The names held, by their numbers, 0 where a place is free; and the moment of each in its slot.
+#[derive(Drop)]
+pub struct Moments<'a> {
+    pub names: &'a mut [u64],
+    pub slots: &'a mut [u32],
+}
 
 // n words, from word a of one table to word b of another.
 fn copy_words(from: &[u32], a: usize, to: &mut [u32], b: usize, n: usize)
     requires { (a + n ≤ length from.now) × (b + n ≤ length to.old) }
     ensures { Copied from.now a to.old b n to.new }
 {
-    for i in 0..n {
-        to[b + i] = from[a + i];
-    }
+    to[b..b + n].copy_from_slice(&from[a..a + n]);
 }
 
 // The moment that the tables hold into a slot.
-fn store(
-    net: &[u32],
-    memories: &[u32],
-    nm: usize,
-    values: &[u32],
-    memory: &[u32],
-    kept: &mut [u32],
-    slot: usize,
-)
-    requires { Used net.now memories.now nm × (1024 ≤ length values.now) × (65536 ≤ length memory.now) × (266240 ≤ length kept.old) × (slot < 4) }
-    ensures { Stores net.now memories.now nm values.now memory.now kept.old slot kept.new }
+fn store(tables: &Tables, values: &[u32], memory: &[u32], kept: &mut [u32], slot: usize)
+    requires { UsedBy tables.now × (1024 ≤ length values.now) × (65536 ≤ length memory.now) × (266240 ≤ length kept.old) × (slot < 4) }
+    ensures { Stores tables.now.net.now tables.now.memories.now (length tables.now.memories.now) values.now memory.now kept.old slot kept.new }
 {
-    let nets = net_words::word_at(net, 1) as usize;
+    let nets = net_words::word_at(tables.net, 1) as usize;
     copy_words(values, 0, kept, SLOT * slot, nets);
-    let bits = trace_fit::memory_bits(net, memories, nm) as usize;
+    let bits = trace_fit::memory_bits(tables.net, tables.memories) as usize;
     copy_words(memory, 0, kept, SLOT * slot + 1024, bits);
 }
 
 // The moment in a slot into the tables.
-fn load(
-    net: &[u32],
-    memories: &[u32],
-    nm: usize,
-    kept: &[u32],
-    slot: usize,
-    values: &mut [u32],
-    memory: &mut [u32],
-)
-    requires { Used net.now memories.now nm × (1024 ≤ length values.old) × (65536 ≤ length memory.old) × (266240 ≤ length kept.now) × (slot < 4) }
-    ensures { Loads net.now memories.now nm kept.now slot values.old values.new memory.new }
+fn load(tables: &Tables, kept: &[u32], slot: usize, values: &mut [u32], memory: &mut [u32])
+    requires { UsedBy tables.now × (1024 ≤ length values.old) × (65536 ≤ length memory.old) × (266240 ≤ length kept.now) × (slot < 4) }
+    ensures { Loads tables.now.net.now tables.now.memories.now (length tables.now.memories.now) kept.now slot values.old values.new memory.new }
 {
-    let nets = net_words::word_at(net, 1) as usize;
+    let nets = net_words::word_at(tables.net, 1) as usize;
     copy_words(kept, SLOT * slot, values, 0, nets);
-    let bits = trace_fit::memory_bits(net, memories, nm) as usize;
+    let bits = trace_fit::memory_bits(tables.net, tables.memories) as usize;
     copy_words(kept, SLOT * slot + 1024, memory, 0, bits);
 }
 
-// Line k keeps the moment under a name; false where it is refused: before the first settings line, or with a fifth name.
+// Line k keeps the moment under a name.
 pub fn keep(
-    net: &[u32],
-    memories: &[u32],
-    nm: usize,
+    tables: &Tables,
+    state: &State,
+    kept: &mut Moments,
     k: u32,
     name: &[u8],
-    values: &[u32],
-    memory: &[u32],
-    names: &mut [u64],
-    kept: &mut [u32],
-) -> bool
-    requires { Used net.now memories.now nm × Roomy values.now memory.now names.old kept.old × Name name.now }
-    ensures { Keeps net.now memories.now k name.now values.now memory.now names.old kept.old result names.new kept.new }
+) -> Result<(), NameRefused>
+    requires { UsedBy tables.now × RoomyIn state.now kept.old × Name name.now }
+    ensures same { SameKept kept.old kept.new }
+    ensures keeps { KeepsBy tables.now k name.now state.now kept.old (done_of result) kept.new }
 {
     if k == 0 {
-        return false;
+        return Err(NameRefused);
     }
+    let names = &mut *kept.names;
     let n = trace_names::number_of(name);
-    let slot = trace_names::place_of(names, n);
-    if slot == names.len() {
-        return false;
-    }
+    let Some(slot) = trace_names::place_of(names, n) else {
+        return Err(NameRefused);
+    };
     names[slot] = n;
-    store(net, memories, nm, values, memory, kept, slot);
-    true
+    store(tables, state.values, state.memory, kept.slots, slot);
+    Ok(())
 }
 
-// Back to the moment under a name; false where it is not kept.
+// Back to the moment under a name.
 pub fn back(
-    net: &[u32],
-    memories: &[u32],
-    nm: usize,
+    tables: &Tables,
+    state: &mut State,
+    kept: &Moments,
     k: u32,
     name: &[u8],
-    values: &mut [u32],
-    memory: &mut [u32],
-    names: &[u64],
-    kept: &[u32],
-) -> bool
-    requires { Used net.now memories.now nm × Roomy values.old memory.old names.now kept.now × Name name.now }
-    ensures { Backs net.now memories.now k name.now values.old memory.old names.now kept.now result values.new memory.new }
+) -> Result<(), NameRefused>
+    requires { UsedBy tables.now × RoomyIn state.old kept.now × Name name.now }
+    ensures same { SameTables state.old state.new }
+    ensures backs { BacksBy tables.now k name.now state.old kept.now (done_of result) state.new }
 {
     let n = trace_names::number_of(name);
-    let held = trace_names::place_of(names, n);
-    if held == names.len() {
-        return false;
+    let Some(held) = trace_names::place_of(kept.names, n) else {
+        return Err(NameRefused);
+    };
+    if kept.names[held] != n {
+        return Err(NameRefused);
     }
-    if names[held] != n {
-        return false;
-    }
-    load(net, memories, nm, kept, held, values, memory);
-    true
+    load(tables, kept.slots, held, state.values, state.memory);
+    Ok(())
 }

@@ -3,3 +3,4 @@ pub mod State
 pub mod Step
 pub mod Standing
 pub mod Text
+pub mod Bundles

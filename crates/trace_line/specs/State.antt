@@ -1,8 +1,8 @@
 -- What the tables of the trace program hold: the plan and lists of an accepted netlist, and where the run stands. Assumes nothing.
-use Rattle.std.specs.Prelude.{ℕ, zero, suc, ◌+◌, ◌*◌, ◌-◌, ◌≤◌, ◌<◌, ◌≡◌, refl, Bool, true, false, List, [], ◌∷◌, ◌++◌, map, length, drop, get_or}
+use Rattle.std.specs.Prelude.{ℕ, zero, suc, ◌+◌, ◌*◌, ◌≤◌, ◌<◌, ◌≡◌, refl, Bool, true, false, List, [], ◌∷◌, ◌++◌, map, length, drop, get_or}
 use Rattle.std.proofs.Common.{not-suc-le-zero, arith, sym, ap, subst, ◌∙◌, length-drop}
 use Rattle.std.proofs.Math.ListN.{get_or-append}
-use Rattle.spec_tests.specs.Rules.{◌<?◌, ◌or◌, pick, only, Fine}
+use Rattle.spec_tests.specs.Rules.{◌<?◌, pick, only, Fine}
 use Rattle.spec_tests.specs.Laws.{or_no, no_lt, sum_more}
 use Rattle.spec_rules.specs.NetlistImage as N
 use Rattle.spec_rules.specs.NetlistImage.{records_with, memory_of}

@@ -9,15 +9,13 @@ ghost use Rattle.spec_rules.specs.Step.{net_access, writing};
 ghost use Rattle.trace_step.specs.Words.{on, spread, identity, laid, port_read, port_written, memory_read, memory_written, memories_read, memories_written};
 ghost use Rattle.trace_memory.specs.Ports.{PortFits, MemoryFits, MemoriesFit};
 
-// The number that at most 32 nets hold, bit 0 first.
+// The number that at most 32 nets hold, bit 0 first. Unlike trace_cells::gather it asks nothing of the values, nor do the calls here.
 fn number(list: &[u32], values: &[u32]) -> u64
     requires { length list.now ≤ 32 }
     ensures { (result ≡ value (map (on values.now) list.now)) × (result < 4294967296) }
 {
     let mut r: u64 = 0;
-    let mut i = list.len();
-    while 0 < i {
-        i -= 1;
+    for i in (0..list.len()).rev() {
         r = 2 * r + trace_step::bit_of(trace_step::is_on(values, list[i])) as u64;
     }
     r
@@ -27,8 +25,8 @@ fn number(list: &[u32], values: &[u32]) -> u64
 fn spread_words(nets: &[u32], words: &[u32], values: &mut [u32])
     ensures { values.new ≡ spread identity values.old nets.now words.now }
 {
-    for i in 0..nets.len() {
-        trace_step::put(values, nets[i], net_words::word_at(words, i));
+    for (i, net) in nets.iter().enumerate() {
+        trace_step::put(values, *net, net_words::word_at(words, i));
     }
 }
 
@@ -37,8 +35,8 @@ fn lay_bits(nets: &[u32], values: &[u32], memory: &mut [u32], at: usize)
     requires { at + length nets.now ≤ length memory.old }
     ensures { memory.new ≡ laid memory.old at (map (λ n. bit (on values.now n)) nets.now) }
 {
-    for i in 0..nets.len() {
-        memory[at + i] = trace_step::bit_of(trace_step::is_on(values, nets[i]));
+    for (i, net) in nets.iter().enumerate() {
+        memory[at + i] = trace_step::bit_of(trace_step::is_on(values, *net));
     }
 }
 
@@ -172,40 +170,26 @@ fn write_memory(r: &[u32], memory: &mut [u32], base: usize, old: &[u32], new: &[
 }
 
 // All memories read, at the places of their records.
-pub fn read_memories(
-    net: &[u32],
-    places: &[u32],
-    count: usize,
-    memory: &[u32],
-    old: &[u32],
-    new: &mut [u32],
-)
-    requires { MemoriesFit net.now places.now count }
-    ensures { new.new ≡ memories_read net.now memory.now old.now places.now count new.old }
+pub fn read_memories(net: &[u32], places: &[u32], memory: &[u32], old: &[u32], new: &mut [u32])
+    requires { MemoriesFit net.now places.now (length places.now) }
+    ensures { new.new ≡ memories_read net.now memory.now old.now places.now (length places.now) new.old }
 {
     let mut base: usize = 0;
-    for i in 0..count {
-        let r = net_words::part(net, net_words::word_at(places, i) as usize);
+    for place in places {
+        let r = net_words::part(net, *place as usize);
         read_memory(r, memory, base, old, new);
         base += net_words::word_at(r, 2) as usize * net_words::word_at(r, 7) as usize;
     }
 }
 
 // All memories write.
-pub fn write_memories(
-    net: &[u32],
-    places: &[u32],
-    count: usize,
-    memory: &mut [u32],
-    old: &[u32],
-    new: &[u32],
-)
-    requires { (MemoriesFit net.now places.now count) × (65536 ≤ length memory.old) }
-    ensures { memory.new ≡ memories_written net.now old.now new.now places.now count memory.old }
+pub fn write_memories(net: &[u32], places: &[u32], memory: &mut [u32], old: &[u32], new: &[u32])
+    requires { (MemoriesFit net.now places.now (length places.now)) × (65536 ≤ length memory.old) }
+    ensures { memory.new ≡ memories_written net.now old.now new.now places.now (length places.now) memory.old }
 {
     let mut base: usize = 0;
-    for i in 0..count {
-        let r = net_words::part(net, net_words::word_at(places, i) as usize);
+    for place in places {
+        let r = net_words::part(net, *place as usize);
         write_memory(r, memory, base, old, new);
         base += net_words::word_at(r, 2) as usize * net_words::word_at(r, 7) as usize;
     }

@@ -1,5 +1,6 @@
 -- Whether a text has a byte with a property, byte by byte. Assumes nothing.
-use Rattle.std.specs.Prelude.{ℕ, zero, suc, ◌+◌, ◌≤◌, ◌<◌, ◌≡◌, refl, Bool, true, false, List, [], ◌∷◌, ◌++◌, length, take, get_or}
+use Rattle.std.specs.Prelude.{ℕ, zero, suc, ◌+◌, ◌≤◌, ◌<◌, ◌≡◌, refl, Bool, true, false, ◌||◌, List, [], ◌∷◌, ◌++◌, length, take, get_or}
+use Rattle.std.specs.List.{list_any}
 use Rattle.std.proofs.Common.{not-suc-le-zero, add-one, arith, sym, ap, ◌∙◌, take-suc, take_all}
 use Rattle.spec_tests.specs.Rules.{◌<?◌, pick, only}
 use Rattle.spec_tests.specs.Laws.{no_lt, lt_yes, lt_no}
@@ -48,3 +49,13 @@ none_there f l e i h = go (f (get_or l i 0)) refl
     go : (b : Bool) → f (get_or l i 0) ≡ b → b ≡ false
     go true q = untrue (sym e ∙ sym (letters_found l i h f q))
     go false q = refl
+
+-- what `any` answers over a text
+pub list_having : (f : ℕ → Bool) (xs : List ℕ) → list_any f xs ≡ having f xs
+unfolding having only pick
+list_having f [] = sym (lt_no 0 0 (omega arith))
+list_having f (x ∷ xs) = go (f x) (list_having f xs)
+  where
+    go : (b : Bool) → list_any f xs ≡ having f xs → (b || list_any f xs) ≡ (0 <? length (pick b (x ∷ only f xs) (only f xs)))
+    go true e = sym (lt_yes 0 (length (x ∷ only f xs)) (omega arith))
+    go false e = e

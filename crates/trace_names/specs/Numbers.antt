@@ -3,7 +3,7 @@ use Rattle.std.specs.Prelude.{ℕ, zero, suc, ◌+◌, ◌*◌, ◌-◌, ◌≤�
 use Rattle.std.proofs.Common.{arith, sym, ◌∙◌, length-drop, get_or-drop}
 use Rattle.std.proofs.Math.Path.{ap}
 use mathlib.Core.List.{List, [], ◌∷◌}
-use Rattle.spec_tests.specs.Rules.{◌<?◌, ◌or◌, ◌and◌, outside, same_text}
+use Rattle.spec_tests.specs.Rules.{◌<?◌, ◌or◌, outside, same_text}
 use Rattle.spec_tests.specs.Laws.{or_left, or_right, or_skip, and_miss, and_skip, and_yes, lt_yes, lt_no, eq_yes, yes_eq, inside}
 use Rattle.spec_trace.specs.Opened.{having}
 use Rattle.spec_trace.specs.Named.{good_name, is_named}

@@ -2,7 +2,8 @@
 #![tactic(auto)]
 
 ghost use Rattle.std.specs.Prelude.{◌≡◌, ◌≤◌, length, get_or};
-ghost use Rattle.spec_tests.specs.Rules.{◌≡?◌, ◌or◌, outside, first};
+ghost use Rattle.spec_tests.specs.Rules.{◌≡?◌, ◌or◌, outside};
+ghost use Rattle.spec_tests.specs.Options.{first_of};
 ghost use Rattle.spec_trace.specs.Opened.{having};
 ghost use Rattle.spec_trace.specs.Named.{good_name, is_named};
 ghost use Rattle.trace_names.specs.Numbers.{number};
@@ -11,12 +12,8 @@ ghost use Rattle.trace_names.specs.Numbers.{number};
 fn has_other_letter(name: &[u8]) -> bool
     ensures { result ≡ having (λ b. outside b 97 122) name.now }
 {
-    for i in 0..name.len() {
-        if image_fields::is_outside(image_fields::byte(name, i), 97, 122) {
-            return true;
-        }
-    }
-    false
+    name.iter()
+        .any(|b| image_fields::is_outside(*b as u32, 97, 122))
 }
 
 // One to eight such letters.
@@ -48,25 +45,15 @@ pub fn number_of(name: &[u8]) -> u64
     ensures { result ≡ number name.now }
 {
     let mut n: u64 = 0;
-    let mut i = name.len();
-    while 0 < i {
-        i -= 1;
+    for i in (0..name.len()).rev() {
         n = n * 256 + image_fields::byte(name, i) as u64;
     }
     n
 }
 
-// The first place among the names held that has this number or is free; how many there are where none is.
-pub fn place_of(held: &[u64], n: u64) -> usize
-    ensures { result ≡ first (λ i. get_or held.now i 0 ≡? n or get_or held.now i 0 ≡? 0) (length held.now) }
+// The first place among the names held that has this number or is free.
+pub fn place_of(held: &[u64], n: u64) -> Option<usize>
+    ensures { result ≡ first_of (λ i. get_or held.now i 0 ≡? n or get_or held.now i 0 ≡? 0) (length held.now) }
 {
-    for i in 0..held.len() {
-        if held[i] == n {
-            return i;
-        }
-        if held[i] == 0 {
-            return i;
-        }
-    }
-    i
+    held.iter().position(|x| *x == n || *x == 0)
 }

@@ -14,7 +14,7 @@ use Rattle.law_told.specs.Ordered.{Ordered, read_by, length_each, get_or_each}
 use Rattle.law_reads.specs.Reads.{net_is, member_there}
 use Rattle.spec_netlist.specs.Accept.{input_count, member}
 use Rattle.trace_cells.specs.Digits.{Bits}
-use Rattle.trace_cells.specs.Cells.{left_of, right_of_of, outs_of, total_of, lesser_of, greater_of, answer_of}
+use Rattle.trace_cells.specs.Cells.{left_of, right_of, outs_of, total_of, lesser_of, greater_of, answer_of}
 use Rattle.trace_pass.specs.Plan.{size, word, place, Settled, ArithmeticStep, ComparisonStep}
 use Rattle.trace_pass.specs.Gates.{Computed, constant, and_gate, or_gate, xor_gate, not_gate, mux, output}
 use Rattle.trace_pass.specs.Sums.{Agree, arithmetic_bit, comparison_bit}
@@ -39,9 +39,9 @@ agree {xs = xs} h d = record { at = λ m l. h.holds (get_or xs m 0) (d.at m l).0
 pub record ArithmeticWords (ws t : List ℕ) (due : ℕ → ℕ) (i cell : ℕ) : Type 0 where
   pub number : get_or (netlist ws).arithmetic cell (record { operation = N.Add; carry = none; lhs = []; rhs = [] }) ≡ arithmetic_of (place ws t i)
   pub operation : get_or (place ws t i) 1 0 < 3
-  pub same : length (right_of_of (place ws t i)) ≡ length (left_of (place ws t i))
+  pub same : length (right_of (place ws t i)) ≡ length (left_of (place ws t i))
   pub left : Due ws due i (left_of (place ws t i))
-  pub right : Due ws due i (right_of_of (place ws t i))
+  pub right : Due ws due i (right_of (place ws t i))
   pub carry : (get_or (place ws t i) 3 0 ≡ absent → ⊥) → (get_or (place ws t i) 3 0 < size ws) × (due (get_or (place ws t i) 3 0) ≤ i)
   pub outs : (m : ℕ) → m < length (left_of (place ws t i)) → (get_or (outs_of (place ws t i)) m 0 < size ws) × (node_at_of ws (get_or (outs_of (place ws t i)) m 0) ≡ N.ArithmeticOutput cell m)
 
@@ -83,7 +83,7 @@ pub record ArithmeticLists (r : List ℕ) : Type 0 where
   pub narrow : length (left_of r) ≤ 1024
   pub wide : length (outs_of r) ≡ length (left_of r)
   pub left_below : (a b : ℕ) → a < length (left_of r) → b < length (left_of r) → get_or (left_of r) a 0 < get_or (outs_of r) b 0
-  pub right_below : (a b : ℕ) → a < length (left_of r) → b < length (left_of r) → get_or (right_of_of r) a 0 < get_or (outs_of r) b 0
+  pub right_below : (a b : ℕ) → a < length (left_of r) → b < length (left_of r) → get_or (right_of r) a 0 < get_or (outs_of r) b 0
 
 bits_differ : (cell a b : ℕ) → N.ArithmeticOutput cell a ≡ N.ArithmeticOutput cell b → a ≡ b
 bits_differ cell a b e = cc

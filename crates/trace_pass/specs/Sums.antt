@@ -21,7 +21,7 @@ use Rattle.spec_rules.specs.Step.{perhaps, result, arithmetic, compare, comparis
 use Rattle.word_laws.specs.Ripple.{value_not}
 use Rattle.word_laws.specs.Signed.{lt_s_signs, le_s_not}
 use Rattle.trace_cells.specs.Digits.{digits, held, side, turned}
-use Rattle.trace_cells.specs.Cells.{carry_of, total, total_of, left_of, right_of_of, below, answer, answer_of, top_of, lesser_of, greater_of}
+use Rattle.trace_cells.specs.Cells.{carry_of, total, total_of, left_of, right_of, below, answer, answer_of, top_of, lesser_of, greater_of}
 
 -- ---- a list's number ----
 
@@ -79,13 +79,13 @@ module _ (v : List ℕ) (g : ℕ → Bool) (lhs rhs : List ℕ) (a : Agree v g l
   total_is (suc (suc (suc n))) h = absurd (omega arith)
 
 -- the outputs of an arithmetic cell's record are the bits of document 01's number
-pub arithmetic_bit : (r v : List ℕ) (g : ℕ → Bool) → Agree v g (left_of r) → Agree v g (right_of_of r) → length (right_of_of r) ≡ length (left_of r) → get_or r 1 0 < 3
+pub arithmetic_bit : (r v : List ℕ) (g : ℕ → Bool) → Agree v g (left_of r) → Agree v g (right_of r) → length (right_of r) ≡ length (left_of r) → get_or r 1 0 < 3
     → ((get_or r 3 0 ≡ absent → ⊥) → get_or v (get_or r 3 0) 0 ≡ bit (g (get_or r 3 0))) → (m : ℕ) → m < length (left_of r)
     → total_of r v / 2 ^ m % 2 ≡ bit (get_or (arithmetic g (arithmetic_of r)) m false)
 unfolding arithmetic_of
 arithmetic_bit r v g a b same h k m l =
-    ap (λ (t : ℕ). t / 2 ^ m % 2) (total_is v g (left_of r) (right_of_of r) a b same (carry_of (get_or r 3 0) v) (get_or r 1 0) h
-    ∙ ap (λ (c : ℕ). result (get_or (N.Add ∷ N.Subtract ∷ N.Multiply ∷ []) (get_or r 1 0) N.Add) (map g (left_of r)) (map g (right_of_of r)) + c) (carry_agrees (get_or r 3 0) v g k))
+    ap (λ (t : ℕ). t / 2 ^ m % 2) (total_is v g (left_of r) (right_of r) a b same (carry_of (get_or r 3 0) v) (get_or r 1 0) h
+    ∙ ap (λ (c : ℕ). result (get_or (N.Add ∷ N.Subtract ∷ N.Multiply ∷ []) (get_or r 1 0) N.Add) (map g (left_of r)) (map g (right_of r)) + c) (carry_agrees (get_or r 3 0) v g k))
     ∙ bit_of_law (length (left_of r)) _ m l
 
 -- ---- comparisons ----

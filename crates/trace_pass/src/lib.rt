@@ -1,11 +1,32 @@
 // The values of a netlist's nets, one word a net, by a plan of steps made once for the netlist.
 #![tactic(auto)]
 
-ghost use Rattle.std.specs.Prelude.{◌≡◌, ◌+◌, ◌*◌, ◌≤◌, ◌<◌, length, get_or, set, drop};
+ghost use Rattle.std.specs.Prelude.{◌≡◌, ◌≤◌, ◌<◌, [], ◌∷◌, length, get_or, set, drop};
 ghost use Rattle.spec_rules.specs.Step.{Setting, Contents};
 ghost use Rattle.trace_cells.specs.Digits.{Bits};
 ghost use Rattle.trace_cells.specs.Cells.{Compares, lesser_of, greater_of, answer_of};
-ghost use Rattle.trace_pass.specs.Plan.{chosen, word, Ready, Done, Plan, size, Loaded, Valued};
+ghost use Rattle.trace_pass.specs.Coded.{words_of};
+ghost use Rattle.trace_pass.specs.Plan.{chosen, Ready, Done, Plan, size, Loaded, Valued};
+
+// A step of a plan: a gate gives a net the bit of a table that three nets choose; an arithmetic cell and a comparison are told by the
+// place of the record in the image, and a comparison by its net.
+#[derive(Clone, Copy)]
+pub enum Step {
+    Gate {
+        target: u32,
+        table: u8,
+        x: u32,
+        y: u32,
+        z: u32,
+    },
+    Arithmetic {
+        place: u32,
+    },
+    Comparison {
+        target: u32,
+        place: u32,
+    },
+}
 
 // The bit of a table that three bits choose.
 pub fn choose(table: u32, a: u32, b: u32, c: u32) -> u32
@@ -38,14 +59,6 @@ fn compared(k: u32, r: &[u32], values: &mut [u32])
     values[k as usize] = b;
 }
 
-// Word f of step i.
-fn step_word(steps: &[u32], i: usize, f: usize) -> u32
-    requires { 5 * i + f < length steps.now }
-    ensures { result ≡ word steps.now i f }
-{
-    steps[5 * i + f]
-}
-
 // The words of a record, from its place on.
 fn record_at(net: &[u32], at: u32) -> &[u32]
     ensures { result.now ≡ drop at net.now }
@@ -53,34 +66,32 @@ fn record_at(net: &[u32], at: u32) -> &[u32]
     net_words::part(net, at as usize)
 }
 
-// Step i of a plan.
-fn step(net: &[u32], steps: &[u32], i: usize, values: &mut [u32])
-    requires { Ready net.now steps.now i values.old }
-    ensures { Done net.now steps.now i values.old values.new × Bits values.new }
+// Takes a step.
+fn take(net: &[u32], step: Step, values: &mut [u32])
+    requires { Ready net.now (words_of (step ∷ [])) 0 values.old }
+    ensures { Done net.now (words_of (step ∷ [])) 0 values.old values.new × Bits values.new }
 {
-    let q = step_word(steps, i, 1);
-    let k = step_word(steps, i, 0);
-    let x = step_word(steps, i, 2);
-    if q < 256 {
-        let y = step_word(steps, i, 3);
-        let z = step_word(steps, i, 4);
-        gate(k, q, x, y, z, values);
-        return;
+    match step {
+        Step::Gate {
+            target,
+            table,
+            x,
+            y,
+            z,
+        } => gate(target, table as u32, x, y, z, values),
+        Step::Arithmetic { place } => {
+            trace_cells::arithmetic_cell(record_at(net, place), values)
+        }
+        Step::Comparison { target, place } => compared(target, record_at(net, place), values),
     }
-    let r = record_at(net, x);
-    if q == 256 {
-        trace_cells::arithmetic_cell(r, values);
-        return;
-    }
-    compared(k, r, values);
 }
 
 // All steps of a plan: with the sources' values in the table, every net's value is there at the end.
-pub fn run(net: &[u32], steps: &[u32], count: usize, values: &mut [u32])
-    requires { Plan net.now steps.now count × ((size net.now ≤ length values.old) × Bits values.old) }
+pub fn run(net: &[u32], steps: &[Step], values: &mut [u32])
+    requires { Plan net.now (words_of steps.now) (length steps.now) × ((size net.now ≤ length values.old) × Bits values.old) }
     ensures { ((s : Setting) (c : Contents) → Loaded net.now s c values.old → Valued net.now s c values.new) × Bits values.new }
 {
-    for i in 0..count {
-        step(net, steps, i, values);
+    for step in steps {
+        take(net, *step, values);
     }
 }

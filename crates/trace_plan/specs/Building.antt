@@ -1,13 +1,16 @@
 -- A plan that is being made: the nets below j have been met, and there are n steps. Word k of a table says after which step net k has its
 -- value: 0 for a source; a large number as long as it has none. Assumes nothing.
-use Rattle.std.specs.Prelude.{ℕ, ◌+◌, ◌*◌, ◌^◌, ◌/◌, ◌%◌, ◌≤◌, ◌<◌, ◌≡◌, refl, true, ◌⊎◌, List, length, drop, get_or, set}
-use Rattle.std.proofs.Common.{not-suc-le-zero, arith, sym, ap, ◌∙◌, subst, inl, inr, ⊎_elim, get_or-set_same, get_or-set_other}
+use Rattle.std.specs.Prelude.{ℕ, ◌+◌, ◌*◌, ◌^◌, ◌/◌, ◌%◌, ◌≤◌, ◌<◌, ◌≡◌, refl, true, ◌⊎◌, List, length, take, drop, get_or, set}
+use Rattle.std.proofs.Common.{not-suc-le-zero, arith, sym, ap, ◌∙◌, subst, inl, inr, ⊎_elim, length-set, length-take-le, get_or-take, get_or-set_same, get_or-set_other}
 use Rattle.std.proofs.Math.Decide.{dec_lt, ℕ_discrete}
 use Rattle.spec_rtl.specs.Word.{bit}
 use Rattle.spec_rules.specs.NetlistImage.{netlist}
 use Rattle.spec_rules.specs.Step.{Setting, Contents, net}
 use Rattle.law_reads.specs.Reads.{node_of, is_source}
 use Rattle.trace_cells.specs.Cells.{left_of, outs_of, total_of, ArithmeticFits, Compares, lesser_of, greater_of, answer_of}
+use Rattle.trace_pass.specs.declared.Step.{Step}
+use Rattle.trace_pass.specs.declared.Step.TheVariants.{Arithmetic}
+use Rattle.trace_pass.specs.Coded.{word_in, words_of, words_long, word_at_of}
 use Rattle.trace_pass.specs.Plan.{size, word, place, Settled, GateStep, ArithmeticStep, ComparisonStep, Plan}
 
 abbrev pub at : List ℕ → ℕ → ℕ
@@ -199,3 +202,57 @@ pushed {ws} {t} {t'} {due} {due'} {n} {j} {a} {q} {x} {y} {z} b h g d p one two 
   where
     skip : (i : ℕ) → i < n → n + 1 ≤ i + 1 → n + 1 ≤ i
     skip i l u = absurd (omega arith)
+
+-- ---- steps of the code ----
+
+-- a step stored behind n others
+pub pushed_step : (ss : List Step) (n : ℕ) (s : Step) → n < length ss
+    → Pushed (words_of ss) (words_of (set ss n s)) n (word_in s 0) (word_in s 1) (word_in s 2) (word_in s 3) (word_in s 4)
+pushed_step ss n s h = record {
+  first = here 0 (omega arith);
+  second = here 1 (omega arith);
+  third = here 2 (omega arith);
+  fourth = here 3 (omega arith);
+  fifth = here 4 (omega arith);
+  kept = λ i f l m. word_at_of (set ss n s) i f s (let e = length-set ss n s in omega arith) m
+      ∙ ap (λ (x : Step). word_in x f) (get_or-set_other ss n i s s (λ e. absurd (omega arith))) ∙ sym (word_at_of ss i f s (omega arith) m);
+}
+  where
+    here : (f : ℕ) → f < 5 → word (words_of (set ss n s)) n f ≡ word_in s f
+    here f m = word_at_of (set ss n s) n f s (let e = length-set ss n s in omega arith) m ∙ ap (λ (x : Step). word_in x f) (get_or-set_same ss n s s h)
+
+-- the steps that are there, by themselves
+pub building_cut : {ws due : List ℕ} {n j : ℕ} (ss : List Step) → n ≤ length ss → Building ws (words_of ss) due n j → Building ws (words_of (take n ss)) due n j
+building_cut {ws} {due} {n} {j} ss h b = record {
+  few = b.few;
+  up_to = b.up_to;
+  met = b.met;
+  gap = b.gap;
+  sources = b.sources;
+  gate = λ i l q. gate_later ws (words_of ss) (words_of (take n ss)) g (λ i l q. omega arith) kept l (b.gate i l (let e = kept i 1 l (omega arith) in omega arith));
+  arithmetic = λ i l q. arithmetic_later ws (words_of ss) (words_of (take n ss)) g (λ i l q. omega arith) kept l (b.arithmetic i l (let e = kept i 1 l (omega arith) in omega arith));
+  comparison = λ i l q. comparison_later ws (words_of ss) (words_of (take n ss)) g (λ i l q. omega arith) kept l (b.comparison i l (let e = kept i 1 l (omega arith) in omega arith));
+}
+  where
+    g : Given due due n 0
+    g = record { fixed = λ k m. refl; fresh = λ k m. inl refl }
+
+    d : Step
+    d = Arithmetic 0
+
+    kept : (i f : ℕ) → i < n → f < 5 → word (words_of (take n ss)) i f ≡ word (words_of ss) i f
+    kept i f l m = word_at_of (take n ss) i f d (let e = length-take-le n ss h in omega arith) m ∙ ap (λ (x : Step). word_in x f) (get_or-take n ss i d l) ∙ sym (word_at_of ss i f d (omega arith) m)
+
+pub plan_cut : {ws due : List ℕ} {n : ℕ} (ss : List Step) → n ≤ length ss → Building ws (words_of ss) due n (size ws) → Plan ws (words_of (take n ss)) (length (take n ss))
+plan_cut {ws} {due} {n} ss h b =
+    let c = building_cut ss h b in
+    let e = length-take-le n ss h in
+    subst (λ (k : ℕ). Plan ws (words_of (take n ss)) k) (sym e) (record {
+      due = at due;
+      long = (let w = words_long (take n ss) in omega arith);
+      sources = c.sources;
+      ends = c.met;
+      gate = c.gate;
+      arithmetic = c.arithmetic;
+      comparison = c.comparison;
+    })

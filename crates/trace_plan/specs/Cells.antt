@@ -15,7 +15,7 @@ use Rattle.law_told.proofs.Ordered.{ordered}
 use Rattle.law_sorts.specs.Found.{numbered}
 use Rattle.law_sorts.specs.Cells.{ArithmeticTold, ComparisonTold, arithmetic_told, comparison_told}
 use Rattle.trace_cells.specs.Digits.{Nets}
-use Rattle.trace_cells.specs.Cells.{left_of, right_of_of, outs_of, lesser_of, greater_of}
+use Rattle.trace_cells.specs.Cells.{left_of, right_of, outs_of, lesser_of, greater_of}
 use Rattle.trace_walk.specs.Places.{Begins, Places}
 use Rattle.trace_pass.specs.Plan.{size, place}
 use Rattle.trace_pass.specs.Steps.{size_is, ArithmeticWords, ArithmeticLists, ComparisonWords, arithmetic_step, comparison_step, arithmetic_cut, comparison_cut}
@@ -78,7 +78,7 @@ module _ {ws : List ℕ} {j p : ℕ} (a : ArithmeticAt ws j p) where
   left_is : left_of L ≡ take w (drop 4 L)
   left_is = ap (λ (x : ℕ). take x (drop 4 L)) wide
 
-  right_is : right_of_of L ≡ take w (drop (4 + w) L)
+  right_is : right_of L ≡ take w (drop (4 + w) L)
   right_is = ap (λ (x : ℕ). take x (drop (4 + x) L)) wide
 
   pub outs_is : outs_of L ≡ take w (drop (4 + 2 * w) L)
@@ -87,7 +87,7 @@ module _ {ws : List ℕ} {j p : ℕ} (a : ArithmeticAt ws j p) where
   left_length : length (left_of L) ≡ w
   left_length = ap length left_is ∙ stretch_length a.r a.rest 4 w (let l = a.told.long in omega arith)
 
-  right_length : length (right_of_of L) ≡ w
+  right_length : length (right_of L) ≡ w
   right_length = ap length right_is ∙ stretch_length a.r a.rest (4 + w) w (let l = a.told.long in omega arith)
 
   pub outs_length : length (outs_of L) ≡ w
@@ -96,7 +96,7 @@ module _ {ws : List ℕ} {j p : ℕ} (a : ArithmeticAt ws j p) where
   left_at : (i : ℕ) → i < w → get_or (left_of L) i 0 ≡ get_or a.r (4 + i) 0
   left_at i h = ap (λ (x : List ℕ). get_or x i 0) left_is ∙ stretch_at a.r a.rest 4 w i (let l = a.told.long in omega arith) h
 
-  right_at : (i : ℕ) → i < w → get_or (right_of_of L) i 0 ≡ get_or a.r (4 + (w + i)) 0
+  right_at : (i : ℕ) → i < w → get_or (right_of L) i 0 ≡ get_or a.r (4 + (w + i)) 0
   right_at i h =
       let e : 4 + w + i ≡ 4 + (w + i) = omega arith in
       ap (λ (x : List ℕ). get_or x i 0) right_is ∙ stretch_at a.r a.rest (4 + w) w i (let l = a.told.long in omega arith) h ∙ ap (λ (x : ℕ). get_or a.r x 0) e
@@ -123,9 +123,9 @@ unfolding node_at_of N.node_of
 node_arithmetic ws x cell i o = rw (o.kind, o.owner, o.bit)
 
 pub arithmetic_built : {ws t t' due due' : List ℕ} {n j p : ℕ} → accepts ws ≡ Fine → (a : ArithmeticAt ws j p) → Building ws t due n j → j < size ws
-    → {outs : List ℕ} → outs ≡ outs_of (drop p ws) → Marked outs due due' n (length outs) → {y z : ℕ} → Pushed t t' n j 256 p y z → Building ws t' due' (n + 1) (j + 1)
+    → {outs : List ℕ} → outs ≡ outs_of (drop p ws) → Marked outs due due' n (length outs) → {o y z : ℕ} → Pushed t t' n o 256 p y z → Building ws t' due' (n + 1) (j + 1)
 unfolding netlist
-arithmetic_built {ws} {t} {t'} {due} {due'} {n} {j} {p} ok a b h {outs} eo m {y} {z} u =
+arithmetic_built {ws} {t} {t'} {due} {due'} {n} {j} {p} ok a b h {outs} eo m {o} {y} {z} u =
     let s = a.spot in
     let q = s.narrow in
     let i = outs_length a in

@@ -1,14 +1,16 @@
 -- Net j of an accepted netlist is met, and has no value yet; the words of a step. Assumes nothing.
-use Rattle.std.specs.Prelude.{ℕ, ◌+◌, ◌*◌, ◌≤◌, ◌<◌, ◌≡◌, refl, Bool, true, false, List, length, get_or, set}
+use Rattle.std.specs.Prelude.{ℕ, take, ◌+◌, ◌*◌, ◌≤◌, ◌<◌, ◌≡◌, refl, Bool, true, false, List, length, get_or, set}
 use Rattle.std.proofs.Common.{not-suc-le-zero, arith, sym, ap, subst, ◌∙◌, length-set, get_or-set_same, get_or-set_other}
 use Rattle.std.proofs.Math.Decide.{dec_lt, ℕ_discrete}
 use Rattle.spec_tests.specs.Rules.{◌≡?◌, ◌or◌, Fine}
 use Rattle.spec_rules.specs.NetlistImage.{node_word}
 use Rattle.spec_netlist.specs.Accept.{nets, accepts}
+use Rattle.trace_pass.specs.declared.Step.{Step}
+use Rattle.trace_pass.specs.Coded.{words_of, words_long}
 use Rattle.trace_pass.specs.Plan.{size, word, Plan}
 use Rattle.trace_pass.specs.Gates.{Computed}
 use Rattle.trace_pass.specs.Steps.{size_is}
-use Rattle.trace_plan.specs.Building.{at, Building, Pushed, start, end, passed, source}
+use Rattle.trace_plan.specs.Building.{at, Building, Pushed, start, end, passed, source, plan_cut}
 use Rattle.trace_plan.specs.Kinds.{kind_few, few_nets_law, is_source_law, computed}
 
 -- the next net
@@ -91,6 +93,24 @@ next_end {ws} {t} {due} {n} {j} b h l =
     let u = b.up_to in
     let e : j ≡ size ws = omega arith in
     end (subst (λ (k : ℕ). Building ws t due n k) e b) (omega arith)
+
+-- the front of a table of steps
+pub plan_end : {ws due : List ℕ} {n j : ℕ} (ss : List Step) → Building ws (words_of ss) due n j → nets ws ≤ j → nets ws ≤ length ss → Plan ws (words_of (take n ss)) (length (take n ss))
+plan_end {ws} {due} {n} {j} ss b h l =
+    let s = size_is ws in
+    let u = b.up_to in
+    let f = b.few in
+    let e : j ≡ size ws = omega arith in
+    plan_cut ss (omega arith) (subst (λ (k : ℕ). Building ws (words_of ss) due n k) e b)
+
+-- a step more has room
+pub room_of : {ws due : List ℕ} {n j : ℕ} (ss : List Step) → Meeting ws (words_of ss) due n j → n < length ss
+room_of ss m =
+    let w = words_long ss in
+    let l = m.long in
+    let t = m.there in
+    let f = m.building.few in
+    omega arith
 
 back : (e d : List ℕ) (n f x i g : ℕ) → e ≡ set d (5 * n + f) x → (5 * i + g ≡ 5 * n + f → ⊥) → word e i g ≡ word d i g
 back e d n f x i g q h = ap (λ (l : List ℕ). get_or l (5 * i + g) 0) q ∙ get_or-set_other d (5 * n + f) (5 * i + g) x 0 h

@@ -1,30 +1,27 @@
 // The plan of an accepted netlist: a step for each constant, gate and output node, and one for each cell at the first of its outputs.
 #![tactic(auto)]
 
-ghost use Rattle.std.specs.Prelude.{◌≡◌, ◌+◌, ◌*◌, ◌≤◌, ◌<◌, length, set};
+ghost use Rattle.std.specs.Prelude.{◌≡◌, ◌+◌, ◌≤◌, ◌<◌, length, set};
 ghost use Rattle.spec_tests.specs.Rules.{◌≡?◌, ◌or◌, Fine};
 ghost use Rattle.spec_rules.specs.NetlistImage.{node_word};
 ghost use Rattle.spec_netlist.specs.Accept.{nets, accepts};
 ghost use Rattle.trace_cells.specs.Digits.{Nets};
 ghost use Rattle.trace_walk.specs.Places.{Listed};
+ghost use Rattle.trace_pass.specs.Coded.{words_of};
 ghost use Rattle.trace_pass.specs.Plan.{Plan};
 ghost use Rattle.trace_pass.specs.Gates.{table_of, Computed};
-ghost use Rattle.trace_plan.specs.Building.{Building, Pushed};
+ghost use Rattle.trace_plan.specs.Building.{Building};
 ghost use Rattle.trace_plan.specs.Kinds.{lowered};
 ghost use Rattle.trace_plan.specs.Marked.{Marked, marked};
 ghost use Rattle.trace_plan.specs.Meeting.{Next, Meeting, Cleared};
 
 use image_numbers::*;
+use trace_pass::Step;
 
 // The tables of eight bits, by the node's kind; a constant's is all zeros or all ones.
-const TABLES: [u32; 12] = [170, 0, 136, 238, 102, 85, 216, 170, 170, 170, 170, 170];
+const TABLES: [u8; 12] = [170, 0, 136, 238, 102, 85, 216, 170, 170, 170, 170, 170];
 
-// In place of a table: the step of an arithmetic cell, of a comparison.
-const ARITHMETIC_STEP: u32 = 256;
-
-const COMPARISON_STEP: u32 = 257;
-
-fn table_of(kind: u32, owner: u32) -> u32
+fn table_of(kind: u32, owner: u32) -> u8
     requires { kind ≤ 11 }
     ensures { (result ≡ table_of kind owner) × (result < 256) }
 {
@@ -57,26 +54,6 @@ fn lower_net(x: u32, k: u32) -> u32
     if x < k { x } else { k }
 }
 
-// Word f of step n.
-fn put(steps: &mut [u32], n: usize, f: usize, x: u32)
-    requires { (f < 5) × (5 * n + 5 ≤ length steps.old) }
-    ensures { steps.new ≡ set steps.old (5 * n + f) x }
-{
-    steps[5 * n + f] = x;
-}
-
-// Step n.
-fn push(steps: &mut [u32], n: usize, k: u32, q: u32, x: u32, y: u32, z: u32)
-    requires { 5 * n + 5 ≤ length steps.old }
-    ensures { Pushed steps.old steps.new n k q x y z }
-{
-    put(steps, n, 0, k);
-    put(steps, n, 1, q);
-    put(steps, n, 2, x);
-    put(steps, n, 3, y);
-    put(steps, n, 4, z);
-}
-
 // Net k, where it has no value yet, has it after step n.
 fn mark(k: u32, n: usize, due: &mut [u32])
     requires { (k < length due.old) × (n < 65535) }
@@ -92,24 +69,30 @@ fn mark_all(outs: &[u32], n: usize, due: &mut [u32])
     requires { (Nets outs.now (length due.old)) × (n < 65535) }
     ensures { Marked outs.now due.old due.new n (length outs.now) }
 {
-    for i in 0..outs.len() {
-        mark(outs[i], n, due);
+    for k in outs {
+        mark(*k, n, due);
     }
 }
 
 // The step of a constant, gate or output node; how many steps there are then.
-fn plan_gate(net: &[u32], k: u32, n: usize, due: &mut [u32], steps: &mut [u32]) -> usize
-    requires { (Meeting net.now steps.old due.old n k) × (Computed (node_word net.now k 0)) }
-    ensures { Building net.now steps.new due.new result (k + 1) }
+fn plan_gate(net: &[u32], k: u32, n: usize, due: &mut [u32], steps: &mut [Step]) -> usize
+    requires { (Meeting net.now (words_of steps.old) due.old n k) × (Computed (node_word net.now k 0)) }
+    ensures { Building net.now (words_of steps.new) due.new result (k + 1) }
 {
-    let q = table_of(
+    let table = table_of(
         net_words::node_word(net, k, 0),
         net_words::node_word(net, k, 1),
     );
     let x = lower_net(net_words::node_word(net, k, 3), k);
     let y = lower_net(net_words::node_word(net, k, 4), k);
     let z = lower_net(net_words::node_word(net, k, 5), k);
-    push(steps, n, k, q, x, y, z);
+    steps[n] = Step::Gate {
+        target: k,
+        table,
+        x,
+        y,
+        z,
+    };
     due[k as usize] = n as u32 + 1;
     n + 1
 }
@@ -121,16 +104,16 @@ fn plan_arithmetic(
     k: u32,
     n: usize,
     due: &mut [u32],
-    steps: &mut [u32],
+    steps: &mut [Step],
 ) -> usize
-    requires { (Meeting net.now steps.old due.old n k) × (node_word net.now k 0 ≡ 10) × (Listed net.now 3 cells.now) }
-    ensures { Building net.now steps.new due.new result (k + 1) }
+    requires { (Meeting net.now (words_of steps.old) due.old n k) × (node_word net.now k 0 ≡ 10) × (Listed net.now 3 cells.now) }
+    ensures { Building net.now (words_of steps.new) due.new result (k + 1) }
 {
     let place = net_words::word_at(cells, net_words::node_word(net, k, 1) as usize);
     let r = net_words::part(net, place as usize);
     let w = net_words::word_at(r, 2) as usize;
     mark_all(net_words::stretch(r, 4 + 2 * w, w), n, due);
-    push(steps, n, k, ARITHMETIC_STEP, place, 0, 0);
+    steps[n] = Step::Arithmetic { place };
     n + 1
 }
 
@@ -141,13 +124,13 @@ fn plan_comparison(
     k: u32,
     n: usize,
     due: &mut [u32],
-    steps: &mut [u32],
+    steps: &mut [Step],
 ) -> usize
-    requires { (Meeting net.now steps.old due.old n k) × (node_word net.now k 0 ≡ 11) × (Listed net.now 4 cells.now) }
-    ensures { Building net.now steps.new due.new result (k + 1) }
+    requires { (Meeting net.now (words_of steps.old) due.old n k) × (node_word net.now k 0 ≡ 11) × (Listed net.now 4 cells.now) }
+    ensures { Building net.now (words_of steps.new) due.new result (k + 1) }
 {
     let place = net_words::word_at(cells, net_words::node_word(net, k, 1) as usize);
-    push(steps, n, k, COMPARISON_STEP, place, 0, 0);
+    steps[n] = Step::Comparison { target: k, place };
     due[k as usize] = n as u32 + 1;
     n + 1
 }
@@ -160,10 +143,10 @@ fn plan_net(
     k: u32,
     n: usize,
     due: &mut [u32],
-    steps: &mut [u32],
+    steps: &mut [Step],
 ) -> usize
-    requires { (Next net.now steps.old due.old n k) × (Listed net.now 3 cells.now) × (Listed net.now 4 comparisons.now) }
-    ensures { Building net.now steps.new due.new result (k + 1) }
+    requires { (Next net.now (words_of steps.old) due.old n k) × (Listed net.now 3 cells.now) × (Listed net.now 4 comparisons.now) }
+    ensures { Building net.now (words_of steps.new) due.new result (k + 1) }
 {
     if due[k as usize] <= n as u32 {
         return n;
@@ -187,21 +170,19 @@ fn clear(due: &mut [u32], n: usize)
     requires { n ≤ length due.old }
     ensures { Cleared due.new n }
 {
-    for i in 0..n {
-        due[i] = ABSENT;
-    }
+    due[..n].fill(ABSENT);
 }
 
-// The plan, five words a step; how many steps it has. cells and comparisons are the places of those records; due is a lent table.
-pub fn make_plan(
+// The plan, at the front of a lent table. cells and comparisons are the places of those records; due is a lent table.
+pub fn make_plan<'a>(
     net: &[u32],
     cells: &[u32],
     comparisons: &[u32],
     due: &mut [u32],
-    steps: &mut [u32],
-) -> usize
-    requires { (accepts net.now ≡ Fine) × (Listed net.now 3 cells.now) × (Listed net.now 4 comparisons.now) × (nets net.now ≤ length due.old) × (5 * nets net.now ≤ length steps.old) }
-    ensures { Plan net.now steps.new result }
+    steps: &'a mut [Step],
+) -> &'a [Step]
+    requires { (accepts net.now ≡ Fine) × (Listed net.now 3 cells.now) × (Listed net.now 4 comparisons.now) × (nets net.now ≤ length due.old) × (nets net.now ≤ length steps.old) }
+    ensures { Plan net.now (words_of result.now) (length result.now) }
 {
     let count = net_words::word_at(net, NET_COUNT);
     clear(due, count as usize);
@@ -209,5 +190,5 @@ pub fn make_plan(
     for k in 0..count {
         n = plan_net(net, cells, comparisons, k, n, due, steps);
     }
-    n
+    &steps[..n]
 }

@@ -1,11 +1,15 @@
 -- The nets of a netlist's ports, read at the places of their records. Assumes nothing.
-use Prim.Native.Nat.{ℕ, zero, suc, ◌+◌, ◌≤◌}
+use Prim.Native.Nat.{ℕ, zero, suc, ◌+◌, ◌-◌, ◌≤◌, min}
 use Rattle.std.proofs.Common.{add-one, arith, ◌∙◌, take_all, take-suc}
 use Rattle.std.specs.Prelude.{◌≡◌, Bool, true, false, length, drop, get_or}
 use Rattle.std.proofs.Math.Path.{refl, sym, ap, subst}
 use mathlib.Core.List.{List, [], ◌∷◌, ◌++◌, map, append_assoc, append-nil}
 use Rattle.std.proofs.Math.ListN.{take, get_or-append}
-use Rattle.std.proofs.Math.Seq.{take-append_seam}
+use Rattle.std.proofs.Math.Seq.{take-append_seam, take-append-add}
+use Rattle.std.proofs.Math.Decide.{dec_le}
+use Rattle.std.proofs.lemmas.Slice.{take-put_mid}
+use Rattle.std.proofs.Common.{length-take-le, length-drop}
+use borrow.Rule.Slice.PartMut.{put_mid, mid_of, same_len_mid}
 use Rattle.spec_tests.specs.Rules.{◌≡?◌, pick, only, Fine}
 use Rattle.spec_tests.specs.Laws.{pick_hit, pick_skip, eq_yes, eq_no}
 use Rattle.spec_rules.specs.NetlistImage.{node_word, records_with}
@@ -48,6 +52,33 @@ port_of_kind ws k a x w l nets el ex e ew en =
 
 pub joined_all : (ws : List ℕ) (k : ℕ) (places : List ℕ) {o o' : List ℕ} {r : ℕ} (count i : ℕ) → i ≤ count → count ≤ i → Wrote o 0 (joined ws k places i) o' r → Wrote o 0 (joined ws k places count) o' r
 joined_all ws k places {o} {o'} {r} count i h l w = let e : i ≡ count = omega arith in subst (λ (n : ℕ). Wrote o 0 (joined ws k places n) o' r) e w
+
+-- the front of a table that held o, where these are written from its first word on
+pub front_of : (ws : List ℕ) (k : ℕ) (places : List ℕ) {o o' : List ℕ} {r : ℕ} (count i : ℕ) → i ≤ count → count ≤ i → Wrote o 0 (joined ws k places i) o' r → take r o' ≡ take (length o) (joined ws k places count)
+front_of ws k places {o} count i h l w = (joined_all ws k places count i h l w).text
+
+-- a list copied to a place, as much of it as has room
+pub wrote_copy : (o list ys : List ℕ) (at n k : ℕ) → at ≤ length o → n ≡ min (length list) (length o - at) → k ≡ n → ys ≡ take n list → Wrote o at list (put_mid at k o ys) (at + n)
+wrote_copy o list ys at n k h en ek ey =
+    let ly : length ys ≡ n = ap length ey ∙ length-take-le n list (omega arith) in
+    let la : length (take at o) ≡ at = length-take-le at o h in
+    let lm : length (mid_of at k o) ≡ k = length-take-le k (drop at o) (let d = length-drop at o in omega arith) in
+    let lo : length (put_mid at k o ys) ≡ length o = same_len_mid at k o ys (omega arith) in
+    let t : take (at + n) (put_mid at k o ys) ≡ take at o ++ ys = take-put_mid at k o ys (at + n) (omega arith) h in
+    let m : length o ≡ length (take at o) + (length o - at) = omega arith in
+    let r : take (length o) (take at o ++ list) ≡ take at o ++ take (length o - at) list =
+    ap (λ (i : ℕ). take i (take at o ++ list)) m ∙ take-append-add (take at o) list (length o - at) in
+    record {
+      size = lo;
+      upto = omega arith;
+      text = t ∙ ap (λ (l : List ℕ). take at o ++ l) (ey ∙ few) ∙ sym r;
+    }
+  where
+    few : take n list ≡ take (length o - at) list
+    few = elim (dec_le (length list) (length o - at)) [
+      | yes l ↦ (let e : n ≡ length list = omega arith in take_all n list (omega arith) ∙ sym (take_all (length o - at) list l))
+      | no l ↦ ap (λ (i : ℕ). take i list) (omega arith)
+    ]
 
 -- ---- of an accepted netlist: those of its ports ----
 

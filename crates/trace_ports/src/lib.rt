@@ -1,33 +1,18 @@
 // The nets of a netlist's input ports or of its output ports, ports in list order, bit 0 first.
 #![tactic(auto)]
 
-ghost use Rattle.std.specs.Prelude.{[], ◌∷◌, ◌≤◌, length};
+ghost use Rattle.std.specs.Prelude.{◌≡◌, ◌≤◌, length, take};
 ghost use Rattle.listing_text.specs.Text.{Wrote};
 ghost use Rattle.trace_ports.specs.Ports.{port_nets, joined};
 
-// One word at a place; the next place.
-fn put(out: &mut [u32], at: usize, x: u32) -> usize
-    requires { at ≤ length out.old }
-    ensures { Wrote out.old at (x ∷ []) out.new result }
-{
-    if at < out.len() {
-        out[at] = x;
-        at + 1
-    } else {
-        at
-    }
-}
-
-// A list at a place; the next place.
+// A list at a place, cut where it has no room; the next place.
 fn put_all(out: &mut [u32], at: usize, list: &[u32]) -> usize
     requires { at ≤ length out.old }
     ensures { Wrote out.old at list.now out.new result }
 {
-    let mut to = at;
-    for i in 0..list.len() {
-        to = put(out, to, list[i]);
-    }
-    to
+    let n = list.len().min(out.len() - at);
+    out[at..at + n].copy_from_slice(&list[..n]);
+    at + n
 }
 
 // The nets of the port whose record begins at a place, if its nodes are of this kind.
@@ -46,13 +31,13 @@ fn put_port(net: &[u32], place: u32, kind: u32, out: &mut [u32], at: usize) -> u
     )
 }
 
-// The nets of all ports whose nodes are of this kind; how many there are. ports: the places of the ports' records.
-pub fn port_nets(net: &[u32], ports: &[u32], count: usize, kind: u32, out: &mut [u32]) -> usize
-    ensures { Wrote out.old 0 (joined net.now kind ports.now count) out.new result }
+// The nets of all ports whose nodes are of this kind, at the front of a lent table. ports: the places of the ports' records.
+pub fn port_nets<'a>(net: &[u32], ports: &[u32], kind: u32, out: &'a mut [u32]) -> &'a [u32]
+    ensures { result.now ≡ take (length out.old) (joined net.now kind ports.now (length ports.now)) }
 {
     let mut at: usize = 0;
-    for i in 0..count {
-        at = put_port(net, net_words::word_at(ports, i), kind, out, at);
+    for port in ports {
+        at = put_port(net, *port, kind, out, at);
     }
-    at
+    &out[..at]
 }

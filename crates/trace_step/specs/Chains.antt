@@ -3,6 +3,7 @@ use Rattle.std.specs.Prelude.{ℕ, zero, suc, ◌+◌, ◌≤◌, ◌≡◌, Boo
 use Rattle.std.proofs.Common.{arith, add-one, ◌∙◌}
 use Rattle.std.proofs.Math.Path.{refl, sym, ap}
 use Rattle.std.proofs.Math.Bool.{true, false, not, cond}
+use mathlib.Core.Bool.{beq}
 use Rattle.std.proofs.Math.Option.{none, some}
 use Rattle.spec_rtl.specs.Word.{bit}
 use Rattle.spec_rtl.specs.Ops.{xor_b}
@@ -98,6 +99,25 @@ waits_no {z} {k} e f = ap (λ (t : Bool). not (xor_b false t)) (eq_yes k 1 (sym 
 
 pub waits_yes : {z k : ℕ} → z ≡ k → (z ≡ 1 → ⊥) → not (xor_b false (k ≡? 1)) ≡ true
 waits_yes {z} {k} e f = ap (λ (t : Bool). not (xor_b false t)) (eq_no k 1 (λ q. f (e ∙ q)))
+
+-- the kind that is looked for, or the other
+pub kind_its : {z k : ℕ} (a : Bool) → z ≡ k → not (beq (eqb z 1) a) ≡ false → not (xor_b a (k ≡? 1)) ≡ true
+kind_its {z} {k} a e f = same a (k ≡? 1) (ap (λ (t : Bool). not (beq t a)) (sym (eq_same e refl)) ∙ f)
+  where
+    same : (a b : Bool) → not (beq b a) ≡ false → not (xor_b a b) ≡ true
+    same true true h = refl
+    same true false h = untrue (sym h)
+    same false true h = untrue (sym h)
+    same false false h = refl
+
+pub kind_other : {z k : ℕ} (a : Bool) → z ≡ k → not (beq (eqb z 1) a) ≡ true → not (xor_b a (k ≡? 1)) ≡ false
+kind_other {z} {k} a e f = other a (k ≡? 1) (ap (λ (t : Bool). not (beq t a)) (sym (eq_same e refl)) ∙ f)
+  where
+    other : (a b : Bool) → not (beq b a) ≡ true → not (xor_b a b) ≡ false
+    other true true h = untrue h
+    other true false h = refl
+    other false true h = refl
+    other false false h = untrue h
 
 -- ---- a register's next bit ----
 

@@ -2,7 +2,7 @@
 // and read data, and has the new inputs.
 #![tactic(auto)]
 
-ghost use Rattle.std.specs.Prelude.{◌≡◌, true, false, ◌<◌, set};
+ghost use Rattle.std.specs.Prelude.{◌≡◌, ◌<◌, length, set};
 ghost use Rattle.spec_rtl.specs.Word.{bit};
 ghost use Rattle.spec_tests.specs.Rules.{◌≡?◌};
 ghost use Rattle.spec_rules.specs.Image.{optional, control_of};
@@ -23,7 +23,7 @@ pub fn is_on(values: &[u32], x: u32) -> bool
 pub fn bit_of(b: bool) -> u32
     ensures { result ≡ bit b }
 {
-    if b { 1 } else { 0 }
+    u32::from(b)
 }
 
 // Gives net x a word.
@@ -73,29 +73,16 @@ pub fn ticks(old: &[u32], new: &[u32], x: u32, falling: u32) -> bool
     before
 }
 
-// The register's reset is asynchronous and active.
-fn asynchronous_reset(r: &[u32], values: &[u32]) -> bool
-    ensures { result ≡ resets true (on values.now) (register_bit_of r.now).register.reset }
+// The register's reset is of this kind, and active.
+fn is_reset(r: &[u32], values: &[u32], asynchronous: bool) -> bool
+    ensures { result ≡ resets asynchronous (on values.now) (register_bit_of r.now).register.reset }
 {
     let x = net_words::word_at(r, 9);
     if x == ABSENT {
         return false;
     }
-    if net_words::word_at(r, 11) != 1 {
-        return false;
-    }
-    is_active(values, x, net_words::word_at(r, 10))
-}
-
-// It is synchronous and active.
-fn synchronous_reset(r: &[u32], values: &[u32]) -> bool
-    ensures { result ≡ resets false (on values.now) (register_bit_of r.now).register.reset }
-{
-    let x = net_words::word_at(r, 9);
-    if x == ABSENT {
-        return false;
-    }
-    if net_words::word_at(r, 11) == 1 {
+    let kind = net_words::word_at(r, 11) == 1;
+    if kind != asynchronous {
         return false;
     }
     is_active(values, x, net_words::word_at(r, 10))
@@ -105,7 +92,7 @@ fn synchronous_reset(r: &[u32], values: &[u32]) -> bool
 fn clocked_bit(r: &[u32], old: &[u32]) -> bool
     ensures { result ≡ clocked_bit old.now r.now }
 {
-    if synchronous_reset(r, old) {
+    if is_reset(r, old, false) {
         return net_words::word_at(r, 12) == 1;
     }
     if is_enabled(old, net_words::word_at(r, 7), net_words::word_at(r, 8)) {
@@ -118,7 +105,7 @@ fn clocked_bit(r: &[u32], old: &[u32]) -> bool
 fn register_bit(r: &[u32], old: &[u32], new: &[u32]) -> bool
     ensures { result ≡ register_bit old.now new.now r.now }
 {
-    if asynchronous_reset(r, new) {
+    if is_reset(r, new, true) {
         return net_words::word_at(r, 12) == 1;
     }
     if ticks(old, new, net_words::word_at(r, 5), net_words::word_at(r, 6)) {
@@ -135,14 +122,10 @@ fn load_register(r: &[u32], old: &[u32], new: &mut [u32])
 }
 
 // All registers, at the places of their records.
-pub fn load_registers(net: &[u32], places: &[u32], count: usize, old: &[u32], new: &mut [u32])
-    ensures { new.new ≡ registers_done net.now old.now places.now count new.old }
+pub fn load_registers(net: &[u32], places: &[u32], old: &[u32], new: &mut [u32])
+    ensures { new.new ≡ registers_done net.now old.now places.now (length places.now) new.old }
 {
-    for i in 0..count {
-        load_register(
-            net_words::part(net, net_words::word_at(places, i) as usize),
-            old,
-            new,
-        );
+    for place in places {
+        load_register(net_words::part(net, *place as usize), old, new);
     }
 }

@@ -203,6 +203,15 @@ end ws ok {sort} {p} {n} {out} w h = subst (λ (z : List (List ℕ)). Placed ws 
     all : records_of ws ≡ w.earlier
     all = w.all ∙ ap (λ (z : List (List ℕ)). w.earlier ++ z) (none_left w.later refl) ∙ append-nil w.earlier
 
+-- there are no more places than list words
+pub places_few : (ws : List ℕ) → accepts ws ≡ Fine → {sort p n : ℕ} {out : List ℕ} → Walking ws sort p n out → n ≤ used ws
+places_few ws ok w =
+    let a = ap (λ (z : List (List ℕ)). length (list_words z)) w.all ∙ ap length (list_append w.earlier w.later) ∙ length-append (list_words w.earlier) (list_words w.later) in
+    let b = (given_end ws ok).0 in
+    let c = w.place in
+    let d = w.few in
+    omega arith
+
 -- numbers of 32 bits hold every place
 pub near : (ws : List ℕ) → accepts ws ≡ Fine → (list_at_of ws ≤ 393226) × (used ws ≤ 65535)
 near ws ok =

@@ -20,10 +20,11 @@ fn keep(l: &[u32], sort: u32, place: u32, out: &mut [u32], n: usize) -> usize
     n + 1
 }
 
-// The places of all records of a sort, in list order; how many there are.
-pub fn places(net: &[u32], sort: u32, out: &mut [u32]) -> usize
+// The places of all records of a sort, in list order, at the front of a lent table.
+pub fn places<'a>(net: &[u32], sort: u32, out: &'a mut [u32]) -> &'a [u32]
     requires { (accepts net.now ≡ Fine) × (used net.now ≤ length out.old) }
-    ensures { Places net.now sort out.new result }
+    ensures places { Places net.now sort result.now (length result.now) }
+    ensures few { length result.now ≤ used net.now }
 {
     let list = net_words::word_at(net, LIST_AT);
     let end = net_words::word_at(net, LIST_USED) as usize;
@@ -34,5 +35,5 @@ pub fn places(net: &[u32], sort: u32, out: &mut [u32]) -> usize
         n = keep(l, sort, list + p as u32, out, n);
         p += net_words::record_length(l);
     }
-    n
+    &out[..n]
 }

@@ -1,20 +1,12 @@
 -- `trace_fit::registers_unfit` meets its contract. Assumes nothing.
-use Prim.Native.Nat.{◌-◌}
-use mathlib.Core.Path.{sym, ◌∙◌}
-use native.Mathlib.Omega.{arith}
-use Rattle.spec_tests.specs.Laws.{begins, passed, any_yes, any_no}
+use Rattle.std.proofs.Common.{ℕ, rules, tests, ◌∙◌, drop}
+use Rattle.std.proofs.lemmas.Iterator.{YieldsList-from_slice}
+use Rattle.std.proofs.lemmas.Iterator.Search.{any_from_yields_List}
 use Rattle.spec_trace.specs.Opened.{register_unfit}
-use Rattle.trace_fit.specs.Fit.{read_at}
+use Rattle.spec_chains.specs.Slices.{any_in_list}
 use Rattle.trace_fit.proofs.registers_unfit.Goals as goal
 
-pub loop-i-init : goal.loop-i-init
-loop-i-init c = (omega arith, begins _ _)
-
-pub returns-then-register_unfit : goal.returns-then-register_unfit
-returns-then-register_unfit c = sym (any_yes _ _ _ c.loop-i-test.true c.loop-i.invariant.1 (sym (read_at (register_unfit c.args.net.now) c.args.net.now c.args.places.now c.loop-i.i c.word_at.ensures c.part-r.ensures c.register_unfit.ensures) ∙ c.if-register_unfit.true))
-
-pub loop-i-preserved : goal.loop-i-preserved
-loop-i-preserved c = (omega (arith, c.loop-i-test.true), c.loop-i.invariant.1 ∙ passed _ _ _ c.loop-i-test.true (sym (read_at (register_unfit c.args.net.now) c.args.net.now c.args.places.now c.loop-i.i c.word_at.ensures c.part-r.ensures c.register_unfit.ensures) ∙ c.if-register_unfit.false))
-
 pub returns : goal.returns
-returns c = sym (any_no _ _ _ c.loop-i-test.false c.loop-i.invariant.0 c.loop-i.invariant.1)
+returns c =
+    let unfit = λ (a : ℕ). register_unfit c.args.net.now (drop a c.args.net.now) in
+    any_from_yields_List unfit _ _ _ c.any.ensures.ran (YieldsList-from_slice c.args.places.now cc) (λ x b q k. search (rules, tests)) ∙ any_in_list unfit c.args.places.now

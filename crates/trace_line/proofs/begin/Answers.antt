@@ -4,7 +4,7 @@ use Rattle.trace_line.proofs.Standing.{begin_ready, begin_after}
 use Rattle.trace_line.proofs.begin.Goals as goal
 
 pub run-requires : goal.run-requires
-run-requires c = begin_ready c.requires c.args.line.now refl c.load_line.ensures
+run-requires c = begin_ready c.requires.0 c.args.line.now refl c.load_line.ensures
 
-pub returns : goal.returns
-returns c = begin_after c.requires c.args.line.now refl c.load_line.ensures c.run.ensures c.run.auto.values
+pub returns-clause-goes : goal.returns-clause-goes
+returns-clause-goes c = begin_after c.requires.0 c.args.line.now refl c.load_line.ensures c.run.ensures c.run.auto.values

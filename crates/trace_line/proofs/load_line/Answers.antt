@@ -1,18 +1,11 @@
 -- `trace_line::load_line` meets its contract. Assumes nothing.
-use Prim.Native.Nat.{◌-◌}
-use mathlib.Core.Path.{refl, sym, ◌∙◌}
-use Rattle.trace_memory.specs.Spread.{spread_start, spread_more, spread_end}
+use mathlib.Core.Path.{sym, ◌∙◌}
+use Rattle.trace_memory.specs.Spread.{spread_more, spread_end}
 use Rattle.trace_line.specs.Step.{char}
 use Rattle.trace_line.proofs.load_line.Goals as goal
 
-pub loop-i-init : goal.loop-i-init
-loop-i-init c = (refl, spread_start _ _ _ _)
-
 pub loop-i-preserved : goal.loop-i-preserved
 loop-i-preserved c = (c.loop-i.invariant.0 ∙ sym c.put.auto.values, spread_more char _ _ _ _ _ c.loop-i.invariant.1 c.loop-i-test.true c.char_at.ensures c.put.ensures)
-
-pub shape_of-values : goal.shape_of-values
-shape_of-values c = sym c.loop-i.invariant.0
 
 pub returns : goal.returns
 returns c = spread_end char _ _ _ _ _ c.loop-i.invariant.1 c.loop-i-test.false

@@ -1,5 +1,4 @@
 -- `trace_line::load_line` meets its contract. Assumes nothing.
-use Prim.Native.Nat.{◌-◌}
 use mathlib.Core.Path.{◌≡◌}
 use lib.ListN.{length}
 use Rattle.trace_memory.specs.Spread.{Spreading}

@@ -1,5 +1,4 @@
 -- `trace_memory::lay_bits` meets its contract. Assumes nothing.
-use Prim.Native.Nat.{◌-◌}
 use mathlib.Core.Path.{◌≡◌}
 use lib.ListN.{length}
 use Rattle.spec_rtl.specs.Word.{bit}

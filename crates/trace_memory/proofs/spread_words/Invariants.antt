@@ -1,5 +1,4 @@
 -- `trace_memory::spread_words` meets its contract. Assumes nothing.
-use Prim.Native.Nat.{◌-◌}
 use mathlib.Core.Path.{◌≡◌}
 use lib.ListN.{length}
 use Rattle.trace_step.specs.Words.{identity}

@@ -2,7 +2,7 @@
 use Prim.Native.Nat.{◌+◌, ◌*◌}
 use mathlib.Core.Path.{sym, ap, ◌∙◌}
 use native.Mathlib.Omega.{arith}
-use Rattle.trace_names.specs.Numbers.{number_none, number_step, number_small, number_whole}
+use Rattle.trace_names.specs.Numbers.{number_none, number_step, number_small}
 use Rattle.trace_names.proofs.number_of.Goals as goal
 
 pub loop-i-init : goal.loop-i-init
@@ -16,6 +16,3 @@ overflow_add-n c = omega (arith, c.loop-i.invariant.1, c.byte.ensures.1, number_
 
 pub loop-i-preserved : goal.loop-i-preserved
 loop-i-preserved c = (omega arith, ap (λ x. c.loop-i.n * 256 + x) c.byte.ensures.0 ∙ number_step c.args.name.now c.loop-i.i c.loop-i.n c.loop-i-test.true c.loop-i.invariant.0 c.loop-i.invariant.1)
-
-pub returns : goal.returns
-returns c = number_whole c.args.name.now c.loop-i.i _ (omega arith) c.loop-i.invariant.1

@@ -1,17 +1,7 @@
 -- `trace_ports::put_all` meets its contract. Assumes nothing.
-use Prim.Native.Nat.{◌-◌}
 use native.Mathlib.Omega.{arith}
-use Rattle.listing_text.specs.Text.{wrote_none, wrote_step, wrote_all}
+use Rattle.trace_ports.specs.Ports.{wrote_copy}
 use Rattle.trace_ports.proofs.put_all.Goals as goal
 
-pub loop-i-init : goal.loop-i-init
-loop-i-init c = (omega arith, wrote_none _ _ c.requires)
-
-pub loop-i-preserved : goal.loop-i-preserved
-loop-i-preserved c = (omega arith, wrote_step c.loop-i.i c.args.list.now (omega arith) c.loop-i.invariant.1 c.put-to.ensures)
-
-pub shape_of-out : goal.shape_of-out
-shape_of-out c = c.loop-i.invariant.1.size
-
 pub returns : goal.returns
-returns c = wrote_all c.loop-i.i c.args.list.now (omega arith) c.loop-i.invariant.1
+returns c = wrote_copy c.args.out.now c.args.list.now _ _ _ _ c.requires c.min-n.ensures (omega arith) (c.copy_from_slice.ensures.after)
