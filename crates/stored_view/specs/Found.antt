@@ -4,12 +4,14 @@
 --     some_below, none_below          what such an answer tells
 use Rattle.std.specs.Prelude.{ℕ, suc, ◌+◌, ◌-◌, ◌<◌, ◌≤◌, Bool, true, false, cond, ◌≡◌, refl, List, [], ◌∷◌, length, take, drop, get_or, ltb, Option, Some, None, position}
 use Rattle.std.specs.List.{position_or_len}
-use Rattle.std.proofs.Common.{sym, ap, ◌∙◌, subst, arith, lt-ltb, le-ltb, ltb-true, ltb-false}
+use Rattle.std.proofs.Common.{sym, ap, ap₂, ◌∙◌, subst, arith, lt-ltb, le-ltb, ltb-true, ltb-false}
 use Rattle.std.proofs.lemmas.List.{get_or-take, get_or-drop, length-take-le, length-drop}
 use Rattle.std.proofs.lemmas.List.Recursion.{is_position_or_len}
 use Rattle.spec_tests.specs.Rules.{◌<?◌, pick, up_to, first}
 use Rattle.spec_tests.specs.Options.{first_of}
 use Rattle.spec_tests.specs.Laws.{from, begins, here, passed, past}
+use Rattle.spec_netlist.specs.Accept.{not_own_of}
+use Rattle.stored_view.specs.Own.{not_own_at}
 use Rattle.stored_view.specs.Scan.{from_moved, at_hit, stretch_hit, stretch_skip}
 
 unfoldable pub below : ℕ → ℕ → Option ℕ
@@ -49,6 +51,14 @@ none_below {n} {m} e = none_of (ltb m n) refl e
 pub first_of_below : (p : ℕ → Bool) (n : ℕ) → first_of p n ≡ below n (from p n 0)
 unfolding first_of below
 first_of_below p n = ap (λ (k : ℕ). pick (k <? n) (Some k) None) (begins p n)
+
+pub some_first : (p : ℕ → Bool) {n k : ℕ} → Some k ≡ first_of p n → (k < n) × (k ≡ first p n)
+some_first p {n} e =
+    let s = some_below (e ∙ first_of_below p n) in
+    (s.0, s.1 ∙ sym (begins p n))
+
+pub none_first : (p : ℕ → Bool) {n : ℕ} → None ≡ first_of p n → n ≤ first p n
+none_first p {n} e = subst (λ (k : ℕ). n ≤ k) (sym (begins p n)) (none_below (e ∙ first_of_below p n))
 
 -- ---- a search that goes on behind another ----
 
@@ -131,7 +141,7 @@ position_first p xs =
 
 -- ---- a stretch of a record's words: of those from a on below e ----
 
-part_long : (l : List ℕ) (a e : ℕ) → a ≤ e → e ≤ length l → length (take (e - a) (drop a l)) ≡ e - a
+pub part_long : (l : List ℕ) (a e : ℕ) → a ≤ e → e ≤ length l → length (take (e - a) (drop a l)) ≡ e - a
 part_long l a e h b = length-take-le (e - a) (drop a l) (omega (arith, length-drop a l))
 
 pub part_word : (l : List ℕ) (a e j : ℕ) → j < e - a → get_or (take (e - a) (drop a l)) j 0 ≡ get_or l (a + j) 0
@@ -160,3 +170,19 @@ module _ (p : ℕ → Bool) (n : ℕ) (l : List ℕ) (a e : ℕ) (h : a ≤ e) (
 
     pub words_clean : {r : Option ℕ} → None ≡ position q (take (e - a) (drop a l)) → r ≡ below n (from p n e) → r ≡ below n (from p n a)
     words_clean t u = stretch_clean (λ j. q (get_or (take (e - a) (drop a l)) j 0)) by_word (t ∙ position_first q (take (e - a) (drop a l))) u
+
+  -- its words are the record's own nets, of one kind and owner, with the bits from base on
+  module _ (ws : List ℕ) (earlier : List (List ℕ)) (k owner base : ℕ) (same : (j : ℕ) → a ≤ j → j < e → p j ≡ not_own_at ws earlier l k owner base a j) where
+    abbrev own : ℕ → Bool
+    own j = not_own_of ws earlier (get_or (take (e - a) (drop a l)) j 0) k owner (base + j)
+
+    by_own : (j : ℕ) → j < e - a → p (a + j) ≡ own j
+    by_own j i =
+        let z : base + (a + j - a) ≡ base + j = omega arith in
+        same (a + j) (omega arith) (omega arith) ∙ ap₂ (λ (x b : ℕ). not_own_of ws earlier x k owner b) (sym (part_word l a e j i)) z
+
+    pub own_found : {m : ℕ} → Some m ≡ first_of own (length (take (e - a) (drop a l))) → Some (a + m) ≡ below n (from p n a)
+    own_found t = stretch_found own by_own t
+
+    pub own_clean : {r : Option ℕ} → None ≡ first_of own (length (take (e - a) (drop a l))) → r ≡ below n (from p n e) → r ≡ below n (from p n a)
+    own_clean t u = stretch_clean own by_own t u

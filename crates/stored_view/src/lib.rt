@@ -2,7 +2,7 @@
 // cleared.
 #![tactic(auto)]
 
-ghost use Rattle.std.specs.Prelude.{◌≡◌, List, ℕ, ◌≤◌, ◌<◌, length, get_or, ◌+◌, position, Bool};
+ghost use Rattle.std.specs.Prelude.{◌≡◌, List, ℕ, ◌≤◌, ◌<◌, length, get_or, ◌+◌, position, Bool, IfSome};
 ghost use Rattle.spec_tests.specs.Rules.{◌<?◌};
 ghost use Rattle.spec_tests.specs.Laws.{from};
 ghost use Rattle.spec_tests.specs.Options.{first_of};
@@ -80,7 +80,7 @@ pub fn first_not_own(
     base: u32,
 ) -> Option<usize>
     requires { (Opened net.now) × (nets net.now ≤ length marks.now) × (base ≤ 65535) × (length own.now ≤ 65535) }
-    ensures { (earlier : List (List ℕ)) → Marked net.now earlier marks.now → result ≡ first_of (λ j. not_own_of net.now earlier (get_or own.now j 0) kind owner (base + j)) (length own.now) }
+    ensures { ((earlier : List (List ℕ)) → Marked net.now earlier marks.now → result ≡ first_of (λ j. not_own_of net.now earlier (get_or own.now j 0) kind owner (base + j)) (length own.now)) × IfSome result (λ i. i < length own.now) }
 {
     for (i, x) in own.iter().enumerate() {
         if not_own(net, marks, *x, kind, owner, base + i as u32) {
