@@ -7,4 +7,4 @@ use Rattle.spec_netlist.specs.Accept.{wrong_count}
 use Rattle.stored_check.proofs.first_count.Given as goal
 
 abbrev pub invariant-loop-t : goal.invariant-loop-t
-invariant-loop-t l = (l.t ≤ 5) × (first (wrong_count l.net) 5 ≡ from (wrong_count l.net) 5 l.t)
+invariant-loop-t l = first (wrong_count l.net) 5 ≡ from (wrong_count l.net) 5 l.t

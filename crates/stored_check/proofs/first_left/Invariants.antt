@@ -7,4 +7,4 @@ use Rattle.spec_netlist.specs.Accept.{nets, alone}
 use Rattle.stored_check.proofs.first_left.Given as goal
 
 abbrev pub invariant-loop-n : goal.invariant-loop-n
-invariant-loop-n l = (l.n ≤ nets l.net) × (first (alone l.net) (nets l.net) ≡ from (alone l.net) (nets l.net) l.n)
+invariant-loop-n l = first (alone l.net) (nets l.net) ≡ from (alone l.net) (nets l.net) l.n

@@ -1,8 +1,6 @@
 -- `stored_marks::mark` meets its contract. Assumes nothing.
-use Rattle.std.proofs.Common.{List, ℕ, ap, ◌∙◌, arith, get_or}
-use Rattle.std.proofs.Math.Seq.{take_all}
-use Rattle.spec_tests.specs.Rules.{◌≢?◌, ◌or◌}
-use Rattle.spec_netlist.specs.Accept.{member}
+use Rattle.std.proofs.Common.{arith, get_or}
+use Rattle.spec_tests.specs.Rules.{◌≢?◌}
 use Rattle.stored_marks.specs.Keep.{mark_start, mark_step}
 use Rattle.stored_marks.proofs.mark.Goals as goal
 
@@ -11,6 +9,3 @@ loop-x-init c = λ x h. mark_start (get_or c.args.marks.now x 0 ≢? 0) x c.args
 
 pub loop-x-preserved : goal.loop-x-preserved
 loop-x-preserved c = λ x h. mark_step (get_or c.args.marks.now x 0 ≢? 0) _ _ x c.loop-x.x-index c.args.own.now (omega arith) (c.loop-x.invariant x h) (c.mark_one.ensures x (omega arith))
-
-pub returns : goal.returns
-returns c = λ x h. c.loop-x.invariant x h ∙ ap (λ (t : List ℕ). (get_or c.args.marks.now x 0 ≢? 0) or member x t) (take_all c.loop-x.x-index c.args.own.now (omega arith))

@@ -1,5 +1,5 @@
 -- `stored_marks::mark` meets its contract. Assumes nothing.
-use Prim.Native.Nat.{ℕ, ◌≤◌, ◌<◌, ◌-◌}
+use Prim.Native.Nat.{ℕ, ◌<◌}
 use mathlib.Core.Path.{◌≡◌}
 use lib.ListN.{length, take, get_or}
 use Rattle.spec_tests.specs.Rules.{◌≢?◌, ◌or◌}

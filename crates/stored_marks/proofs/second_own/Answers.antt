@@ -8,8 +8,8 @@ use Rattle.stored_marks.proofs.second_own.Goals.{then-word_at-ne-MEMORY_RECORD-v
 pub returns-then-word_at-ne-MEMORY_RECORD : goal.returns-then-word_at-ne-MEMORY_RECORD
 returns-then-word_at-ne-MEMORY_RECORD c =
     elim c.then-word_at-ne-MEMORY_RECORD.branch [
-    | then-word_at-ne-MEMORY_RECORD-via-then-word_at-ne-MEMORY_RECORD w ↦ second_sort c.args.r.now (λ e. w.if-word_at-ne-MEMORY_RECORD.true (c.word_at.ensures ∙ e))
-    | then-word_at-ne-MEMORY_RECORD-via-else-word_at-ne-MEMORY_RECORD+then-word_at-ne2 w ↦ second_count c.args.r.now (λ e. w.if-word_at-ne2.true (w.word_at-else-word_at-ne-MEMORY_RECORD.ensures ∙ e))
+      | then-word_at-ne-MEMORY_RECORD-via-then-word_at-ne-MEMORY_RECORD w ↦ second_sort c.args.r.now (λ e. w.if-word_at-ne-MEMORY_RECORD.true (c.word_at.ensures ∙ e))
+      | then-word_at-ne-MEMORY_RECORD-via-else-word_at-ne-MEMORY_RECORD+then-word_at-ne2 w ↦ second_count c.args.r.now (λ e. w.if-word_at-ne2.true (w.word_at-else-word_at-ne-MEMORY_RECORD.ensures ∙ e))
     ]
 
 pub returns : goal.returns
