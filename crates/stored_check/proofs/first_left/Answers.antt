@@ -7,9 +7,6 @@ use Rattle.stored_check.proofs.first_left.Goals as goal
 pub loop-n-init : goal.loop-n-init
 loop-n-init c = begins _ _
 
-pub is_left-requires : goal.is_left-requires
-is_left-requires c = (c.requires.0, c.requires.1, c.requires.2, omega arith)
-
 pub returns-then-is_left : goal.returns-then-is_left
 returns-then-is_left c = sym (first_some _ _ _ (omega arith) (found _ _ _ (omega arith) c.loop-n.invariant (sym c.is_left.ensures ∙ c.if-is_left.true)))
 

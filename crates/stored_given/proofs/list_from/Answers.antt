@@ -7,7 +7,7 @@ use Rattle.stored_given.specs.Records.{list_none}
 use Rattle.stored_given.proofs.list_from.Goals as goal
 
 pub returns-then-used-p : goal.returns-then-used-p
-returns-then-used-p c = c.stretch.ensures ∙ list_none c.args.net.now c.args.p (omega (arith, c.word_at-used.ensures))
+returns-then-used-p c = list_none c.args.net.now c.args.p (omega (arith, c.word_at-used.ensures))
 
 pub returns : goal.returns
-returns c = c.stretch-2.ensures ∙ ap₂ (λ (u a : ℕ). take (u - c.args.p) (drop (a + c.args.p) c.args.net.now)) c.word_at-used.ensures c.word_at.ensures
+returns c = c.stretch.ensures ∙ ap₂ (λ (u a : ℕ). take (u - c.args.p) (drop (a + c.args.p) c.args.net.now)) c.word_at-used.ensures c.word_at.ensures

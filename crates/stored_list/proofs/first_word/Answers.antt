@@ -1,14 +1,11 @@
 -- `stored_list::first_word` meets its contract. Assumes nothing.
 use Rattle.std.proofs.Common.{refl, true≢false, arith}
 use Rattle.stored_view.specs.Clear.{cleared_word}
-use Rattle.stored_list.specs.Walking.{start, met_some, met_short, met_found, met_room, met_clean, met_fits, met_some_more, met_sort, met_next, last_told, last_marked, last_counted, counts_room}
+use Rattle.stored_list.specs.Walking.{start, met_found, met_room, met_clean, met_fits, met_some_more, met_sort, met_next, last_told, last_marked, last_counted, counts_room}
 use Rattle.stored_list.proofs.first_word.Goals as goal
 
 pub loop-p-init : goal.loop-p-init
 loop-p-init c = start c.args.net.now _ c.args.counts.now (λ x h. cleared_word c.args.marks.now _ _ x c.requires.1 (c.fill.ensures.after (λ y e. e)) h) c.requires.2
-
-pub first_in_record-requires : goal.first_in_record-requires
-first_in_record-requires c = (c.requires.0, omega arith, met_some c.loop-p.invariant c.requires.0 (omega arith) c.stretch-l.ensures, met_short c.loop-p.invariant c.requires.0 (omega arith) c.stretch-l.ensures)
 
 pub overflow_add-result : goal.overflow_add-result
 overflow_add-result c = let w = c.loop-p.invariant in omega (arith, c.requires.0.few_words_of, met_room w c.requires.0 (omega arith) c.stretch-l.ensures (c.in-Some.ensures w.earlier w.marked w.counted))

@@ -1,7 +1,5 @@
 -- `stored_list::first_word` meets its contract. Assumes nothing.
 use Prim.Native.Nat.{◌-◌}
-use mathlib.Core.Path.{◌≡◌}
-use lib.ListN.{length}
 use Rattle.stored_list.specs.Walking.{Walking}
 use Rattle.stored_list.proofs.first_word.Given as goal
 
