@@ -1,8 +1,6 @@
 -- `stored_check::check_list` meets its contract. Assumes nothing.
-use Rattle.std.proofs.Common.{refl, arith}
 use Rattle.check_image.specs.Checked.{then_fine, then_refused}
 use Rattle.stored_check.specs.Answer.{answer_of}
-use Rattle.stored_check.specs.Stages.{zeros}
 use Rattle.stored_check.proofs.check_list.Goals as goal
 
 pub returns-in-Some : goal.returns-in-Some

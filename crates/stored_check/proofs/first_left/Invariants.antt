@@ -1,5 +1,4 @@
 -- `stored_check::first_left` meets its contract. Assumes nothing.
-use Prim.Native.Nat.{◌≤◌, ◌-◌}
 use mathlib.Core.Path.{◌≡◌}
 use Rattle.spec_tests.specs.Rules.{first}
 use Rattle.spec_tests.specs.Laws.{from}
