@@ -22,6 +22,14 @@ pub fn lay_firsts(image: &[u8], firsts: &mut [u32]) -> u32
     sum
 }
 
+// An image whose signals keep their rules, and each signal's first bit.
+#[derive(Clone, Copy)]
+pub struct Signals<'a> {
+    pub image: &'a [u8],
+    pub firsts: &'a [u32],
+    ghost laid: { Firsts image.now firsts.now },
+}
+
 // One of the n bits from at on is marked.
 fn any_marked(taken: &[u8], at: usize, n: u32) -> bool
     requires { at + n ≤ length taken.now }
@@ -38,30 +46,6 @@ fn mark(taken: &mut [u8], at: usize, n: u32)
     taken[at..at + n as usize].fill(1);
 }
 
-// Where bit b of signal p stands.
-fn place(image: &[u8], firsts: &[u32], p: u32, b: u32) -> usize
-    requires { (Firsts image.now firsts.now) × (p < count_at_of image.now 0) }
-    ensures { result ≡ sum_to (signal_width image.now) p + b }
-{
-    firsts[p as usize] as usize + b as usize
-}
-
-// One of the w bits of signal p from at on has a driver.
-fn is_marked(image: &[u8], firsts: &[u32], taken: &[u8], p: u32, at: u32, w: u32) -> bool
-    requires { (Firsts image.now firsts.now) × (signal_bits image.now ≤ length taken.now) × (p < count_at_of image.now 0) × (1 ≤ w) × (at + w ≤ signal_width image.now p) }
-    ensures { (a i j : ℕ) → Marks image.now a i j taken.now → result ≡ (assigned image.now a p at w or targeted image.now i p or read_into image.now j p) }
-{
-    any_marked(taken, place(image, firsts, p, at), w)
-}
-
-// An assignment drives one of the w bits of signal p from at on, where only assignments have been marked.
-pub fn is_assigned(image: &[u8], firsts: &[u32], taken: &[u8], p: u32, at: u32, w: u32) -> bool
-    requires { (Firsts image.now firsts.now) × (signal_bits image.now ≤ length taken.now) × (p < count_at_of image.now 0) × (1 ≤ w) × (at + w ≤ signal_width image.now p) }
-    ensures { (a : ℕ) → Marks image.now a 0 0 taken.now → result ≡ assigned image.now a p at w }
-{
-    is_marked(image, firsts, taken, p, at, w)
-}
-
 // Signal p is an input.
 pub fn is_input(image: &[u8], p: u32) -> bool
     ensures { result ≡ is_input image.now p }
@@ -69,43 +53,55 @@ pub fn is_input(image: &[u8], p: u32) -> bool
     image_fields::record_field(image, image_fields::SIGNALS, p, 3) == 1
 }
 
-// Signal p has a driver, where all assignments have been marked.
-pub fn is_driven(image: &[u8], firsts: &[u32], taken: &[u8], p: u32) -> bool
-    requires { (Firsts image.now firsts.now) × (signal_bits image.now ≤ length taken.now) × (p < count_at_of image.now 0) }
-    ensures { (i j : ℕ) → Marks image.now (count_at_of image.now 3) i j taken.now → result ≡ driven image.now i j p }
-{
-    if is_input(image, p) {
-        return true;
+impl<'a> Signals<'a> {
+    // Where bit b of signal p stands.
+    fn place(self, p: u32, b: u32) -> usize
+        requires { p < count_at_of self.image.now 0 }
+        ensures { result ≡ sum_to (signal_width self.entry.image.now) p + b }
+    {
+        self.firsts[p as usize] as usize + b as usize
     }
-    is_marked(
-        image,
-        firsts,
-        taken,
-        p,
-        0,
-        image_fields::signal_width(image, p),
-    )
-}
 
-// Marks w bits of signal p from at on.
-pub fn mark_bits(image: &[u8], firsts: &[u32], taken: &mut [u8], p: u32, at: u32, w: u32)
-    requires { (Firsts image.now firsts.now) × (signal_bits image.now ≤ length taken.old) × (p < count_at_of image.now 0) × (at + w ≤ signal_width image.now p) }
-    ensures { Marked (sum_to (signal_width image.now) p + at) w taken.old taken.new }
-{
-    mark(taken, place(image, firsts, p, at), w);
-}
+    // One of the w bits of signal p from at on has a driver.
+    fn is_marked(self, taken: &[u8], p: u32, at: u32, w: u32) -> bool
+        requires { (signal_bits self.image.now ≤ length taken.now) × (p < count_at_of self.image.now 0) × (1 ≤ w) × (at + w ≤ signal_width self.image.now p) }
+        ensures { (a i j : ℕ) → Marks self.entry.image.now a i j taken.now → result ≡ (assigned self.entry.image.now a p at w or targeted self.entry.image.now i p or read_into self.entry.image.now j p) }
+    {
+        any_marked(taken, self.place(p, at), w)
+    }
 
-// Marks all bits of signal p.
-pub fn mark_signal(image: &[u8], firsts: &[u32], taken: &mut [u8], p: u32)
-    requires { (Firsts image.now firsts.now) × (signal_bits image.now ≤ length taken.old) × (p < count_at_of image.now 0) }
-    ensures { Marked (sum_to (signal_width image.now) p + 0) (signal_width image.now p) taken.old taken.new }
-{
-    mark_bits(
-        image,
-        firsts,
-        taken,
-        p,
-        0,
-        image_fields::signal_width(image, p),
-    );
+    // An assignment drives one of the w bits of signal p from at on, where only assignments have been marked.
+    pub fn is_assigned(self, taken: &[u8], p: u32, at: u32, w: u32) -> bool
+        requires { (signal_bits self.image.now ≤ length taken.now) × (p < count_at_of self.image.now 0) × (1 ≤ w) × (at + w ≤ signal_width self.image.now p) }
+        ensures { (a : ℕ) → Marks self.entry.image.now a 0 0 taken.now → result ≡ assigned self.entry.image.now a p at w }
+    {
+        self.is_marked(taken, p, at, w)
+    }
+
+    // Signal p has a driver, where all assignments have been marked.
+    pub fn is_driven(self, taken: &[u8], p: u32) -> bool
+        requires { (signal_bits self.image.now ≤ length taken.now) × (p < count_at_of self.image.now 0) }
+        ensures { (i j : ℕ) → Marks self.entry.image.now (count_at_of self.entry.image.now 3) i j taken.now → result ≡ driven self.entry.image.now i j p }
+    {
+        if is_input(self.image, p) {
+            return true;
+        }
+        self.is_marked(taken, p, 0, image_fields::signal_width(self.image, p))
+    }
+
+    // Marks w bits of signal p from at on.
+    pub fn mark_bits(self, taken: &mut [u8], p: u32, at: u32, w: u32)
+        requires { (signal_bits self.image.now ≤ length taken.old) × (p < count_at_of self.image.now 0) × (at + w ≤ signal_width self.image.now p) }
+        ensures { Marked (sum_to (signal_width self.entry.image.now) p + at) w taken.old taken.new }
+    {
+        mark(taken, self.place(p, at), w);
+    }
+
+    // Marks all bits of signal p.
+    pub fn mark_signal(self, taken: &mut [u8], p: u32)
+        requires { (signal_bits self.image.now ≤ length taken.old) × (p < count_at_of self.image.now 0) }
+        ensures { Marked (sum_to (signal_width self.entry.image.now) p + 0) (signal_width self.entry.image.now p) taken.old taken.new }
+    {
+        self.mark_bits(taken, p, 0, image_fields::signal_width(self.image, p));
+    }
 }

@@ -4,9 +4,11 @@
 ghost use Rattle.std.specs.Prelude.{◌≡◌, ◌≤◌, length};
 ghost use Rattle.spec_rules.specs.Image.{count_at_of};
 ghost use Rattle.spec_rules.specs.Checks as rule;
-ghost use Rattle.check_drivers.specs.Bits.{SignalsFit, Firsts, Marks};
+ghost use Rattle.check_drivers.specs.Bits.{SignalsFit, Marks};
 ghost use Rattle.check_image.specs.Accepted.{Counts};
 ghost use Rattle.check_image.specs.Checked.{answer_of, drivers_then, records_then};
+
+use check_drivers::Signals;
 
 // Why an image is refused: its numbers are those of docs/RULES.md, 1 to 5.
 #[derive(Clone, Copy, Debug, PartialEq, Eq)]
@@ -18,44 +20,33 @@ pub enum Refusal {
     ScratchShort,
 }
 
-// The answer of the assignments, registers, memories and the scratch; firsts has each signal's first bit, and taken no marked bit.
-fn check_sections(
-    image: &[u8],
-    firsts: &[u32],
-    taken: &mut [u8],
-    n: u32,
-    scratch: usize,
-) -> Result<(), Refusal>
-    requires { (Counts image.now) × (rule.expr_bits image.now ≤ 32768) × (Firsts image.now firsts.now) × (Marks image.now 0 0 0 taken.old) }
-    ensures { answer_of result ≡ drivers_then image.now n scratch }
+// The answer of the assignments, registers, memories and the scratch; taken has no marked bit.
+fn check_sections(signals: Signals, taken: &mut [u8], n: u32, scratch: usize) -> Result<(), Refusal>
+    requires { let s = signals.image.now in (Counts s) × (rule.expr_bits s ≤ 32768) × (Marks s 0 0 0 taken.old) }
+    ensures { answer_of result ≡ drivers_then signals.entry.image.now n scratch }
 {
-    if let Some(r) = check_assignments::first_assign(image, firsts, taken) {
+    if let Some(r) = check_assignments::first_assign(signals, taken) {
         return Err(Refusal::Record(3, r));
     }
-    if let Some(r) = check_registers::first_register(image, firsts, taken) {
+    if let Some(r) = check_registers::first_register(signals, taken) {
         return Err(Refusal::Record(4, r));
     }
-    if let Some(r) = check_memories::first_memory(image, firsts, taken) {
+    if let Some(r) = check_memories::first_memory(signals, taken) {
         return Err(Refusal::Record(5, r));
     }
-    if check_header::scratch_short(image, n, scratch) {
+    if check_header::scratch_short(signals.image, n, scratch) {
         return Err(Refusal::ScratchShort);
     }
     Ok(())
 }
 
-// The same, with a table for B bits; firsts has room for the signals.
-fn check_bits<const B: usize>(
-    image: &[u8],
-    firsts: &[u32],
-    n: u32,
-    scratch: usize,
-) -> Result<(), Refusal>
-    requires { (Counts image.now) × (rule.expr_bits image.now ≤ 32768) × (Firsts image.now firsts.now) × (rule.signal_bits image.now ≤ B) × (B ≤ 65536) }
-    ensures { answer_of result ≡ drivers_then image.now n scratch }
+// The same, with a table for B bits.
+fn check_bits<const B: usize>(signals: Signals, n: u32, scratch: usize) -> Result<(), Refusal>
+    requires { let s = signals.image.now in (Counts s) × (rule.expr_bits s ≤ 32768) × (rule.signal_bits s ≤ B) × (B ≤ 65536) }
+    ensures { answer_of result ≡ drivers_then signals.entry.image.now n scratch }
 {
     let mut taken: [u8; B] = [0; B];
-    check_sections(image, firsts, &mut taken, n, scratch)
+    check_sections(signals, &mut taken, n, scratch)
 }
 
 // The same, with a table for S signals; the bits have a table of 256 where there are no more.
@@ -64,10 +55,15 @@ fn check_drivers<const S: usize>(image: &[u8], n: u32, scratch: usize) -> Result
     ensures { answer_of result ≡ drivers_then image.now n scratch }
 {
     let mut firsts: [u32; S] = [0; S];
-    if check_drivers::lay_firsts(image, &mut firsts) <= 256 {
-        check_bits::<256>(image, &firsts, n, scratch)
+    let bits = check_drivers::lay_firsts(image, &mut firsts);
+    let signals = Signals {
+        image,
+        firsts: &firsts,
+    };
+    if bits <= 256 {
+        check_bits::<256>(signals, n, scratch)
     } else {
-        check_bits::<4096>(image, &firsts, n, scratch)
+        check_bits::<4096>(signals, n, scratch)
     }
 }
 

@@ -6,8 +6,10 @@ ghost use Rattle.std.specs.Prelude.{false, ◌≡◌, ◌+◌, ◌≤◌};
 ghost use Rattle.spec_tests.specs.Options.{first_of};
 ghost use Rattle.spec_rules.specs.Image.{count_at_of};
 ghost use Rattle.spec_rules.specs.Checks.{bad_address, bad_port, bad_second, bad_memory};
-ghost use Rattle.check_drivers.specs.Bits.{Firsts, Marks};
+ghost use Rattle.check_drivers.specs.Bits.{Marks};
 ghost use Rattle.check_memories.specs.Memory.{bad_read, bad_write, bad_shape, bad_rest};
+
+use check_drivers::Signals;
 
 // Expression e is not there or no address.
 fn bad_address(image: &[u8], e: u32) -> bool
@@ -70,10 +72,11 @@ fn bad_write(image: &[u8], r: u32, f: u32, w: u32) -> bool
 }
 
 // The port of memory r whose fields begin at f; the bits that the assignments, the registers and the memories before it drive are marked.
-fn bad_port(image: &[u8], firsts: &[u32], taken: &[u8], r: u32, f: u32, w: u32) -> bool
-    requires { (Firsts image.now firsts.now) × (Marks image.now (count_at_of image.now 3) (count_at_of image.now 4) r taken.now) × (f ≤ 17) }
-    ensures { result ≡ bad_port image.now r f w }
+fn bad_port(signals: Signals, taken: &[u8], r: u32, f: u32, w: u32) -> bool
+    requires { let s = signals.image.now in (Marks s (count_at_of s 3) (count_at_of s 4) r taken.now) × (f ≤ 17) }
+    ensures { result ≡ bad_port signals.entry.image.now r f w }
 {
+    let image = signals.image;
     let p = image_fields::record_field(image, image_fields::MEMORIES, r, f + 1);
     if bad_read(image, r, f, w, p) {
         return true;
@@ -81,14 +84,15 @@ fn bad_port(image: &[u8], firsts: &[u32], taken: &[u8], r: u32, f: u32, w: u32) 
     if bad_write(image, r, f, w) {
         return true;
     }
-    check_drivers::is_driven(image, firsts, taken, p)
+    signals.is_driven(taken, p)
 }
 
 // The second port of memory r, where k says whether it is there.
-fn bad_second(image: &[u8], firsts: &[u32], taken: &[u8], r: u32, k: u32, w: u32) -> bool
-    requires { (Firsts image.now firsts.now) × (Marks image.now (count_at_of image.now 3) (count_at_of image.now 4) r taken.now) }
-    ensures { result ≡ bad_second image.now r k w }
+fn bad_second(signals: Signals, taken: &[u8], r: u32, k: u32, w: u32) -> bool
+    requires { let s = signals.image.now in Marks s (count_at_of s 3) (count_at_of s 4) r taken.now }
+    ensures { result ≡ bad_second signals.entry.image.now r k w }
 {
+    let image = signals.image;
     if k == 0 {
         return check_references::not_zero(
             image,
@@ -101,7 +105,7 @@ fn bad_second(image: &[u8], firsts: &[u32], taken: &[u8], r: u32, k: u32, w: u32
     if k != 1 {
         return true;
     }
-    if bad_port(image, firsts, taken, r, image_fields::SECOND_PORT, w) {
+    if bad_port(signals, taken, r, image_fields::SECOND_PORT, w) {
         return true;
     }
     image_fields::record_field(image, image_fields::MEMORIES, r, image_fields::SECOND_DATA)
@@ -129,10 +133,11 @@ fn bad_shape(image: &[u8], r: u32, w: u32) -> bool
 }
 
 // Memory r but for its name.
-fn bad_rest(image: &[u8], firsts: &[u32], taken: &[u8], r: u32) -> bool
-    requires { (Firsts image.now firsts.now) × (Marks image.now (count_at_of image.now 3) (count_at_of image.now 4) r taken.now) }
-    ensures { result ≡ bad_rest image.now r }
+fn bad_rest(signals: Signals, taken: &[u8], r: u32) -> bool
+    requires { let s = signals.image.now in Marks s (count_at_of s 3) (count_at_of s 4) r taken.now }
+    ensures { result ≡ bad_rest signals.entry.image.now r }
 {
+    let image = signals.image;
     let w = image_fields::signal_width(
         image,
         image_fields::record_field(image, image_fields::MEMORIES, r, image_fields::FIRST_DATA),
@@ -140,47 +145,48 @@ fn bad_rest(image: &[u8], firsts: &[u32], taken: &[u8], r: u32) -> bool
     if bad_shape(image, r, w) {
         return true;
     }
-    if bad_port(image, firsts, taken, r, image_fields::FIRST_PORT, w) {
+    if bad_port(signals, taken, r, image_fields::FIRST_PORT, w) {
         return true;
     }
     let k = image_fields::record_field(image, image_fields::MEMORIES, r, image_fields::HAS_SECOND);
-    bad_second(image, firsts, taken, r, k, w)
+    bad_second(signals, taken, r, k, w)
 }
 
 // Marks the read data of memory r, which breaks no rule.
-fn mark_memory(image: &[u8], firsts: &[u32], taken: &mut [u8], r: u32)
-    requires { (Firsts image.now firsts.now) × (Marks image.now (count_at_of image.now 3) (count_at_of image.now 4) r taken.old) × (bad_rest image.now r ≡ false) }
-    ensures { Marks image.now (count_at_of image.now 3) (count_at_of image.now 4) (r + 1) taken.new }
+fn mark_memory(signals: Signals, taken: &mut [u8], r: u32)
+    requires { let s = signals.image.now in (Marks s (count_at_of s 3) (count_at_of s 4) r taken.old) × (bad_rest s r ≡ false) }
+    ensures { let s = signals.entry.image.now in Marks s (count_at_of s 3) (count_at_of s 4) (r + 1) taken.new }
 {
+    let image = signals.image;
     let p = image_fields::record_field(image, image_fields::MEMORIES, r, image_fields::FIRST_DATA);
-    check_drivers::mark_signal(image, firsts, taken, p);
+    signals.mark_signal(taken, p);
     if image_fields::record_field(image, image_fields::MEMORIES, r, image_fields::HAS_SECOND) != 1 {
         return;
     }
     let q = image_fields::record_field(image, image_fields::MEMORIES, r, image_fields::SECOND_DATA);
-    check_drivers::mark_signal(image, firsts, taken, q);
+    signals.mark_signal(taken, q);
 }
 
 // Memory r breaks another rule than that of names; the read data of one that breaks none are marked.
-fn check_rest(image: &[u8], firsts: &[u32], taken: &mut [u8], r: u32) -> bool
-    requires { (Firsts image.now firsts.now) × (Marks image.now (count_at_of image.now 3) (count_at_of image.now 4) r taken.old) }
-    ensures { (result ≡ bad_rest image.now r) × (result ≡ false → Marks image.now (count_at_of image.now 3) (count_at_of image.now 4) (r + 1) taken.new) }
+fn check_rest(signals: Signals, taken: &mut [u8], r: u32) -> bool
+    requires { let s = signals.image.now in Marks s (count_at_of s 3) (count_at_of s 4) r taken.old }
+    ensures { let s = signals.entry.image.now in (result ≡ bad_rest s r) × (result ≡ false → Marks s (count_at_of s 3) (count_at_of s 4) (r + 1) taken.new) }
 {
-    if bad_rest(image, firsts, taken, r) {
+    if bad_rest(signals, taken, r) {
         return true;
     }
-    mark_memory(image, firsts, taken, r);
+    mark_memory(signals, taken, r);
     false
 }
 
 // The first memory that breaks another rule than that of names.
-fn first_rest(image: &[u8], firsts: &[u32], taken: &mut [u8]) -> Option<u32>
-    requires { (Firsts image.now firsts.now) × (Marks image.now (count_at_of image.now 3) (count_at_of image.now 4) 0 taken.old) }
-    ensures { result ≡ first_of (bad_rest image.now) (count_at_of image.now 5) }
+fn first_rest(signals: Signals, taken: &mut [u8]) -> Option<u32>
+    requires { let s = signals.image.now in Marks s (count_at_of s 3) (count_at_of s 4) 0 taken.old }
+    ensures { let s = signals.entry.image.now in result ≡ first_of (bad_rest s) (count_at_of s 5) }
 {
-    let n = image_fields::count(image, image_fields::MEMORIES);
+    let n = image_fields::count(signals.image, image_fields::MEMORIES);
     for r in 0..n {
-        if check_rest(image, firsts, taken, r) {
+        if check_rest(signals, taken, r) {
             return Some(r);
         }
     }
@@ -188,12 +194,12 @@ fn first_rest(image: &[u8], firsts: &[u32], taken: &mut [u8]) -> Option<u32>
 }
 
 // The first memory record that breaks a rule.
-pub fn first_memory(image: &[u8], firsts: &[u32], taken: &mut [u8]) -> Option<u32>
-    requires { (count_at_of image.now 5 ≤ 16) × (Firsts image.now firsts.now) × (Marks image.now (count_at_of image.now 3) (count_at_of image.now 4) 0 taken.old) }
-    ensures { result ≡ first_of (bad_memory image.now) (count_at_of image.now 5) }
+pub fn first_memory(signals: Signals, taken: &mut [u8]) -> Option<u32>
+    requires { let s = signals.image.now in (count_at_of s 5 ≤ 16) × (Marks s (count_at_of s 3) (count_at_of s 4) 0 taken.old) }
+    ensures { let s = signals.entry.image.now in result ≡ first_of (bad_memory s) (count_at_of s 5) }
 {
     check_names::earlier(
-        check_names::first_name(image, image_fields::MEMORIES),
-        first_rest(image, firsts, taken),
+        check_names::first_name(signals.image, image_fields::MEMORIES),
+        first_rest(signals, taken),
     )
 }

@@ -6,8 +6,10 @@ ghost use Rattle.std.specs.Prelude.{false, None, ◌≡◌, ◌+◌, ◌≤◌};
 ghost use Rattle.spec_tests.specs.Options.{first_of};
 ghost use Rattle.spec_rules.specs.Image.{count_at_of};
 ghost use Rattle.spec_rules.specs.Checks.{bad_reset, bad_register};
-ghost use Rattle.check_drivers.specs.Bits.{Firsts, Marks};
+ghost use Rattle.check_drivers.specs.Bits.{Marks};
 ghost use Rattle.check_registers.specs.Register.{bad_rest, bad_rest_of};
+
+use check_drivers::Signals;
 
 // The reset of register r, whose target is w wide.
 fn bad_reset(image: &[u8], r: u32, w: u32) -> bool
@@ -30,10 +32,11 @@ fn bad_reset(image: &[u8], r: u32, w: u32) -> bool
 }
 
 // Register r, whose target is signal p, but for its name; the bits that the assignments and the registers before it drive are marked.
-fn bad_rest_of(image: &[u8], firsts: &[u32], taken: &[u8], r: u32, p: u32) -> bool
-    requires { (Firsts image.now firsts.now) × (Marks image.now (count_at_of image.now 3) r 0 taken.now) }
-    ensures { result ≡ bad_rest_of image.now r p }
+fn bad_rest_of(signals: Signals, taken: &[u8], r: u32, p: u32) -> bool
+    requires { let s = signals.image.now in Marks s (count_at_of s 3) r 0 taken.now }
+    ensures { result ≡ bad_rest_of signals.entry.image.now r p }
 {
+    let image = signals.image;
     if check_references::no_signal(image, p) {
         return true;
     }
@@ -60,30 +63,30 @@ fn bad_rest_of(image: &[u8], firsts: &[u32], taken: &[u8], r: u32, p: u32) -> bo
     if bad_reset(image, r, w) {
         return true;
     }
-    check_drivers::is_driven(image, firsts, taken, p)
+    signals.is_driven(taken, p)
 }
 
 // Register r breaks another rule than that of names; the bits of the target of one that breaks none are marked.
-fn check_rest(image: &[u8], firsts: &[u32], taken: &mut [u8], r: u32) -> bool
-    requires { (Firsts image.now firsts.now) × (Marks image.now (count_at_of image.now 3) r 0 taken.old) }
-    ensures { (result ≡ bad_rest image.now r) × (result ≡ false → Marks image.now (count_at_of image.now 3) (r + 1) 0 taken.new) }
+fn check_rest(signals: Signals, taken: &mut [u8], r: u32) -> bool
+    requires { let s = signals.image.now in Marks s (count_at_of s 3) r 0 taken.old }
+    ensures { let s = signals.entry.image.now in (result ≡ bad_rest s r) × (result ≡ false → Marks s (count_at_of s 3) (r + 1) 0 taken.new) }
 {
-    let p = image_fields::record_field(image, image_fields::REGISTERS, r, 2);
-    if bad_rest_of(image, firsts, taken, r, p) {
+    let p = image_fields::record_field(signals.image, image_fields::REGISTERS, r, 2);
+    if bad_rest_of(signals, taken, r, p) {
         return true;
     }
-    check_drivers::mark_signal(image, firsts, taken, p);
+    signals.mark_signal(taken, p);
     false
 }
 
 // The first register that breaks another rule than that of names; where none does, the bits of all targets are marked.
-fn first_rest(image: &[u8], firsts: &[u32], taken: &mut [u8]) -> Option<u32>
-    requires { (Firsts image.now firsts.now) × (Marks image.now (count_at_of image.now 3) 0 0 taken.old) }
-    ensures { (result ≡ first_of (bad_rest image.now) (count_at_of image.now 4)) × (result ≡ None → Marks image.now (count_at_of image.now 3) (count_at_of image.now 4) 0 taken.new) }
+fn first_rest(signals: Signals, taken: &mut [u8]) -> Option<u32>
+    requires { let s = signals.image.now in Marks s (count_at_of s 3) 0 0 taken.old }
+    ensures { let s = signals.entry.image.now in (result ≡ first_of (bad_rest s) (count_at_of s 4)) × (result ≡ None → Marks s (count_at_of s 3) (count_at_of s 4) 0 taken.new) }
 {
-    let n = image_fields::count(image, image_fields::REGISTERS);
+    let n = image_fields::count(signals.image, image_fields::REGISTERS);
     for r in 0..n {
-        if check_rest(image, firsts, taken, r) {
+        if check_rest(signals, taken, r) {
             return Some(r);
         }
     }
@@ -91,12 +94,12 @@ fn first_rest(image: &[u8], firsts: &[u32], taken: &mut [u8]) -> Option<u32>
 }
 
 // The first register record that breaks a rule; where none does, the bits of all targets are marked.
-pub fn first_register(image: &[u8], firsts: &[u32], taken: &mut [u8]) -> Option<u32>
-    requires { (count_at_of image.now 4 ≤ 256) × (Firsts image.now firsts.now) × (Marks image.now (count_at_of image.now 3) 0 0 taken.old) }
-    ensures { (result ≡ first_of (bad_register image.now) (count_at_of image.now 4)) × (result ≡ None → Marks image.now (count_at_of image.now 3) (count_at_of image.now 4) 0 taken.new) }
+pub fn first_register(signals: Signals, taken: &mut [u8]) -> Option<u32>
+    requires { let s = signals.image.now in (count_at_of s 4 ≤ 256) × (Marks s (count_at_of s 3) 0 0 taken.old) }
+    ensures { let s = signals.entry.image.now in (result ≡ first_of (bad_register s) (count_at_of s 4)) × (result ≡ None → Marks s (count_at_of s 3) (count_at_of s 4) 0 taken.new) }
 {
     check_names::earlier(
-        check_names::first_name(image, image_fields::REGISTERS),
-        first_rest(image, firsts, taken),
+        check_names::first_name(signals.image, image_fields::REGISTERS),
+        first_rest(signals, taken),
     )
 }

@@ -55,8 +55,7 @@ returns-then-is_input c =
 
 pub is_assigned-requires : goal.is_assigned-requires
 is_assigned-requires c = (
-  c.requires.0,
-  c.requires.1,
+  c.requires,
   is_signal _ _ (sym c.no_signal.ensures ∙ c.if-no_signal.false),
   (inside _ _ _ (sym c.is_outside.ensures ∙ c.if-is_outside.false)).0,
   no_lt _ _ (sym (rw c.signal_width.ensures at c.below_sum.ensures) ∙ c.if-below_sum.false),

@@ -10,7 +10,7 @@ use borrow.Author.Rules.{rules}
 use Rattle.check_assignments.proofs.first_assign.Goals as goal
 
 pub loop-r-init : goal.loop-r-init
-loop-r-init c = (omega arith, begins _ _, c.requires.1, refl)
+loop-r-init c = (omega arith, begins _ _, c.requires, refl)
 
 pub returns-then-check_assign : goal.returns-then-check_assign
 returns-then-check_assign c = (
@@ -28,7 +28,7 @@ loop-r-preserved c = (
 
 pub returns : goal.returns
 returns c =
-    let e : c.loop-r.r ≡ count_at_of c.args.image.now 3 = omega arith in (
+    let e : c.loop-r.r ≡ count_at_of c.args.signals.image.now 3 = omega arith in (
       sym (first_none _ _ (ended _ _ _ (omega arith) (omega arith) c.loop-r.invariant.1)),
-      λ h. subst (λ (k : ℕ). Marks c.args.image.now k 0 0 c.loop-r.taken) e c.loop-r.invariant.2,
+      λ h. subst (λ (k : ℕ). Marks c.args.signals.image.now k 0 0 c.loop-r.taken) e c.loop-r.invariant.2,
     )

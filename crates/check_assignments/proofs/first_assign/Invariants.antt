@@ -10,4 +10,4 @@ use Rattle.check_drivers.specs.Bits.{Marks}
 use Rattle.check_assignments.proofs.first_assign.Given as goal
 
 abbrev pub invariant-loop-r : goal.invariant-loop-r
-invariant-loop-r l = (l.r ≤ count_at_of l.image 3) × (first (bad_assign l.image) (count_at_of l.image 3) ≡ from (bad_assign l.image) (count_at_of l.image 3) l.r) × (Marks l.image l.r 0 0 l.taken) × (length l.taken ≡ length l.initial.taken)
+invariant-loop-r l = (l.r ≤ count_at_of l.signals.image.now 3) × (first (bad_assign l.signals.image.now) (count_at_of l.signals.image.now 3) ≡ from (bad_assign l.signals.image.now) (count_at_of l.signals.image.now 3) l.r) × (Marks l.signals.image.now l.r 0 0 l.taken) × (length l.taken ≡ length l.initial.taken)

@@ -14,9 +14,9 @@ returns-then-bad_write c =
 
 pub is_driven-requires : goal.is_driven-requires
 is_driven-requires c =
-    (c.requires.0, c.requires.1.holds.room, read_there _ _ _ _ _ (sym c.bad_read.ensures ∙ c.if-bad_read.false))
+    (c.requires.0.holds.room, read_there _ _ _ _ _ (sym c.bad_read.ensures ∙ c.if-bad_read.false))
 
 pub returns : goal.returns
 returns c =
     or_skip (sym (rw c.record_field-p.ensures at c.bad_read.ensures) ∙ c.if-bad_read.false)
-    (or_skip (sym c.bad_write.ensures ∙ c.if-bad_write.false) (rw c.record_field-p.ensures at (c.is_driven.ensures _ _ c.requires.1))) ∙ port_halves _ _ _ _
+    (or_skip (sym c.bad_write.ensures ∙ c.if-bad_write.false) (rw c.record_field-p.ensures at (c.is_driven.ensures _ _ c.requires.0))) ∙ port_halves _ _ _ _

@@ -7,7 +7,7 @@ use borrow.Author.Rules.{rules}
 use Rattle.check_memories.proofs.first_rest.Goals as goal
 
 pub loop-r-init : goal.loop-r-init
-loop-r-init c = (omega arith, begins _ _, c.requires.1, refl)
+loop-r-init c = (omega arith, begins _ _, c.requires, refl)
 
 pub returns-then-check_rest : goal.returns-then-check_rest
 returns-then-check_rest c = sym (first_some _ _ _ (omega arith) (found _ _ _ (omega arith) c.loop-r.invariant.1 (sym c.check_rest.ensures.0 ∙ c.if-check_rest.true)))

@@ -10,4 +10,4 @@ use Rattle.check_memories.specs.Memory.{bad_rest}
 use Rattle.check_memories.proofs.first_rest.Given as goal
 
 abbrev pub invariant-loop-r : goal.invariant-loop-r
-invariant-loop-r l = (l.r ≤ count_at_of l.image 5) × (first (bad_rest l.image) (count_at_of l.image 5) ≡ from (bad_rest l.image) (count_at_of l.image 5) l.r) × (Marks l.image (count_at_of l.image 3) (count_at_of l.image 4) l.r l.taken) × (length l.taken ≡ length l.initial.taken)
+invariant-loop-r l = (l.r ≤ count_at_of l.signals.image.now 5) × (first (bad_rest l.signals.image.now) (count_at_of l.signals.image.now 5) ≡ from (bad_rest l.signals.image.now) (count_at_of l.signals.image.now 5) l.r) × (Marks l.signals.image.now (count_at_of l.signals.image.now 3) (count_at_of l.signals.image.now 4) l.r l.taken) × (length l.taken ≡ length l.initial.taken)

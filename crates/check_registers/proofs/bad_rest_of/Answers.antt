@@ -51,7 +51,7 @@ returns-then-bad_reset c =
 
 pub is_driven-requires : goal.is_driven-requires
 is_driven-requires c =
-    (c.requires.0, c.requires.1.holds.room, is_signal _ _ (sym c.no_signal.ensures ∙ c.if-no_signal.false))
+    (c.requires.holds.room, is_signal _ _ (sym c.no_signal.ensures ∙ c.if-no_signal.false))
 
 pub returns : goal.returns
 unfolding bad_rest_of
@@ -62,4 +62,4 @@ returns c =
     (or_skip (lt_no _ _ (rw c.record_field-3.ensures at c.if-record_field-gt1.false))
     (or_skip (sym c.bad_optional.ensures ∙ c.if-bad_optional.false)
     (or_skip (sym (rw c.signal_width-w.ensures at c.bad_reset.ensures) ∙ c.if-bad_reset.false)
-    (c.is_driven.ensures _ _ c.requires.1))))))
+    (c.is_driven.ensures _ _ c.requires))))))

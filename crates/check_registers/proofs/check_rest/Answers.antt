@@ -11,10 +11,10 @@ returns-then-bad_rest_of c = (rest_of _ _ _ _ c.record_field-p.ensures (sym c.if
 
 pub mark_signal-requires : goal.mark_signal-requires
 mark_signal-requires c =
-    (c.requires.0, c.requires.1.holds.room, (good_of _ _ _ (sym c.bad_rest_of.ensures ∙ c.if-bad_rest_of.false)).there)
+    (c.requires.holds.room, (good_of _ _ _ (sym c.bad_rest_of.ensures ∙ c.if-bad_rest_of.false)).there)
 
 pub returns : goal.returns
 returns c = (
   rest_of _ _ _ _ c.record_field-p.ensures (sym c.if-bad_rest_of.false ∙ c.bad_rest_of.ensures),
-  λ e. marks_register _ _ _ _ _ (rw c.record_field-p.ensures at c.mark_signal.ensures) c.requires.1,
+  λ e. marks_register _ _ _ _ _ (rw c.record_field-p.ensures at c.mark_signal.ensures) c.requires,
 )

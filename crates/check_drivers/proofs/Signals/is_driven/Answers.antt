@@ -1,8 +1,8 @@
--- `check_drivers::is_driven` meets its contract. Assumes nothing.
+-- `check_drivers::Signals::is_driven` meets its contract. Assumes nothing.
 use mathlib.Core.Path.{sym, ◌∙◌}
 use Rattle.spec_tests.specs.Laws.{or_hit, or_skip}
 use Rattle.spec_rules.specs.Checks.{driven}
-use Rattle.check_drivers.proofs.is_driven.Goals as goal
+use Rattle.check_drivers.proofs.Signals.is_driven.Goals as goal
 
 pub returns-then-is_input : goal.returns-then-is_input
 unfolding driven
