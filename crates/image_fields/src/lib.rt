@@ -17,29 +17,29 @@ pub fn byte(image: &[u8], at: usize) -> u32
     }
 }
 
-// The part of the bytes that begins at an offset; nothing where the offset is past the end.
-pub fn part(image: &[u8], at: usize) -> &[u8]
-    ensures { result.now ≡ drop at image.now }
+// The part of a list that begins at an offset; nothing where the offset is past the end.
+pub fn part<T>(xs: &[T], at: usize) -> &[T]
+    ensures { result.now ≡ drop at xs.now }
 {
-    if at <= image.len() {
-        &image[at..]
+    if at <= xs.len() {
+        &xs[at..]
     } else {
-        &image[image.len()..]
+        &xs[xs.len()..]
     }
 }
 
-// The n bytes from an offset on, or as many as there are.
-pub fn stretch(image: &[u8], at: usize, n: usize) -> &[u8]
-    ensures { result.now ≡ take n (drop at image.now) }
+// The n elements from an offset on, or as many as there are.
+pub fn stretch<T>(xs: &[T], at: usize, n: usize) -> &[T]
+    ensures { result.now ≡ take n (drop at xs.now) }
 {
-    if at <= image.len() {
-        if n <= image.len() - at {
-            &image[at..at + n]
+    if at <= xs.len() {
+        if n <= xs.len() - at {
+            &xs[at..at + n]
         } else {
-            &image[at..]
+            &xs[at..]
         }
     } else {
-        &image[image.len()..]
+        &xs[xs.len()..]
     }
 }
 

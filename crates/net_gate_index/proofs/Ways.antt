@@ -15,7 +15,8 @@ use Rattle.net_index.specs.Index.{mixed, hash_words, is_gate, hash_node, Held}
 use Rattle.net_index.specs.Laws.{linked}
 use Rattle.net_index.specs.Held.{held_gate}
 use Rattle.net_nodes.specs.Gives.{Gives}
-use Rattle.net_nodes.specs.declared.Added.TheVariants.{Net, TooManyNets}
+use Rattle.net_nodes.specs.declared.Full.TheVariants.{Nets}
+use Rattle.std.specs.Prelude.{Ok, Err}
 
 pub gate_is : (k o b x y z : ℕ) → 0 < k → k < 7 → is_gate (node k o b x y z) ≡ true
 unfolding is_gate
@@ -29,17 +30,17 @@ mixed_five k o x y z h₁ h₂ h₃ h₄ h₅ e₁ e₂ e₃ e₄ e₅ = rw (e�
 
 -- an equal node, a new one, and no room
 module _ (n : ℕ) (w idx : List ℕ) (x : Node) (h : Held n w idx) where
-  pub cached_found : (k : ℕ) → find x (nodes_of w (get_or w 1 0)) ≡ some k → Gives (add_cached x (netlist_of n w)) n (Net k) w idx
+  pub cached_found : (k : ℕ) → find x (nodes_of w (get_or w 1 0)) ≡ some k → Gives (add_cached x (netlist_of n w)) n (Ok k) w idx
   unfolding add_cached
   cached_found k e = record { says = rw e; held = h }
 
-  pub cached_full : find x (nodes_of w (get_or w 1 0)) ≡ none → n ≤ get_or w 1 0 → Gives (add_cached x (netlist_of n w)) n TooManyNets w idx
+  pub cached_full : find x (nodes_of w (get_or w 1 0)) ≡ none → n ≤ get_or w 1 0 → Gives (add_cached x (netlist_of n w)) n (Err Nets) w idx
   unfolding add_cached add_node
   cached_full e l = record { says = rw (e, le-ltb (length (netlist_of n w).nodes) n (omega (arith, count_is n w h.built))); held = h }
 
   pub cached_new : (w' idx' : List ℕ) → find x (nodes_of w (get_or w 1 0)) ≡ none → get_or w 1 0 < n → is_gate x ≡ true
       → Holds n (with_node x (netlist_of n w)) w' → idx' ≡ linked n (get_or w 1 0) (hash_node n x) idx
-      → Gives (add_cached x (netlist_of n w)) n (Net (get_or w 1 0)) w' idx'
+      → Gives (add_cached x (netlist_of n w)) n (Ok (get_or w 1 0)) w' idx'
   unfolding add_cached add_node
   cached_new w' idx' e l g v i =
       let c = count_is n w h.built in

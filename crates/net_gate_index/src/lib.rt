@@ -8,16 +8,10 @@ ghost use Rattle.net_view.specs.View.{node_at_of, nodes_of, netlist_of};
 ghost use Rattle.net_index.specs.Index.{mixed, bucket_of, hash_node, Held};
 ghost use Rattle.net_index.specs.Laws.{linked};
 ghost use Rattle.net_nodes.specs.Gives.{Gives};
-ghost use Rattle.net_gate_index.specs.Found.{found_of};
+ghost use Rattle.spec_tests.specs.Options.{option_of};
 
 use image_numbers::*;
-use net_nodes::Added;
-
-#[derive(Clone, Copy)]
-pub enum Found {
-    At(u32),
-    Nothing,
-}
+use net_nodes::Full;
 
 // A hash with one word more.
 pub fn mix(h: u32, x: u32) -> u32
@@ -48,19 +42,11 @@ fn is_node(net: &[u32], k: u32, kind: u32, owner: u32, a: u32, b: u32, c: u32) -
     ensures { result ≡ same (node kind owner absent a b c) (node_at_of net.now k) }
 {
     let p = HEADER_LENGTH + NODE_LENGTH * (k as usize);
-    if kind != net[p] {
-        return false;
-    }
-    if a != net[p + INPUT_0] {
-        return false;
-    }
-    if b != net[p + INPUT_1] {
-        return false;
-    }
-    if c != net[p + INPUT_2] {
-        return false;
-    }
-    owner == net[p + OWNER]
+    kind == net[p]
+        && a == net[p + INPUT_0]
+        && b == net[p + INPUT_1]
+        && c == net[p + INPUT_2]
+        && owner == net[p + OWNER]
 }
 
 // The newest node equal to the given one, whose hash is h.
@@ -74,19 +60,19 @@ fn find_gate(
     a: u32,
     b: u32,
     c: u32,
-) -> Found
+) -> Option<u32>
     requires { (Held n net.now idx.now) × (h ≡ hash_node n (node kind owner absent a b c)) × (h < n) × (0 < kind) × (kind < 7) }
-    ensures { find (node kind owner absent a b c) (nodes_of net.now (get_or net.now 1 0)) ≡ found_of result }
+    ensures { find (node kind owner absent a b c) (nodes_of net.now (get_or net.now 1 0)) ≡ option_of result }
 {
     let mut p = idx[h as usize];
     while 0 < p {
         let k = p - 1;
         if is_node(net, k, kind, owner, a, b, c) {
-            return Found::At(k);
+            return Some(k);
         }
         p = idx[n as usize + k as usize];
     }
-    Found::Nothing
+    None
 }
 
 // Node k becomes the newest of bucket h.
@@ -108,21 +94,21 @@ pub fn add_cached(
     a: u32,
     b: u32,
     c: u32,
-) -> Added
+) -> Result<u32, Full>
     requires { (Held n net.old idx.old) × (0 < kind) × (kind < 7) }
     ensures { Gives (add_cached (node kind owner absent a b c) (netlist_of n net.old)) n result net.new idx.new }
 {
     let h = hash(n, kind, owner, a, b, c);
     match find_gate(net, idx, n, h, kind, owner, a, b, c) {
-        Found::At(k) => Added::Net(k),
-        Found::Nothing => {
+        Some(k) => Ok(k),
+        None => {
             let count = net[NET_COUNT];
             if count < n {
                 link(idx, n, count, h);
                 net_nodes::push_node(net, kind, owner, ABSENT, a, b, c);
-                Added::Net(count)
+                Ok(count)
             } else {
-                Added::TooManyNets
+                Err(Full::Nets)
             }
         }
     }

@@ -1,56 +1,49 @@
 -- A node's words as the model reads them; a node more, and none more. Assumes nothing.
-use mathlib.Core.Path.{◌≡◌, sym, ap, ◌∙◌}
-use mathlib.Core.Bool.{Bool, false}
-use mathlib.Core.List.{List, ◌++◌, append-nil}
-use mathlib.Core.Option.{none, some}
-use Prim.Native.Nat.{ℕ, ◌+◌, ◌*◌, ◌≤◌, ◌<◌}
+use mathlib.Core.Path.{◌≡◌, refl, sym, ap, ◌∙◌}
+use mathlib.Core.Bool.{false}
+use mathlib.Core.List.{List}
+use Prim.Native.Nat.{ℕ, zero, suc, ◌+◌, ◌*◌, ◌≤◌, ◌<◌}
 use native.Mathlib.Omega.{arith}
+use native.Mathlib.Nat.{add-zero}
 use native.Mathlib.Numerals.{add-one, add-two, add-three, add-four, add_five}
-use lib.ListN.{length, get_or, set, drop, replicate, drop_of_length-le}
-use lib.Dec.{eqb}
-use borrow.Author.Tests.{eq-eqb, ne_eqb, lt-ltb, le-ltb}
-use Rattle.spec_model.specs.Words.{absent, Node, node}
-use Rattle.spec_model.specs.Builder.{node_for_net, constant_of, constant_value, add_node, done}
+use lib.ListN.{length, get_or, set}
+use borrow.Author.Tests.{lt-ltb, le-ltb}
+use Rattle.spec_model.specs.Words.{absent, Node, node, gate}
+use Rattle.spec_model.specs.Builder.{node_for_net, add_node, done}
 use Rattle.net_view.specs.View.{node_at_of, netlist_of, Built}
 use Rattle.net_view.specs.Laws.{node_there, node_past, node_pushed, count_is, with_node, Holds}
 use Rattle.net_index.specs.Index.{is_gate}
 use Rattle.net_index.specs.Held.{held_other}
-use Rattle.net_nodes.specs.Gives.{Adds}
-use Rattle.net_nodes.specs.declared.Added.TheVariants.{Net, TooManyNets}
+use Rattle.net_nodes.specs.Gives.{node_words, Adds}
+use Rattle.net_nodes.specs.declared.Full.TheVariants.{Nets}
+use Rattle.std.specs.Prelude.{Ok, Err}
 
--- a list filled to its end
-pub filled : (d : List ℕ) (i : ℕ) → length d ≤ i → i ≤ length d → replicate i 0 ++ drop i d ≡ replicate (length d) 0
-filled d i h g =
-    let e : i ≡ length d = omega arith in
-    ap (λ (t : List ℕ). replicate i 0 ++ t) (drop_of_length-le d h) ∙ append-nil (replicate i 0) ∙ ap (λ (k : ℕ). replicate k 0) e
+-- a node's words in the netlist's words
+word_here : (w : List ℕ) (k f : ℕ) → f < 6 → get_or w (16 + 6 * k + f) 0 ≡ get_or (node_words (node_at_of w k)) f 0
+unfolding node_at_of
+word_here w k zero l = ap (λ (p : ℕ). get_or w p 0) (add-zero (16 + 6 * k))
+word_here w k (suc zero) l = refl
+word_here w k (suc (suc zero)) l = refl
+word_here w k (suc (suc (suc zero))) l = refl
+word_here w k (suc (suc (suc (suc zero)))) l = refl
+word_here w k (suc (suc (suc (suc (suc zero))))) l = refl
+word_here w k (suc (suc (suc (suc (suc (suc f)))))) l = absurd (omega arith)
 
-module _ (w : List ℕ) (k : ℕ) (l : k < get_or w 1 0) where
-  pub kind_there : (n : ℕ) → get_or w (16 + 6 * k) 0 ≡ (node_for_net (netlist_of n w) k).kind
-  unfolding node_at_of
-  kind_there n = sym (ap (λ (x : Node). x.kind) (node_there n w k l))
+word_absent : (f : ℕ) → f < 6 → absent ≡ get_or (node_words (gate absent absent absent absent)) f 0
+word_absent zero l = refl
+word_absent (suc zero) l = refl
+word_absent (suc (suc zero)) l = refl
+word_absent (suc (suc (suc zero))) l = refl
+word_absent (suc (suc (suc (suc zero)))) l = refl
+word_absent (suc (suc (suc (suc (suc zero))))) l = refl
+word_absent (suc (suc (suc (suc (suc (suc f)))))) l = absurd (omega arith)
 
-  pub input_there : (n : ℕ) → get_or w (16 + 6 * k + 3) 0 ≡ (node_for_net (netlist_of n w) k).in0
-  unfolding node_at_of
-  input_there n = sym (ap (λ (x : Node). x.in0) (node_there n w k l))
+module _ (w : List ℕ) (k f : ℕ) (s : f < 6) where
+  pub word_there : k < get_or w 1 0 → (n : ℕ) → get_or w (16 + 6 * k + f) 0 ≡ get_or (node_words (node_for_net (netlist_of n w) k)) f 0
+  word_there l n = word_here w k f s ∙ ap (λ (x : Node). get_or (node_words x) f 0) (sym (node_there n w k l))
 
-  pub value_there : get_or w (16 + 6 * k) 0 ≡ 1 → (t : Bool) → eqb (get_or w (16 + 6 * k + 1) 0) 1 ≡ t → (n : ℕ) → constant_value (netlist_of n w) k ≡ some t
-  unfolding constant_value node_at_of
-  value_there e t v n = ap constant_of (node_there n w k l) ∙ rw (eq-eqb _ _ e, v)
-
-  pub value_none : (get_or w (16 + 6 * k) 0 ≡ 1 → ⊥) → (n : ℕ) → constant_value (netlist_of n w) k ≡ none
-  unfolding constant_value node_at_of
-  value_none e n = ap constant_of (node_there n w k l) ∙ rw (ne_eqb _ _ e)
-
-module _ (w : List ℕ) (k : ℕ) (l : get_or w 1 0 ≤ k) where
-  pub kind_past : (n : ℕ) → absent ≡ (node_for_net (netlist_of n w) k).kind
-  kind_past n = sym (ap (λ (x : Node). x.kind) (node_past n w k l))
-
-  pub input_past : (n : ℕ) → absent ≡ (node_for_net (netlist_of n w) k).in0
-  input_past n = sym (ap (λ (x : Node). x.in0) (node_past n w k l))
-
-  pub value_past : (n : ℕ) → constant_value (netlist_of n w) k ≡ none
-  unfolding constant_value
-  value_past n = ap constant_of (node_past n w k l)
+  pub word_past : get_or w 1 0 ≤ k → (n : ℕ) → absent ≡ get_or (node_words (node_for_net (netlist_of n w) k)) f 0
+  word_past l n = word_absent f s ∙ ap (λ (x : Node). get_or (node_words x) f 0) (sym (node_past n w k l))
 
 -- the stores of a node
 pub pushed : (w : List ℕ) (k o b x y z : ℕ) (n : ℕ) → Built n w → get_or w 1 0 < n
@@ -64,7 +57,7 @@ pushed w k o b x y z n h l =
 
 module _ (w : List ℕ) (n : ℕ) (x : Node) (h : Built n w) where
   pub node_added : (w' : List ℕ) → is_gate x ≡ false → get_or w 1 0 < n → Holds n (with_node x (netlist_of n w)) w'
-      → Adds (add_node x (netlist_of n w)) n (Net (get_or w 1 0)) w w'
+      → Adds (add_node x (netlist_of n w)) n (Ok (get_or w 1 0)) w w'
   unfolding add_node
   node_added w' g l v = record {
     says = rw (lt-ltb (length (netlist_of n w).nodes) n (omega (arith, count_is n w h))) (λ i. done (count_is n w h i, sym v.view i));
@@ -72,6 +65,6 @@ module _ (w : List ℕ) (n : ℕ) (x : Node) (h : Built n w) where
     held = λ idx d. held_other n w idx w' x d v g;
   }
 
-  pub node_refused : n ≤ get_or w 1 0 → Adds (add_node x (netlist_of n w)) n TooManyNets w w
+  pub node_refused : n ≤ get_or w 1 0 → Adds (add_node x (netlist_of n w)) n (Err Nets) w w
   unfolding add_node
   node_refused l = record { says = rw (le-ltb (length (netlist_of n w).nodes) n (omega (arith, count_is n w h))); built = h; held = λ idx d. d }

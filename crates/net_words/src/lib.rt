@@ -1,10 +1,11 @@
 // Total readers of a netlist's words: past the end a word reads as 0.
 #![tactic(auto)]
 
-ghost use Rattle.std.specs.Prelude.{◌≡◌, ◌≤◌, take, drop, get_or};
+ghost use Rattle.std.specs.Prelude.{◌≡◌, ◌≤◌, get_or};
 ghost use Rattle.spec_rules.specs.NetlistImage as image;
 ghost use Rattle.net_words.specs.Lengths.{second_length, memory_length};
 
+pub use image_fields::{part, stretch};
 use image_numbers::*;
 
 // Word i, 0 past the end.
@@ -12,32 +13,6 @@ pub fn word_at(net: &[u32], i: usize) -> u32
     ensures { result ≡ get_or net.now i 0 }
 {
     if i < net.len() { net[i] } else { 0 }
-}
-
-// The words from a place on; none where the place is past the end.
-pub fn part(s: &[u32], at: usize) -> &[u32]
-    ensures { result.now ≡ drop at s.now }
-{
-    if at <= s.len() {
-        &s[at..]
-    } else {
-        &s[s.len()..]
-    }
-}
-
-// The n words from a place on, or as many as there are.
-pub fn stretch(s: &[u32], at: usize, n: usize) -> &[u32]
-    ensures { result.now ≡ take n (drop at s.now) }
-{
-    if at <= s.len() {
-        if n <= s.len() - at {
-            &s[at..at + n]
-        } else {
-            &s[at..]
-        }
-    } else {
-        &s[s.len()..]
-    }
 }
 
 // Word f of node n.

@@ -5,9 +5,6 @@ use Prim.Native.Nat.{ℕ}
 use Rattle.net_gate_index.proofs.Ways.{mixed_five}
 use Rattle.net_gate_index.proofs.hash.Goals as goal
 
-pub bucket-requires : goal.bucket-requires
-bucket-requires c = c.requires
-
 pub returns : goal.returns
 unfolding hash_node hash_words
 returns c =

@@ -1,17 +1,9 @@
 -- `net_nodes::start` meets its contract. Assumes nothing.
-use native.Mathlib.Omega.{arith}
-use lib.ListN.{length-set}
 use Rattle.net_view.specs.Laws.{started}
 use Rattle.net_nodes.proofs.start.Goals as goal
-
-pub bounds-net-2 : goal.bounds-net-2
-bounds-net-2 c = simp length-set (omega arith)
-
-pub bounds-net-4 : goal.bounds-net-4
-bounds-net-4 c = simp length-set (omega arith)
 
 pub returns : goal.returns
 returns c =
     let a = c.args in
     let w = a.net.now in
-    rw c.clear.ensures (started a.n w c.requires.0 c.requires.1 c.requires.2 c.requires.3)
+    rw (c.fill.ensures.after (λ y e. e)) (started a.n w c.requires.0 c.requires.1 c.requires.2 c.requires.3)

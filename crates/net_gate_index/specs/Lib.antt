@@ -1,2 +1,0 @@
--- Definitions and laws of this crate.
-pub mod Found
