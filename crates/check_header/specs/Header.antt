@@ -1,8 +1,10 @@
 -- Laws of where sections start and of sums, and what a header with no wrong field tells.
-use Rattle.std.specs.Prelude.{ℕ, ◌<◌, ◌≤◌, ◌+◌, ◌-◌, ◌*◌, ◌/◌, List, Bool, true, false, ◌≡◌, refl, length}
-use Rattle.std.proofs.Common.{ap, ◌∙◌, arith}
+use Rattle.std.specs.Prelude.{Option, Some, None, ℕ, ◌<◌, ◌≤◌, ◌+◌, ◌-◌, ◌*◌, ◌/◌, List, Bool, true, false, ◌≡◌, refl, length}
+use Rattle.std.proofs.Common.{sym, ap, ◌∙◌, arith}
 use Rattle.spec_tests.specs.Rules.{◌<?◌, ◌≢?◌, pick, first, Fine, Refused}
-use Rattle.spec_tests.specs.Laws.{or_no, and_skip, pick_hit, pick_skip, eq_yes, eq_no, no_lt, no_ne, first_most, none, sum_none, sum_more}
+use Rattle.spec_tests.specs.Laws.{or_no, and_skip, pick_hit, pick_skip, eq_yes, eq_no, no_lt, no_ne, lt_yes, lt_no, first_most, none, sum_none, sum_more}
+use Rattle.spec_tests.specs.Options.{first_of}
+use Rattle.spec_chains.specs.Search.{some_below, none_below}
 use Rattle.spec_rules.specs.Image.{word_at, most_of, count_at_of, offset_at, bytes_of, start_of, field}
 use Rattle.spec_rules.specs.Checks.{wrong_count, wrong_field, first_field, header}
 
@@ -17,6 +19,26 @@ start_more s k = omega (arith, sum_more (bytes_of s) k)
 -- a field of each record of a section, to be summed
 unfoldable pub field_of : List ℕ → ℕ → ℕ → ℕ → ℕ
 field_of s k f r = field s k r f
+
+-- the first wrong field of the header, if there is one
+unfoldable pub field_found : List ℕ → Option ℕ
+field_found s = pick (first_field s <? 16) (Some (first_field s)) None
+
+pub found_short : (s : List ℕ) → length s < 64 → Some 0 ≡ field_found s
+unfolding field_found first_field pick
+found_short s h = rw (lt_yes _ _ h) (sym (rw (lt_yes 0 16 (omega arith)) refl))
+
+pub found_long : (s : List ℕ) → 64 ≤ length s → first_of (wrong_field s) 16 ≡ field_found s
+unfolding field_found first_field first_of pick
+found_long s h = rw (lt_no _ _ h) refl
+
+pub found_tells : (s : List ℕ) (f : ℕ) → field_found s ≡ Some f → (f < 16) × (first_field s ≡ f)
+unfolding field_found
+found_tells s f e = some_below (first_field s) 16 f e
+
+pub none_found : (s : List ℕ) → field_found s ≡ None → 16 ≤ first_field s
+unfolding field_found
+none_found s e = none_below (first_field s) 16 e
 
 -- ---- a passed header ----
 

@@ -4,8 +4,8 @@
 ghost use Rattle.std.specs.Prelude.{◌≡◌, ◌≤◌, ◌<◌};
 ghost use Rattle.spec_tests.specs.Rules.{◌<?◌, ◌or◌, outside, sum_to};
 ghost use Rattle.spec_rules.specs.Image.{most_of, count_at_of, start_of};
-ghost use Rattle.spec_rules.specs.Checks.{wrong_count, wrong_field, first_field, netlist_need, scratch_need, signal_bits, expr_bits};
-ghost use Rattle.check_header.specs.Header.{field_of};
+ghost use Rattle.spec_rules.specs.Checks.{wrong_count, wrong_field, netlist_need, scratch_need, signal_bits, expr_bits};
+ghost use Rattle.check_header.specs.Header.{field_of, field_found};
 
 const MOSTS: [u32; 7] = [512, 2048, 8192, 1024, 256, 16, 16384];
 
@@ -59,29 +59,21 @@ fn wrong_field(image: &[u8], i: u32) -> bool
     (image_fields::offset(image, (i - 2) / 2) as u64) != start(image, (i - 2) / 2)
 }
 
-// The first wrong header field; 16 where there is none.
-pub fn first_field(image: &[u8]) -> u32
-    ensures { result ≡ first_field image.now }
+// The first wrong header field.
+pub fn first_field(image: &[u8]) -> Option<u32>
+    ensures { result ≡ field_found image.now }
 {
     if image.len() < 64 {
-        return 0;
+        return Some(0);
     }
-    for i in 0..16 {
-        if wrong_field(image, i) {
-            return i;
-        }
-    }
-    16
+    (0..16).find(|i| wrong_field(image, *i))
 }
 
 // The caller's limits are outside what is allowed.
 pub fn bad_limits(n: u32, p: u32) -> bool
     ensures { result ≡ (outside n 1 65535 or outside p 0 65535) }
 {
-    if image_fields::is_outside(n, 1, 65535) {
-        return true;
-    }
-    image_fields::is_outside(p, 0, 65535)
+    image_fields::is_outside(n, 1, 65535) || image_fields::is_outside(p, 0, 65535)
 }
 
 // The netlist buffer of this many words is too small for limits n and p.

@@ -3,7 +3,8 @@
 #![tactic(auto)]
 
 ghost use Rattle.std.specs.Prelude.{◌≡◌, ◌+◌, ◌≤◌, ◌<◌, length};
-ghost use Rattle.spec_tests.specs.Rules.{first, any, same_text};
+ghost use Rattle.spec_tests.specs.Rules.{any, same_text};
+ghost use Rattle.spec_tests.specs.Options.{first_of};
 ghost use Rattle.spec_rules.specs.Image.{count_at_of};
 ghost use Rattle.spec_rules.specs.Checks.{bad_name, name_taken};
 ghost use Rattle.check_names.specs.Earlier.{earlier_of};
@@ -13,12 +14,7 @@ ghost use Rattle.check_names.specs.Names.{bad_byte, same_name, wrong_name, mixed
 fn bad_bytes(t: &[u8], n: u32) -> bool
     ensures { result ≡ any (bad_byte t.now) n }
 {
-    for i in 0..n {
-        if image_fields::is_outside(image_fields::byte(t, i as usize), 33, 126) {
-            return true;
-        }
-    }
-    false
+    (0..n).any(|i| image_fields::is_outside(image_fields::byte(t, i as usize), 33, 126))
 }
 
 // The name of record r of section k breaks a rule of its own.
@@ -40,15 +36,7 @@ pub fn bad_name(image: &[u8], k: u32, r: u32) -> bool
 pub fn same_text(a: &[u8], b: &[u8]) -> bool
     ensures { result ≡ same_text a.now b.now }
 {
-    if a.len() != b.len() {
-        return false;
-    }
-    for i in 0..a.len() {
-        if a[i] != b[i] {
-            return false;
-        }
-    }
-    true
+    a == b
 }
 
 // A hash with one more byte.
@@ -62,11 +50,7 @@ fn mix(h: u32, b: u8) -> u32
 fn hash(t: &[u8]) -> u32
     ensures { result ≡ hash_from 0 t.now }
 {
-    let mut h: u32 = 0;
-    for i in 0..t.len() {
-        h = mix(h, t[i]);
-    }
-    h
+    t.iter().fold(0, |h, b| mix(h, *b))
 }
 
 // The hash of the name of record r of section k.
@@ -91,13 +75,11 @@ fn same_name(image: &[u8], k: u32, r: u32, j: u32, hs: &[u32]) -> bool
     requires { (j < r) × (r < length hs.now) × (Hashed image.now k (r + 1) hs.now) }
     ensures { result ≡ same_name image.now k r j }
 {
-    if hs[j as usize] != hs[r as usize] {
-        return false;
-    }
-    same_text(
-        image_fields::name(image, k, j),
-        image_fields::name(image, k, r),
-    )
+    hs[j as usize] == hs[r as usize]
+        && same_text(
+            image_fields::name(image, k, j),
+            image_fields::name(image, k, r),
+        )
 }
 
 // An earlier record of section k has the name of record r; hs are the names' hashes.
@@ -105,12 +87,7 @@ fn name_taken(image: &[u8], k: u32, r: u32, hs: &[u32]) -> bool
     requires { (r < length hs.now) × (Hashed image.now k (r + 1) hs.now) }
     ensures { result ≡ name_taken image.now k r }
 {
-    for j in 0..r {
-        if same_name(image, k, r, j, hs) {
-            return true;
-        }
-    }
-    false
+    (0..r).any(|j| same_name(image, k, r, j, hs))
 }
 
 // The same; seen has a byte for each remainder of a hash, not 0 where an earlier name has it. Then that of record r too.
@@ -126,61 +103,51 @@ fn name_seen(image: &[u8], k: u32, r: u32, hs: &[u32], seen: &mut [u8]) -> bool
     name_taken(image, k, r, hs)
 }
 
-// The first of the n records of section k whose name breaks a rule, and n where there is none; the tables hold hashes and remainders.
-fn first_among(image: &[u8], k: u32, n: u32, hs: &mut [u32], seen: &mut [u8]) -> u32
+// The first of the n records of section k whose name breaks a rule; the tables hold hashes and remainders.
+fn first_among(image: &[u8], k: u32, n: u32, hs: &mut [u32], seen: &mut [u8]) -> Option<u32>
     requires { (n ≤ length hs.old) × (0 < length seen.old) }
-    ensures { result ≡ first (wrong_name image.now k) n }
+    ensures { result ≡ first_of (wrong_name image.now k) n }
 {
     lay_hashes(image, k, n, hs);
     for r in 0..n {
-        if bad_name(image, k, r) {
-            return r;
-        }
-        if name_seen(image, k, r, hs, seen) {
-            return r;
+        if bad_name(image, k, r) || name_seen(image, k, r, hs, seen) {
+            return Some(r);
         }
     }
-    n
+    None
 }
 
-// The same for at most 32 records.
-fn first_of_few(image: &[u8], k: u32, n: u32) -> u32
-    requires { n ≤ 32 }
-    ensures { result ≡ first (wrong_name image.now k) n }
+// The same for at most N records, with a table of M remainders.
+fn first_with<const N: usize, const M: usize>(image: &[u8], k: u32, n: u32) -> Option<u32>
+    requires { (n ≤ N) × (N ≤ 65536) × (0 < M) × (M ≤ 65536) }
+    ensures { result ≡ first_of (wrong_name image.now k) n }
 {
-    let mut hs: [u32; 32] = [0; 32];
-    let mut seen: [u8; 64] = [0; 64];
+    let mut hs: [u32; N] = [0; N];
+    let mut seen: [u8; M] = [0; M];
     first_among(image, k, n, &mut hs, &mut seen)
 }
 
-// The same for at most 512 records.
-fn first_of_many(image: &[u8], k: u32, n: u32) -> u32
-    requires { n ≤ 512 }
-    ensures { result ≡ first (wrong_name image.now k) n }
-{
-    let mut hs: [u32; 512] = [0; 512];
-    let mut seen: [u8; 4096] = [0; 4096];
-    first_among(image, k, n, &mut hs, &mut seen)
-}
-
-// The first of the records of section k whose name breaks a rule; their count where there is none.
-pub fn first_name(image: &[u8], k: u32) -> u32
+// The first of the records of section k whose name breaks a rule.
+pub fn first_name(image: &[u8], k: u32) -> Option<u32>
     requires { count_at_of image.now k ≤ 512 }
-    ensures { result ≡ first (wrong_name image.now k) (count_at_of image.now k) }
+    ensures { result ≡ first_of (wrong_name image.now k) (count_at_of image.now k) }
 {
     let n = image_fields::count(image, k);
     if n == 0 {
-        return 0;
+        return None;
     }
     if n <= 32 {
-        return first_of_few(image, k, n);
+        return first_with::<32, 64>(image, k, n);
     }
-    first_of_many(image, k, n)
+    first_with::<512, 4096>(image, k, n)
 }
 
 // The earlier of two places.
-pub fn earlier(a: u32, b: u32) -> u32
+pub fn earlier(a: Option<u32>, b: Option<u32>) -> Option<u32>
     ensures { result ≡ earlier_of a b }
 {
-    if a < b { a } else { b }
+    match (a, b) {
+        (Some(x), Some(y)) => Some(x.min(y)),
+        _ => a.or(b),
+    }
 }

@@ -7,40 +7,32 @@ ghost use Rattle.spec_rules.specs.Image as Image;
 ghost use Rattle.image_fields.specs.Fields.{field_in};
 
 // The byte at a place, 0 past the end.
+fn own_byte(image: &[u8], at: usize) -> u8
+    ensures { result ≡ get_or image.now at 0 }
+{
+    image.get(at).copied().unwrap_or(0)
+}
+
+// The same as a word.
 pub fn byte(image: &[u8], at: usize) -> u32
     ensures { (result ≡ get_or image.now at 0) × (result < 256) }
 {
-    if at < image.len() {
-        image[at] as u32
-    } else {
-        0
-    }
+    u32::from(own_byte(image, at))
 }
 
-// The part of a list that begins at an offset; nothing where the offset is past the end.
+// What begins at a place; nothing where the place is past the end.
 pub fn part<T>(xs: &[T], at: usize) -> &[T]
     ensures { result.now ≡ drop at xs.now }
 {
-    if at <= xs.len() {
-        &xs[at..]
-    } else {
-        &xs[xs.len()..]
-    }
+    &xs[at.min(xs.len())..]
 }
 
-// The n elements from an offset on, or as many as there are.
+// The n elements from a place on, or as many as there are.
 pub fn stretch<T>(xs: &[T], at: usize, n: usize) -> &[T]
     ensures { result.now ≡ take n (drop at xs.now) }
 {
-    if at <= xs.len() {
-        if n <= xs.len() - at {
-            &xs[at..at + n]
-        } else {
-            &xs[at..]
-        }
-    } else {
-        &xs[xs.len()..]
-    }
+    let rest = part(xs, at);
+    &rest[..n.min(rest.len())]
 }
 
 // The 32-bit word at a place near or past the end.
@@ -48,16 +40,12 @@ fn last_word(image: &[u8], at: usize) -> u32
     requires { at + 3 < 18446744073709551616 }
     ensures { result ≡ Image.word_at image.now at }
 {
-    byte(image, at)
-        + byte(image, at + 1) * 256
-        + byte(image, at + 2) * 65536
-        + byte(image, at + 3) * 16777216
-}
-
-fn wide(b: u8) -> u32
-    ensures { (result ≡ b) × (result < 256) }
-{
-    b as u32
+    u32::from_le_bytes([
+        own_byte(image, at),
+        own_byte(image, at + 1),
+        own_byte(image, at + 2),
+        own_byte(image, at + 3),
+    ])
 }
 
 // The 32-bit word at the start of four bytes or more: one load.
@@ -65,7 +53,7 @@ fn first_word(p: &[u8]) -> u32
     requires { 4 ≤ length p.now }
     ensures { result ≡ Image.word_at p.now 0 }
 {
-    wide(p[0]) + wide(p[1]) * 256 + wide(p[2]) * 65536 + wide(p[3]) * 16777216
+    u32::from_le_bytes([p[0], p[1], p[2], p[3]])
 }
 
 // The 32-bit word at a place.

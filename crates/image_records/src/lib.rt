@@ -68,13 +68,15 @@ const UNARY: [UnaryOp; 5] = [
 ];
 
 // The unary operator with a number.
-pub fn unary(n: u32) -> UnaryOp
-    ensures { result ≡ unary_of n }
-{
-    if n < 5 {
-        UNARY[n as usize]
-    } else {
-        UnaryOp::BitNot
+impl From<u32> for UnaryOp {
+    ghost from_gives = { λ n op. op ≡ unary_of n };
+
+    fn from(n: u32) -> UnaryOp {
+        if n < 5 {
+            UNARY[n as usize]
+        } else {
+            UnaryOp::BitNot
+        }
     }
 }
 
@@ -101,13 +103,15 @@ const BINARY: [BinaryOp; 19] = [
 ];
 
 // The binary operator with a number.
-pub fn binary(n: u32) -> BinaryOp
-    ensures { result ≡ binary_of n }
-{
-    if n < 19 {
-        BINARY[n as usize]
-    } else {
-        BinaryOp::And
+impl From<u32> for BinaryOp {
+    ghost from_gives = { λ n op. op ≡ binary_of n };
+
+    fn from(n: u32) -> BinaryOp {
+        if n < 19 {
+            BINARY[n as usize]
+        } else {
+            BinaryOp::And
+        }
     }
 }
 
@@ -118,8 +122,8 @@ pub fn kind(k: u32, a: u32, b: u32, c: u32) -> ExprKind
     match k {
         0 => ExprKind::Signal(a, b),
         1 => ExprKind::Constant(a),
-        2 => ExprKind::Unary(unary(a), b),
-        3 => ExprKind::Binary(binary(a), b, c),
+        2 => ExprKind::Unary(a.into(), b),
+        3 => ExprKind::Binary(a.into(), b, c),
         4 => ExprKind::Mux(a, b, c),
         5 => ExprKind::Concat(a, b),
         _ => ExprKind::Slice(a, b),
@@ -204,22 +208,10 @@ pub struct Control {
 }
 
 #[derive(Clone, Copy)]
-pub enum Enable {
-    Absent,
-    Present(Control),
-}
-
-#[derive(Clone, Copy)]
 pub struct Reset {
     pub control: Control,
     pub asynchronous: bool,
     pub value: u32,
-}
-
-#[derive(Clone, Copy)]
-pub enum ResetOption {
-    Absent,
-    Present(Reset),
 }
 
 #[derive(Clone, Copy)]
@@ -228,15 +220,15 @@ pub struct Register {
     pub next: u32,
     pub clock: u32,
     pub rising: bool,
-    pub enable: Enable,
-    pub reset: ResetOption,
+    pub enable: Option<Control>,
+    pub reset: Option<Reset>,
 }
 
 #[derive(Clone, Copy)]
 pub struct MemoryPort {
     pub read_address: u32,
     pub read_data: u32,
-    pub read_enable: Enable,
+    pub read_enable: Option<Control>,
     pub write_address: u32,
     pub write_data: u32,
     pub write_enable: Control,
@@ -245,30 +237,24 @@ pub struct MemoryPort {
 }
 
 #[derive(Clone, Copy)]
-pub enum SecondPort {
-    Absent,
-    Present(MemoryPort),
-}
-
-#[derive(Clone, Copy)]
 pub struct Memory {
     pub depth: u32,
     pub style: u32,
     pub first: MemoryPort,
-    pub second: SecondPort,
+    pub second: Option<MemoryPort>,
 }
 
 // The direction with a number.
-fn direction_of(n: u32) -> Direction
-    ensures { direction_means result ≡ direction n }
-{
-    if n == 1 {
-        return Direction::Input;
+impl From<u32> for Direction {
+    ghost from_gives = { λ n d. direction_means d ≡ direction n };
+
+    fn from(n: u32) -> Direction {
+        match n {
+            1 => Direction::Input,
+            2 => Direction::Output,
+            _ => Direction::Internal,
+        }
     }
-    if n == 2 {
-        return Direction::Output;
-    }
-    Direction::Internal
 }
 
 // Signal r of the image.
@@ -277,7 +263,7 @@ pub fn signal_at(image: &[u8], r: u32) -> Signal
 {
     let part = image_fields::section(image, image_fields::SIGNALS);
     let width = image_fields::field(part, image_fields::SIGNALS, r, 2);
-    let direction = direction_of(image_fields::field(part, image_fields::SIGNALS, r, 3));
+    let direction = Direction::from(image_fields::field(part, image_fields::SIGNALS, r, 3));
     Signal { width, direction }
 }
 
@@ -312,27 +298,27 @@ fn control_in(part: &[u8], k: u32, r: u32, f: u32) -> Control
 }
 
 // The same of a control that may be absent.
-fn enable_in(part: &[u8], k: u32, r: u32, f: u32) -> Enable
+fn enable_in(part: &[u8], k: u32, r: u32, f: u32) -> Option<Control>
     requires { f ≤ 32 }
     ensures { enable_means result ≡ enable_in part.now k r f }
 {
     if image_fields::field(part, k, r, f) == ABSENT {
-        return Enable::Absent;
+        return None;
     }
-    Enable::Present(control_in(part, k, r, f))
+    Some(control_in(part, k, r, f))
 }
 
 // The reset of register r.
-fn reset_in(part: &[u8], r: u32) -> ResetOption
+fn reset_in(part: &[u8], r: u32) -> Option<Reset>
     ensures { reset_means result ≡ reset_in part.now r }
 {
     if image_fields::field(part, image_fields::REGISTERS, r, 8) == ABSENT {
-        return ResetOption::Absent;
+        return None;
     }
     let control = control_in(part, image_fields::REGISTERS, r, 8);
     let mode = image_fields::field(part, image_fields::REGISTERS, r, 10);
     let value = image_fields::field(part, image_fields::REGISTERS, r, 11);
-    ResetOption::Present(Reset {
+    Some(Reset {
         control,
         asynchronous: mode == 1,
         value,
@@ -386,13 +372,13 @@ fn port_in(part: &[u8], r: u32, f: u32) -> MemoryPort
 }
 
 // The second port of memory r.
-fn second_in(part: &[u8], r: u32) -> SecondPort
+fn second_in(part: &[u8], r: u32) -> Option<MemoryPort>
     ensures { second_means result ≡ second_in part.now r }
 {
     if image_fields::field(part, image_fields::MEMORIES, r, image_fields::HAS_SECOND) == 0 {
-        return SecondPort::Absent;
+        return None;
     }
-    SecondPort::Present(port_in(part, r, image_fields::SECOND_PORT))
+    Some(port_in(part, r, image_fields::SECOND_PORT))
 }
 
 // Memory r of the image.
@@ -424,13 +410,13 @@ pub enum OpClass {
     Other,
 }
 
+#[tactic(auto, unfolding(crate::specs::OpClass::op_class_of))]
 pub fn op_class(op: BinaryOp) -> OpClass
     ensures { result ≡ op_class_of op }
 {
     match op {
         BinaryOp::And => OpClass::Ands,
-        BinaryOp::Or => OpClass::Ors,
-        BinaryOp::Xor => OpClass::Ors,
+        BinaryOp::Or | BinaryOp::Xor => OpClass::Ors,
         BinaryOp::Add => OpClass::Adds,
         BinaryOp::Sub => OpClass::Subtracts,
         _ => OpClass::Other,
@@ -438,13 +424,9 @@ pub fn op_class(op: BinaryOp) -> OpClass
 }
 
 // And, Or and Xor work bit by bit.
+#[tactic(auto, unfolding(crate::specs::OpClass::bitwise, crate::specs::Expr::binary_means))]
 pub fn is_bitwise(op: BinaryOp) -> bool
     ensures { result ≡ bitwise op }
 {
-    match op {
-        BinaryOp::And => true,
-        BinaryOp::Or => true,
-        BinaryOp::Xor => true,
-        _ => false,
-    }
+    matches!(op, BinaryOp::And | BinaryOp::Or | BinaryOp::Xor)
 }

@@ -1,5 +1,5 @@
 -- `check_header::field_sum` meets its contract. The loop's invariant: the sum is that of the fields below r, each below 2 ^ 32. Assumes nothing.
-use Prim.Native.Nat.{◌≤◌, ◌-◌, ◌*◌}
+use Prim.Native.Nat.{◌≤◌, ◌*◌}
 use mathlib.Core.Path.{◌≡◌}
 use Rattle.spec_tests.specs.Rules.{sum_to}
 use Rattle.check_header.specs.Header.{field_of}

@@ -1,5 +1,5 @@
 -- `check_header::start` meets its contract. The loop's invariant: at is where section j has to start. Assumes nothing.
-use Prim.Native.Nat.{◌≤◌, ◌-◌, ◌+◌, ◌*◌}
+use Prim.Native.Nat.{◌≤◌, ◌+◌, ◌*◌}
 use mathlib.Core.Path.{◌≡◌}
 use Rattle.spec_rules.specs.Image.{start_of}
 use Rattle.check_header.proofs.start.Given as goal

@@ -1,25 +1,25 @@
 -- `check_names::first_among` meets its contract. The loop's invariant: no record below r has a wrong name, and the remainders of their hashes are seen. Assumes nothing.
-use Prim.Native.Nat.{◌-◌}
-use mathlib.Core.Path.{refl, sym, ◌∙◌}
-use native.Mathlib.Omega.{arith}
+use Rattle.std.proofs.Common.{◌≡◌, true, refl, sym, ◌∙◌, arith, rules}
 use Rattle.spec_tests.specs.Laws.{begins, passed, found, ended, or_hit, or_skip}
+use Rattle.spec_tests.specs.Options.{first_some, first_none}
 use Rattle.check_names.specs.Names.{wrong_name, seen_none, hashed_less}
-use borrow.Author.Rules.{rules}
 use Rattle.check_names.proofs.first_among.Goals as goal
+use Rattle.check_names.proofs.first_among.Goals.{then-bad_name-via-then-bad_name, then-bad_name-via-else-bad_name+then-name_seen}
 
 pub loop-r-init : goal.loop-r-init
 loop-r-init c = (omega arith, begins _ _, seen_none _ _ _, refl)
 
-pub returns-then-bad_name : goal.returns-then-bad_name
-unfolding wrong_name
-returns-then-bad_name c = sym (found _ _ _ (omega arith) c.loop-r.invariant.1 (sym (or_hit _ (sym c.bad_name.ensures ∙ c.if-bad_name.true))))
-
 pub name_seen-requires : goal.name_seen-requires
 name_seen-requires c = (omega arith, hashed_less _ _ _ _ _ (omega arith) c.lay_hashes.ensures, omega arith, c.loop-r.invariant.2)
 
-pub returns-then-name_seen : goal.returns-then-name_seen
+pub returns-then-bad_name : goal.returns-then-bad_name
 unfolding wrong_name
-returns-then-name_seen c = sym (found _ _ _ (omega arith) c.loop-r.invariant.1 (sym (or_skip (sym c.bad_name.ensures ∙ c.if-bad_name.false) (sym c.if-name_seen.true ∙ c.name_seen.ensures.0))))
+returns-then-bad_name c =
+    let wrong : wrong_name c.args.image.now c.args.k c.loop-r.r ≡ true = elim c.then-bad_name.branch [
+      | then-bad_name-via-then-bad_name w ↦ sym (or_hit _ (sym c.bad_name.ensures ∙ w.if-bad_name.true))
+      | then-bad_name-via-else-bad_name+then-name_seen w ↦ sym (or_skip (sym c.bad_name.ensures ∙ w.if-bad_name.false) (sym w.if-name_seen.true ∙ w.name_seen.ensures.0))
+    ] in
+    sym (first_some _ _ _ (omega arith) (found _ _ _ (omega arith) c.loop-r.invariant.1 wrong))
 
 pub loop-r-preserved : goal.loop-r-preserved
 unfolding wrong_name
@@ -31,4 +31,4 @@ loop-r-preserved c = (
 )
 
 pub returns : goal.returns
-returns c = sym (ended _ _ _ (omega arith) (omega arith) c.loop-r.invariant.1)
+returns c = sym (first_none _ _ (ended _ _ _ (omega arith) (omega arith) c.loop-r.invariant.1))

@@ -1,5 +1,5 @@
 -- `check_names::first_among` meets its contract. The loop's invariant: no record below r has a wrong name, and the remainders of their hashes are seen. Assumes nothing.
-use Prim.Native.Nat.{◌≤◌, ◌-◌}
+use Prim.Native.Nat.{◌≤◌}
 use mathlib.Core.Path.{◌≡◌}
 use lib.ListN.{length}
 use Rattle.spec_tests.specs.Rules.{first}

@@ -1,5 +1,5 @@
 -- `check_names::lay_hashes` meets its contract. The loop's invariant: the hashes below i are stored. Assumes nothing.
-use Prim.Native.Nat.{◌≤◌, ◌-◌}
+use Prim.Native.Nat.{◌≤◌}
 use mathlib.Core.Path.{◌≡◌}
 use lib.ListN.{length}
 use Rattle.check_names.specs.Names.{Hashed}

@@ -5,16 +5,6 @@ use native.Mathlib.Nat.{mod-lt}
 use Rattle.check_names.specs.Names.{hash_of, unseen, seen_set, seen_still}
 use Rattle.check_names.proofs.name_seen.Goals as goal
 
-pub overflow_cast-at-2 : goal.overflow_cast-at-2
-overflow_cast-at-2 c = omega (arith, c.shared_slice_known-3-1.given c.args.r)
-
-pub bounds-seen-at : goal.bounds-seen-at
-bounds-seen-at c = mod-lt _ c.requires.2
-
-pub bounds-seen-at-then-seen-at-eq0 : goal.bounds-seen-at-then-seen-at-eq0
-bounds-seen-at-then-seen-at-eq0 c =
-    mod-lt _ c.requires.2
-
 pub returns-then-seen-at-eq0 : goal.returns-then-seen-at-eq0
 returns-then-seen-at-eq0 c =
     let e = hash_of _ _ _ _ c.requires.1 c.args.r (omega arith) in

@@ -1,21 +1,20 @@
--- `check_names::same_text` meets its contract. The loop's invariant: the texts are as long, and equal if what is left of them is. Assumes nothing.
-use Prim.Native.Nat.{◌-◌}
-use mathlib.Core.Path.{refl, sym, ◌∙◌}
-use native.Mathlib.Omega.{arith}
-use Rattle.check_names.specs.Names.{same_length, same_end, same_more, same_other}
+-- `check_names::same_text` meets its contract. Assumes nothing.
+use Rattle.std.proofs.Common.{◌≡◌, ℕ, Bool, ◌&&◌, List, [], ◌∷◌, true, false, nat_eq, refl, ◌∙◌}
+use lib.Pointwise.{pointwise}
+use Rattle.spec_tests.specs.Rules.{◌and◌, ◌≡?◌, same_text}
 use Rattle.check_names.proofs.same_text.Goals as goal
 
-pub returns-then-a-b : goal.returns-then-a-b
-returns-then-a-b c = sym (same_length _ _ c.if-a-b.true)
+both : (t : Bool) {p q : Bool} → p ≡ q → (t && p) ≡ (t and q)
+unfolding ◌and◌
+both true e = e
+both false e = refl
 
-pub loop-i-init : goal.loop-i-init
-loop-i-init c = (c.if-a-b.false, omega arith, refl)
-
-pub returns-then-a-i : goal.returns-then-a-i
-returns-then-a-i c = sym (same_other c.args.a.now c.args.b.now c.loop-i.i (omega arith) (omega arith) c.if-a-i.true) ∙ c.loop-i.invariant.2
-
-pub loop-i-preserved : goal.loop-i-preserved
-loop-i-preserved c = (c.loop-i.invariant.0, omega arith, sym (same_more c.args.a.now c.args.b.now c.loop-i.i (omega arith) (omega arith) c.if-a-i.false) ∙ c.loop-i.invariant.2)
+same_pairs : (a b : List ℕ) → pointwise nat_eq a b ≡ same_text a b
+unfolding same_text ◌≡?◌
+same_pairs [] [] = refl
+same_pairs [] (b ∷ bs) = refl
+same_pairs (a ∷ as') [] = refl
+same_pairs (a ∷ as') (b ∷ bs) = both (nat_eq a b) (same_pairs as' bs)
 
 pub returns : goal.returns
-returns c = sym (same_end c.args.a.now c.args.b.now c.loop-i.i c.loop-i.invariant.0 (omega arith)) ∙ c.loop-i.invariant.2
+returns c = c.eq.ensures ∙ same_pairs _ _

@@ -1,14 +1,9 @@
 -- `image_fields::size` meets its contract. Assumes nothing.
 use mathlib.Core.Path.{refl, sym}
-use native.Mathlib.Omega.{arith}
 use lib.Dec.{lit≤}
 use Rattle.spec_rules.specs.Image.{size_of}
 use Rattle.image_fields.specs.Fields.{size_most, size_none}
 use Rattle.image_fields.proofs.size.Goals as goal
-
-pub overflow_cast-result-then-k-lt7 : goal.overflow_cast-result-then-k-lt7
-unfolding size_of
-overflow_cast-result-then-k-lt7 c = omega (arith, size_most c.args.k)
 
 pub returns-then-k-lt7 : goal.returns-then-k-lt7
 unfolding size_of

@@ -1,2 +1,0 @@
--- Laws of default arms.
-pub mod Among
