@@ -1,6 +1,4 @@
 -- `listing_records::put_numbers` meets its contract. Assumes nothing.
-use Prim.Native.Nat.{◌-◌}
-use lib.ListN.{length}
 use Rattle.listing_records.specs.Pieces.{Numbers}
 use Rattle.listing_records.proofs.put_numbers.Given as goal
 
