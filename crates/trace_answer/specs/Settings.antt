@@ -5,7 +5,6 @@ use Rattle.std.proofs.lemmas.List.{length-map}
 use Rattle.spec_tests.specs.Rules.{◌≡?◌, ◌≢?◌, ◌or◌, ◌and◌, Refused, Fine}
 use Rattle.spec_rules.specs.NetlistImage.{netlist}
 use Rattle.spec_rules.specs.Step.{Setting, Contents, net}
-use Rattle.spec_rules.specs.Listing.{text}
 use Rattle.spec_netlist.specs.Accept.{accepts}
 use Rattle.spec_trace.specs.Opened.{having, output_nets}
 use Rattle.spec_trace.specs.Trace.{setting_of, wrong_line, digit, values, shown, Now, At, reached, Goes, Stops, settings_line, said}

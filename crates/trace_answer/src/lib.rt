@@ -1,40 +1,77 @@
 // One line of a trace answered: settings are judged, taken and printed; a keep or a back prints nothing.
 #![tactic(auto)]
 
-ghost use Rattle.std.specs.Prelude.{◌≡◌, true, false, ◌≤◌, length};
+ghost use Rattle.std.specs.Prelude.{◌≡◌, true, ◌≤◌, length};
 ghost use Rattle.spec_tests.specs.Rules.{◌≢?◌, ◌or◌, ◌and◌};
 ghost use Rattle.spec_trace.specs.Opened.{having};
-ghost use Rattle.trace_line.specs.Standing.{Standing};
-ghost use Rattle.trace_answer.specs.Settings.{Refuses, Unless, Settles};
-ghost use Rattle.trace_answer.specs.Lines.{Underway, Answers};
+ghost use Rattle.trace_line.specs.Bundles.{Stands, SameTables};
+ghost use Rattle.trace_keep.specs.Bundles.{SameKept};
+ghost use Rattle.trace_answer.specs.Settings.{Refuses};
+ghost use Rattle.trace_answer.specs.Bundles.{Runs, SettlesOr, AnswersOr, AnswersBy, number_of, place_of, end_of, stop_of};
+ghost use Rattle.trace_answer.specs.declared.Refusal.TheVariants.{Name};
 
-// Where a line's text ends, and whether it is the last.
+use trace_keep::{Moments, NameRefused};
+use trace_line::{State, Tables};
+
+// Why a line is refused: its form, 13; a write clash of this memory, 14; a keep or a back that can't be done, 15.
 #[derive(Clone, Copy)]
-pub struct Printed {
+pub enum Refusal {
+    Line,
+    Clash(u32),
+    Name,
+}
+
+impl From<NameRefused> for Refusal {
+    ghost from_gives = { λ _ r. r ≡ Name };
+
+    fn from(_e: NameRefused) -> Refusal {
+        Refusal::Name
+    }
+}
+
+impl Refusal {
+    fn number(self) -> u32
+        ensures { result ≡ number_of self }
+    {
+        match self {
+            Refusal::Line => 13,
+            Refusal::Clash(_) => 14,
+            Refusal::Name => 15,
+        }
+    }
+
+    fn place(self) -> u32
+        ensures { result ≡ place_of self }
+    {
+        match self {
+            Refusal::Clash(memory) => memory,
+            Refusal::Line => 0,
+            Refusal::Name => 0,
+        }
+    }
+}
+
+// A refusal's text is written, and is the trace's last; where it ends.
+#[derive(Clone, Copy)]
+pub struct Last {
     pub at: usize,
-    pub stop: bool,
 }
 
 // A letter other than '0' and '1'.
 fn is_wrong_letter(b: u8) -> bool
     ensures { result ≡ (b ≢? 48 and b ≢? 49) }
 {
-    if b == 48 {
+    if b == b'0' {
         return false;
     }
-    b != 49
+    b != b'1'
 }
 
 // A line has one.
 fn has_wrong_letter(line: &[u8]) -> bool
     ensures { result ≡ having (λ b. b ≢? 48 and b ≢? 49) line.now }
 {
-    for i in 0..line.len() {
-        if is_wrong_letter(line[i]) {
-            return true;
-        }
-    }
-    false
+    line.iter().any(|b| is_wrong_letter(*b))
 }
 
 // A line is of another length, or has another letter.
@@ -48,103 +85,79 @@ fn is_wrong(line: &[u8], inputs: usize) -> bool
 }
 
 // Refusal n at line k and place x.
-pub fn refuse(out: &mut [u8], at: usize, n: u32, k: u32, x: u32) -> Printed
+pub fn refuse(out: &mut [u8], at: usize, n: u32, k: u32, x: u32) -> Last
     requires { at ≤ length out.old }
-    ensures { Refuses n k x out.old at out.new result.at result.stop }
+    ensures { Refuses n k x out.old at out.new result.at true }
 {
-    let to = listing_text::put_refusal(out, at, n, k, x);
-    Printed { at: to, stop: true }
-}
-
-// Nothing where a keep or a back was done, else refusal 15.
-fn unless_done(done: bool, out: &mut [u8], at: usize, k: u32) -> Printed
-    requires { at ≤ length out.old }
-    ensures { Unless done k out.old at out.new result.at result.stop }
-{
-    if done {
-        return Printed {
-            at: at,
-            stop: false,
-        };
+    Last {
+        at: listing_text::put_refusal(out, at, n, k, x),
     }
-    refuse(out, at, 15, k, 0)
 }
 
-// Line k, settings: its output bits, or a refusal.
+// Line k, settings: its output bits.
 fn settings_line(
-    net: &[u32],
-    steps: &[u32],
-    count: usize,
-    inputs: &[u32],
-    outputs: &[u32],
-    registers: &[u32],
-    nr: usize,
-    memories: &[u32],
-    nm: usize,
+    tables: &Tables,
+    state: &mut State,
     k: u32,
     line: &[u8],
-    values: &mut [u32],
-    old: &mut [u32],
-    memory: &mut [u32],
     out: &mut [u8],
     at: usize,
-) -> Printed
-    requires { (Standing net.now steps.now count inputs.now outputs.now registers.now nr memories.now nm k values.old memory.old) × (length old.old ≡ length values.old) × (at ≤ length out.old) }
-    ensures { Settles net.now steps.now count inputs.now outputs.now registers.now nr memories.now nm k line.now out.old at values.old memory.old result.at result.stop out.new values.new memory.new }
+) -> Result<usize, Refusal>
+    requires { Stands tables.now k state.old × (at ≤ length out.old) }
+    ensures same { SameTables state.old state.new }
+    ensures settles { SettlesOr tables.now k line.now out.old at state.old result out.new state.new }
 {
-    if is_wrong(line, inputs.len()) {
-        return refuse(out, at, 13, k, 0);
+    if is_wrong(line, tables.inputs.len()) {
+        return Err(Refusal::Line);
     }
-    let clash = trace_line::take_line(
-        net, steps, count, inputs, outputs, registers, nr, memories, nm, k, line, values, old,
-        memory,
-    );
-    if clash < 16 {
-        return refuse(out, at, 14, k, clash);
+    if let Err(clash) = trace_line::take_line(tables, state, k, line) {
+        return Err(Refusal::Clash(clash.memory));
     }
-    let to = trace_line::print_nets(outputs, values, out, at);
-    Printed {
-        at: to,
-        stop: false,
-    }
+    let values = &mut *state.values;
+    Ok(trace_line::print_nets(tables.outputs, values, out, at))
 }
 
 // Line k, whatever it is.
-pub fn any_line(
-    net: &[u32],
-    steps: &[u32],
-    count: usize,
-    inputs: &[u32],
-    outputs: &[u32],
-    registers: &[u32],
-    nr: usize,
-    memories: &[u32],
-    nm: usize,
+fn answer_line(
+    tables: &Tables,
+    state: &mut State,
+    kept: &mut Moments,
     k: u32,
     line: &[u8],
-    values: &mut [u32],
-    old: &mut [u32],
-    memory: &mut [u32],
-    names: &mut [u64],
-    kept: &mut [u32],
     out: &mut [u8],
     at: usize,
-) -> Printed
-    requires { (Underway net.now steps.now count inputs.now outputs.now registers.now nr memories.now nm k values.old memory.old names.old kept.old) × (length old.old ≡ length values.old) × (at ≤ length out.old) }
-    ensures { Answers net.now steps.now count inputs.now outputs.now registers.now nr memories.now nm k line.now out.old at values.old memory.old names.old kept.old result.at result.stop out.new values.new memory.new names.new kept.new }
+) -> Result<usize, Refusal>
+    requires { Runs tables.now k state.old kept.old × (at ≤ length out.old) }
+    ensures same { SameTables state.old state.new × SameKept kept.old kept.new }
+    ensures answers { AnswersOr tables.now k line.now out.old at state.old kept.old result out.new state.new kept.new }
 {
     if trace_names::is_named(line, b"keep ") {
-        let name = image_fields::part(line, 5);
-        let done = trace_keep::keep(net, memories, nm, k, name, values, memory, names, kept);
-        return unless_done(done, out, at, k);
+        trace_keep::keep(tables, state, kept, k, image_fields::part(line, 5))?;
+        return Ok(at);
     }
     if trace_names::is_named(line, b"back ") {
-        let name = image_fields::part(line, 5);
-        let done = trace_keep::back(net, memories, nm, k, name, values, memory, names, kept);
-        return unless_done(done, out, at, k);
+        trace_keep::back(tables, state, kept, k, image_fields::part(line, 5))?;
+        return Ok(at);
     }
-    settings_line(
-        net, steps, count, inputs, outputs, registers, nr, memories, nm, k, line, values, old,
-        memory, out, at,
-    )
+    settings_line(tables, state, k, line, out, at)
+}
+
+// Line k and its text: where that ends.
+pub fn any_line(
+    tables: &Tables,
+    state: &mut State,
+    kept: &mut Moments,
+    k: u32,
+    line: &[u8],
+    out: &mut [u8],
+    at: usize,
+) -> Result<usize, Last>
+    requires { Runs tables.now k state.old kept.old × (at ≤ length out.old) }
+    ensures same { SameTables state.old state.new × SameKept kept.old kept.new }
+    ensures answers { AnswersBy tables.now k line.now out.old at state.old kept.old (end_of result) (stop_of result) out.new state.new kept.new }
+{
+    match answer_line(tables, state, kept, k, line, out, at) {
+        Ok(to) => Ok(to),
+        Err(refusal) => Err(refuse(out, at, refusal.number(), k, refusal.place())),
+    }
 }

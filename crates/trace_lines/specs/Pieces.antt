@@ -1,5 +1,5 @@
 -- The text of a trace, line by line as its bytes come. Assumes nothing.
-use Prim.Native.Nat.{ℕ, suc, ◌+◌, ◌≤◌, ◌<◌}
+use Prim.Native.Nat.{ℕ, suc, ◌≤◌, ◌<◌}
 use Rattle.std.proofs.Common.{arith, ◌∙◌, length-append}
 use Rattle.std.specs.Prelude.{◌≡◌, Bool, length, get_or}
 use Rattle.std.proofs.Math.Path.{refl, sym, ap}

@@ -2,17 +2,23 @@
 use mathlib.Core.Path.{refl}
 use native.Mathlib.Omega.{arith}
 use Rattle.trace_keep.specs.Slots.{roomy_same}
-use Rattle.trace_lines.specs.Answers.{line_there, limited, waited, answered}
+use Rattle.trace_lines.specs.Answers.{limited, waited, answered}
+use Rattle.trace_lines.proofs.Stops.{answered_err}
 use Rattle.trace_lines.proofs.next_line.Goals as goal
 
-pub returns-then-end-bytes : goal.returns-then-end-bytes
-returns-then-end-bytes c = waited c.requires.0 c.line_end-end.ensures refl refl c.if-end-bytes.true c.wait.ensures
+pub returns-in_default-clause-answered : goal.returns-in_default-clause-answered
+returns-in_default-clause-answered c = waited c.requires.0.0 c.in_default.ensures refl refl refl c.wait.ensures.waits
 
-pub returns-then-k-gt4294967294 : goal.returns-then-k-gt4294967294
-returns-then-k-gt4294967294 c = limited c.requires.0 c.line_end-end.ensures (line_there c.line_end-end.ensures c.if-end-bytes.false) c.if-k-gt4294967294.true c.refuse_line.ensures
+pub returns-then-k-eq4294967295-clause-answered : goal.returns-then-k-eq4294967295-clause-answered
+returns-then-k-eq4294967295-clause-answered c = limited c.requires.0.0 c.in-Some.ensures.0 c.in-Some.ensures.1 (omega arith) (refl, c.refuse.ensures)
 
-pub overflow_add-result : goal.overflow_add-result
-overflow_add-result c = omega (arith, c.line_end-end.ensures.small (line_there c.line_end-end.ensures c.if-end-bytes.false))
+pub returns-clause-answered : goal.returns-clause-answered
+returns-clause-answered c =
+    let l = c.in_ok-to.ensures.same in
+    answered c.requires.0.0 c.in-Some.ensures.0 c.in-Some.ensures.1 (omega arith) refl c.in_ok-to.ensures.answers (roomy_same c.requires.0.0.room l.0.1.0 l.0.1.2 l.1.1.0 l.1.1.1) refl
 
-pub returns : goal.returns
-returns c = answered c.requires.0 c.line_end-end.ensures (line_there c.line_end-end.ensures c.if-end-bytes.false) c.if-k-gt4294967294.false c.stretch-line.ensures c.any_line-r.ensures (roomy_same c.requires.0.room c.any_line-r.auto.values c.any_line-r.auto.memory c.any_line-r.auto.names c.any_line-r.auto.kept) refl
+pub returns-in_err-to-clause-answered : goal.returns-in_err-to-clause-answered
+returns-in_err-to-clause-answered c =
+    let l = c.in_err-to.ensures.same in
+    answered_err c.args.tables.now c.args.k c.args.bytes.now c.args.out.now c.args.at c.args.state.now c.args.kept.now c.requires.0 c.in-Some.ensures.0 c.in-Some.ensures.1 (omega arith) refl _ _ c.any_line.new.state c.any_line.new.kept c.in_err-to.ensures.answers
+    (roomy_same c.requires.0.0.room l.0.1.0 l.0.1.2 l.1.1.0 l.1.1.1) _ c.from_residual.ensures
