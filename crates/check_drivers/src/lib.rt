@@ -27,12 +27,7 @@ fn any_marked(taken: &[u8], at: usize, n: u32) -> bool
     requires { at + n ≤ length taken.now }
     ensures { result ≡ any (λ k. marked taken.now (at + k)) n }
 {
-    for i in 0..n {
-        if taken[at + i as usize] == 1 {
-            return true;
-        }
-    }
-    false
+    taken[at..at + n as usize].contains(&1)
 }
 
 // Marks the n bits from at on.
@@ -40,9 +35,7 @@ fn mark(taken: &mut [u8], at: usize, n: u32)
     requires { at + n ≤ length taken.old }
     ensures { Marked at n taken.old taken.new }
 {
-    for i in 0..n {
-        taken[at + i as usize] = 1;
-    }
+    taken[at..at + n as usize].fill(1);
 }
 
 // Where bit b of signal p stands.

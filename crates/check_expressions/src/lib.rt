@@ -2,7 +2,8 @@
 #![tactic(auto)]
 
 ghost use Rattle.std.specs.Prelude.{◌≡◌, ◌+◌, ◌≤◌};
-ghost use Rattle.spec_tests.specs.Rules.{first, any, sum_to};
+ghost use Rattle.spec_tests.specs.Rules.{any, sum_to};
+ghost use Rattle.spec_tests.specs.Options.{first_of};
 ghost use Rattle.spec_rules.specs.Image.{count_at_of, expr_width};
 ghost use Rattle.spec_rules.specs.Checks.{late, bad_unary, bad_binary, bad_concat, bad_kind, bad_expr};
 ghost use Rattle.check_expressions.specs.Kinds.{late_word, part_width, bad_read, bad_constant, bad_unary_of, bad_binary_of, bad_mux, bad_concat_of, bad_slice, bad_fields};
@@ -45,12 +46,7 @@ fn has_late_part(image: &[u8], r: u32, start: u32, count: u32) -> bool
     requires { start + count ≤ 4294967295 }
     ensures { result ≡ any (late_word image.now r start) count }
 {
-    for i in 0..count {
-        if is_late(r, image_fields::list_word(image, start + i)) {
-            return true;
-        }
-    }
-    false
+    (0..count).any(|i| is_late(r, image_fields::list_word(image, start + i)))
 }
 
 // What the widths of a Concat's parts come to.
@@ -229,17 +225,17 @@ fn bad_expr(image: &[u8], r: u32, sum: u32) -> bool
     bad_fields(image, r, w)
 }
 
-// The first expression record that breaks a rule, and the number of records where none does.
-pub fn first_expr(image: &[u8]) -> u32
-    ensures { result ≡ first (bad_expr image.now) (count_at_of image.now 1) }
+// The first expression record that breaks a rule.
+pub fn first_expr(image: &[u8]) -> Option<u32>
+    ensures { result ≡ first_of (bad_expr image.now) (count_at_of image.now 1) }
 {
     let n = image_fields::count(image, image_fields::EXPRESSIONS);
     let mut sum: u32 = 0;
     for r in 0..n {
         if bad_expr(image, r, sum) {
-            return r;
+            return Some(r);
         }
         sum += image_fields::expr_width(image, r);
     }
-    n
+    None
 }

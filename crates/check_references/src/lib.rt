@@ -64,12 +64,7 @@ pub fn not_zero(image: &[u8], k: u32, r: u32, f: u32, n: u32) -> bool
     requires { f + n ≤ 64 }
     ensures { result ≡ not_zero image.now k r f n }
 {
-    for i in 0..n {
-        if image_fields::record_field(image, k, r, f + i) != 0 {
-            return true;
-        }
-    }
-    false
+    (0..n).any(|i| image_fields::record_field(image, k, r, f + i) != 0)
 }
 
 // The same where the control may be absent.

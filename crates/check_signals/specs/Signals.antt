@@ -1,7 +1,8 @@
 -- The rules of a signal record besides those of its name, and what a record that keeps them all tells.
 use Rattle.std.specs.Prelude.{ℕ, ◌+◌, ◌≤◌, List, Bool, false, ◌≡◌}
 use Rattle.std.proofs.Common.{sym}
-use Rattle.spec_tests.specs.Rules.{◌<?◌, ◌or◌, outside, first, sum_to}
+use Rattle.spec_tests.specs.Rules.{◌<?◌, ◌or◌, outside, sum_to}
+use Rattle.spec_tests.specs.Options.{first_of}
 use Rattle.spec_tests.specs.Laws.{or_no, no_lt, inside}
 use Rattle.spec_rules.specs.Image.{field, signal_width}
 use Rattle.spec_rules.specs.Checks.{bad_name, name_taken, bad_signal}
@@ -16,7 +17,7 @@ signal_rules : (s : List ℕ) (r : ℕ) → bad_signal s r ≡ (wrong_name s 0 r
 unfolding bad_signal wrong_name wrong_signal
 signal_rules s r = sym (or_assoc (bad_name s 0 r) (name_taken s 0 r) _)
 
-pub first_signal : (s : List ℕ) (n : ℕ) → first (bad_signal s) n ≡ earlier_of (first (wrong_name s 0) n) (first (wrong_signal s) n)
+pub first_signal : (s : List ℕ) (n : ℕ) → first_of (bad_signal s) n ≡ earlier_of (first_of (wrong_name s 0) n) (first_of (wrong_signal s) n)
 first_signal s n = first_either (bad_signal s) (wrong_name s 0) (wrong_signal s) n (signal_rules s)
 
 -- what a record that passes has

@@ -2,7 +2,8 @@
 #![tactic(auto)]
 
 ghost use Rattle.std.specs.Prelude.{◌≡◌, ◌≤◌};
-ghost use Rattle.spec_tests.specs.Rules.{first, sum_to};
+ghost use Rattle.spec_tests.specs.Rules.{sum_to};
+ghost use Rattle.spec_tests.specs.Options.{first_of};
 ghost use Rattle.spec_rules.specs.Image.{count_at_of, signal_width};
 ghost use Rattle.spec_rules.specs.Checks.{bad_signal};
 ghost use Rattle.check_signals.specs.Signals.{wrong_signal};
@@ -22,25 +23,25 @@ fn wrong_signal(image: &[u8], r: u32, sum: u32) -> bool
     4096 < sum + width
 }
 
-// The first record that breaks a rule other than those of names; their count where there is none.
-fn first_wrong(image: &[u8]) -> u32
-    ensures { result ≡ first (wrong_signal image.now) (count_at_of image.now 0) }
+// The first record that breaks a rule other than those of names.
+fn first_wrong(image: &[u8]) -> Option<u32>
+    ensures { result ≡ first_of (wrong_signal image.now) (count_at_of image.now 0) }
 {
     let n = image_fields::count(image, image_fields::SIGNALS);
     let mut sum: u32 = 0;
     for r in 0..n {
         if wrong_signal(image, r, sum) {
-            return r;
+            return Some(r);
         }
         sum += image_fields::signal_width(image, r);
     }
-    n
+    None
 }
 
-// The first signal record that breaks a rule; their count where there is none.
-pub fn first_signal(image: &[u8]) -> u32
+// The first signal record that breaks a rule.
+pub fn first_signal(image: &[u8]) -> Option<u32>
     requires { count_at_of image.now 0 ≤ 512 }
-    ensures { result ≡ first (bad_signal image.now) (count_at_of image.now 0) }
+    ensures { result ≡ first_of (bad_signal image.now) (count_at_of image.now 0) }
 {
     check_names::earlier(
         check_names::first_name(image, image_fields::SIGNALS),

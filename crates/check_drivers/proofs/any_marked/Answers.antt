@@ -1,21 +1,24 @@
--- `check_drivers::any_marked` meets its contract. The loop's invariant: no bit before the i-th is marked. Assumes nothing.
-use mathlib.Core.Path.{sym, ◌∙◌}
-use Prim.Native.Nat.{◌-◌}
-use native.Mathlib.Omega.{arith}
-use Rattle.spec_tests.specs.Laws.{eq_yes, eq_no, begins, passed, any_yes, any_no}
+-- `check_drivers::any_marked` meets its contract. Assumes nothing.
+use Rattle.std.proofs.Common.{◌≡◌, ℕ, ◌+◌, ◌-◌, ◌≤◌, List, nat_eq, take, drop, length, get_or, refl, arith, ◌∙◌, ap, length-drop, length-take-le}
+use Rattle.spec_tests.specs.Rules.{◌≡?◌, any}
+use Rattle.spec_tests.specs.Any.{any_ext}
+use Rattle.spec_chains.specs.Search.{any_in_list}
+use Rattle.image_fields.specs.Fields.{byte_in}
 use Rattle.check_drivers.specs.Bits.{marked}
 use Rattle.check_drivers.proofs.any_marked.Goals as goal
 
-pub loop-i-init : goal.loop-i-init
-loop-i-init c = (omega arith, begins _ _)
-
-pub returns-then-taken-at-eq1 : goal.returns-then-taken-at-eq1
-unfolding marked
-returns-then-taken-at-eq1 c = sym (any_yes _ _ _ (omega arith) c.loop-i.invariant.1 (eq_yes _ _ c.if-taken-at-eq1.true))
-
-pub loop-i-preserved : goal.loop-i-preserved
-unfolding marked
-loop-i-preserved c = (omega arith, c.loop-i.invariant.1 ∙ passed _ _ _ (omega arith) (eq_no _ _ c.if-taken-at-eq1.false))
+-- of the n bytes from at on
+in_part : (at n : ℕ) (t : List ℕ) → at + n ≤ length t → any (λ k. nat_eq (get_or (take n (drop at t)) k 0) 1) (length (take n (drop at t))) ≡ any (λ k. marked t (at + k)) n
+unfolding marked ◌≡?◌
+in_part at n t h =
+    ap (any (λ k. nat_eq (get_or (take n (drop at t)) k 0) 1)) (length-take-le n (drop at t) (omega (arith, length-drop at t)))
+    ∙ any_ext _ _ n (λ k l. ap (λ (x : ℕ). nat_eq x 1) (byte_in t at n k (at + k) l refl))
 
 pub returns : goal.returns
-returns c = sym (any_no _ _ _ (omega arith) (omega arith) c.loop-i.invariant.1)
+returns c =
+    let at = c.args.at in
+    let n = c.args.n in
+    let k : at + n - at ≡ n = omega arith in
+    c.contains.ensures.value
+    ∙ any_in_list (λ y. nat_eq y 1) (take (at + n - at) (drop at c.args.taken.now))
+    ∙ rw k (in_part at n c.args.taken.now c.requires)

@@ -1,6 +1,5 @@
 -- `check_drivers::is_driven` meets its contract. Assumes nothing.
 use mathlib.Core.Path.{sym, ◌∙◌}
-use native.Mathlib.Omega.{arith}
 use Rattle.spec_tests.specs.Laws.{or_hit, or_skip}
 use Rattle.spec_rules.specs.Checks.{driven}
 use Rattle.check_drivers.proofs.is_driven.Goals as goal
@@ -8,11 +7,6 @@ use Rattle.check_drivers.proofs.is_driven.Goals as goal
 pub returns-then-is_input : goal.returns-then-is_input
 unfolding driven
 returns-then-is_input c = λ i j m. or_hit _ (sym c.is_input.ensures ∙ c.if-is_input.true)
-
-pub is_marked-requires : goal.is_marked-requires
-is_marked-requires c =
-    let one = c.requires.0.fit.wide _ c.requires.2 in
-    (c.requires.0, c.requires.1, c.requires.2, omega arith, omega arith)
 
 pub returns : goal.returns
 unfolding driven

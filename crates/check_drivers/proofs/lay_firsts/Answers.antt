@@ -1,6 +1,6 @@
 -- `check_drivers::lay_firsts` meets its contract. The loop's invariant: the sum is that of the widths below p, and the words below p are in place. Assumes nothing.
 use mathlib.Core.Path.{◌≡◌, refl, sym, ap, ◌∙◌}
-use Prim.Native.Nat.{◌-◌, ◌<◌}
+use Prim.Native.Nat.{◌<◌}
 use native.Mathlib.Omega.{arith}
 use lib.ListN.{length-set}
 use Rattle.spec_tests.specs.Rules.{sum_to}

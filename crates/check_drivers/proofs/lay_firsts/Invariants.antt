@@ -1,6 +1,6 @@
 -- `check_drivers::lay_firsts` meets its contract. The loop's invariant: the sum is that of the widths below p, and the words below p are in place. Assumes nothing.
 use mathlib.Core.Path.{◌≡◌}
-use Prim.Native.Nat.{ℕ, ◌-◌, ◌≤◌, ◌<◌}
+use Prim.Native.Nat.{ℕ, ◌≤◌, ◌<◌}
 use lib.ListN.{length, get_or}
 use Rattle.spec_tests.specs.Rules.{sum_to}
 use Rattle.spec_rules.specs.Image.{count_at_of, signal_width}

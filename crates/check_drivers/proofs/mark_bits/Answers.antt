@@ -5,6 +5,3 @@ use Rattle.check_drivers.proofs.mark_bits.Goals as goal
 
 pub mark-requires : goal.mark-requires
 mark-requires c = omega (arith, signal_ends _ _ c.requires.2)
-
-pub returns : goal.returns
-returns c = rw c.place.ensures at c.mark.ensures

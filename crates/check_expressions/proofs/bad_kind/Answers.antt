@@ -1,7 +1,6 @@
 -- `check_expressions::bad_kind` meets its contract. Assumes nothing.
 use mathlib.Core.Path.{◌∙◌}
 use native.Mathlib.Omega.{arith}
-use Rattle.check_references.specs.Tests.{beyond}
 use Rattle.check_expressions.specs.Kinds.{kind_read, kind_constant, kind_unary, kind_binary, kind_mux, kind_concat, kind_slice, kind_none}
 use Rattle.check_expressions.proofs.bad_kind.Goals as goal
 
@@ -27,7 +26,4 @@ pub returns-in-6 : goal.returns-in-6
 returns-in-6 c = c.bad_slice.ensures ∙ kind_slice _ _ _ _ _ _ _ c.in-6.is
 
 pub returns-in_default : goal.returns-in_default
-returns-in_default c =
-    let h = c.in_default.in_default-own.rest in
-    let b = beyond 2 _ (beyond 1 _ (beyond 0 _ (omega arith) h.0.0.0.0.0.0.1) h.0.0.0.0.0.1) h.0.0.0.0.1 in
-    kind_none _ _ _ _ _ _ _ (beyond 6 _ (beyond 5 _ (beyond 4 _ (beyond 3 _ b h.0.0.0.1) h.0.0.1) h.0.1) h.1)
+returns-in_default c = kind_none _ _ _ _ _ _ _ (omega arith)

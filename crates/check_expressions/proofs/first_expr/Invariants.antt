@@ -1,6 +1,6 @@
 -- `check_expressions::first_expr` meets its contract. Assumes nothing.
 use mathlib.Core.Path.{◌≡◌}
-use Prim.Native.Nat.{◌-◌, ◌≤◌}
+use Prim.Native.Nat.{◌≤◌}
 use Rattle.spec_tests.specs.Rules.{first, sum_to}
 use Rattle.spec_tests.specs.Laws.{from}
 use Rattle.spec_rules.specs.Image.{expr_width}

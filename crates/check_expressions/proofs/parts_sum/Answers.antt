@@ -1,8 +1,7 @@
 -- `check_expressions::parts_sum` meets its contract. Assumes nothing.
-use mathlib.Core.Path.{sym, ap, ap₂, ◌∙◌}
-use Prim.Native.Nat.{◌+◌, ◌-◌}
+use mathlib.Core.Path.{sym, ap₂, ◌∙◌}
+use Prim.Native.Nat.{◌+◌}
 use native.Mathlib.Omega.{arith}
-use Rattle.spec_tests.specs.Rules.{sum_to}
 use Rattle.spec_tests.specs.Laws.{sum_none, sum_more}
 use Rattle.check_expressions.specs.Kinds.{part_width}
 use Rattle.check_expressions.proofs.parts_sum.Goals as goal
@@ -15,6 +14,3 @@ unfolding part_width
 loop-i-preserved c =
     let e = rw c.list_word.ensures at c.expr_width.ensures in
     (omega arith, ap₂ ◌+◌ c.loop-i.invariant.1 e ∙ sym (sum_more _ _), omega arith)
-
-pub returns : goal.returns
-returns c = c.loop-i.invariant.1 ∙ ap (sum_to (part_width _ _)) (omega arith)

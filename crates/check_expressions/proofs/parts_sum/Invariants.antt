@@ -1,6 +1,6 @@
 -- `check_expressions::parts_sum` meets its contract. Assumes nothing.
 use mathlib.Core.Path.{◌≡◌}
-use Prim.Native.Nat.{◌*◌, ◌-◌, ◌≤◌}
+use Prim.Native.Nat.{◌*◌, ◌≤◌}
 use Rattle.spec_tests.specs.Rules.{sum_to}
 use Rattle.check_expressions.specs.Kinds.{part_width}
 use Rattle.check_expressions.proofs.parts_sum.Given as goal

@@ -1,20 +1,17 @@
 -- `check_signals::first_wrong` meets its contract. The loop's invariant: no record below r breaks a rule, and the sum is that of the widths below r. Assumes nothing.
-use Prim.Native.Nat.{◌-◌}
 use mathlib.Core.Path.{sym, ◌∙◌}
 use native.Mathlib.Omega.{arith}
 use Rattle.spec_tests.specs.Laws.{begins, passed, found, ended, sum_none, sum_more}
+use Rattle.spec_tests.specs.Options.{first_some, first_none}
 use Rattle.spec_rules.specs.Image.{signal_width}
-use Rattle.check_signals.specs.Signals.{wrong_signal, sum_good}
+use Rattle.check_signals.specs.Signals.{sum_good}
 use Rattle.check_signals.proofs.first_wrong.Goals as goal
 
 pub loop-r-init : goal.loop-r-init
 loop-r-init c = (omega arith, begins _ _, sym (sum_none _), omega arith)
 
-pub wrong_signal-requires : goal.wrong_signal-requires
-wrong_signal-requires c = (c.loop-r.invariant.2, c.loop-r.invariant.3)
-
 pub returns-then-wrong_signal : goal.returns-then-wrong_signal
-returns-then-wrong_signal c = sym (found _ _ _ (omega arith) c.loop-r.invariant.1 (sym c.wrong_signal.ensures ∙ c.if-wrong_signal.true))
+returns-then-wrong_signal c = sym (first_some _ _ _ (omega arith) (found _ _ _ (omega arith) c.loop-r.invariant.1 (sym c.wrong_signal.ensures ∙ c.if-wrong_signal.true)))
 
 pub overflow_add-sum : goal.overflow_add-sum
 overflow_add-sum c =
@@ -31,4 +28,4 @@ loop-r-preserved c =
     (omega arith, c.loop-r.invariant.1 ∙ passed _ _ _ (omega arith) (sym c.wrong_signal.ensures ∙ c.if-wrong_signal.false), omega arith, omega arith)
 
 pub returns : goal.returns
-returns c = c.count-n.ensures ∙ sym (ended _ _ _ (omega arith) (omega arith) c.loop-r.invariant.1)
+returns c = sym (first_none _ _ (ended _ _ _ (omega arith) (omega arith) c.loop-r.invariant.1))

@@ -1,5 +1,5 @@
 -- `check_signals::first_wrong` meets its contract. The loop's invariant: no record below r breaks a rule, and the sum is that of the widths below r. Assumes nothing.
-use Prim.Native.Nat.{◌≤◌, ◌-◌}
+use Prim.Native.Nat.{◌≤◌}
 use mathlib.Core.Path.{◌≡◌}
 use Rattle.spec_tests.specs.Rules.{first, sum_to}
 use Rattle.spec_tests.specs.Laws.{from}
