@@ -8,6 +8,7 @@ use native.Mathlib.Nat.{mul-le-mul_right, suc-mul}
 use native.Mathlib.Omega.{arith}
 use lib.ListN.{length, get_or, drop}
 use Rattle.spec_tests.specs.Laws.{is_some}
+use Rattle.spec_tests.specs.Options.{option_of}
 use Rattle.spec_tests.specs.Rules.{list_of, sum_to}
 use Rattle.spec_rules.specs.Image.{count_at_of, signal_width, expr_width, decode}
 use Rattle.spec_model.specs.Builder.{Out, done, and_then}
@@ -20,7 +21,7 @@ use Rattle.scratch_view.specs.Laws.{whole_none, whole_some, read_whole}
 use Rattle.scratch_view.specs.Drivers.{driver_inside}
 use Rattle.law_accepted.specs.Formed.{readable}
 use Rattle.std.specs.Prelude as code
-use Rattle.std.specs.Prelude.{Some, None, Ok, Err}
+use Rattle.std.specs.Prelude.{Some, None, Ok, Err, IsErr, IsErrAnd}
 use Rattle.walk_view.specs.Refusals.{Lowered}
 use Rattle.walk_view.specs.declared.Refusal.TheVariants.{Undriven, Loop, Reset, TooManyNets, ListFull}
 use Rattle.walk_view.specs.Met.{met, AllMet, Grows, grows_mark, grows_signal, meets_signal}
@@ -36,10 +37,21 @@ use Rattle.walk_recursion.specs.declared.Part.TheVariants as P
 use Rattle.walk_left.specs.declared.Left.{Left}
 use Rattle.walk_left.specs.Needs.{lower_needs, NeedsMet}
 use Rattle.walk_left.specs.Left.{Skips, LeftOf, whole_rest, FirstTurn, driven, Keeps}
-use Rattle.walk_recursion.specs.Walk.{ThereNeed, GivesNeed, cost_need, LoopAt, WholeLoop, RangeLoop, need_of, At, Below}
+use Rattle.walk_view.specs.declared.Refusal.{Refusal}
+use Rattle.walk_recursion.specs.Walk.{ThereNeed, GivesNeed, cost_need, LoopAt, WholeLoop, RangeLoop, need_of, At, Below, Next, After}
 use Rattle.walk_view.specs.Stores.{stored_ready, stored_kept, stored_state, stored_grows, kept_same, kept_then}
 use Rattle.walk_view.specs.Answers.{Refused, out, not_done}
 use Rattle.walk_recursion.proofs.Steps.{needs_none, needs_on, needs_out, all_needs, need_suc, whole_there, whole_open, range_there, range_open, bit_there, bit_undriven, bit_loop, bit_driven_law}
+
+-- ---- a net that may be there ----
+
+pub there_is : (o : code.Option ℕ) → code.is_some o ≡ true → (n : ℕ) × (option_of o ≡ some n)
+there_is (Some n) e = (n, refl)
+there_is None e = absurd (true≢false (sym e))
+
+pub none_is : (o : code.Option ℕ) → code.is_some o ≡ false → option_of o ≡ none
+none_is (Some n) e = absurd (true≢false e)
+none_is None e = refl
 
 pub enough : (model : ℕ → Out State) (cost : ℕ) (x : Out State) → ((f : ℕ) → cost ≤ f → model (suc f) ≡ x) → (f : ℕ) → cost < f → model f ≡ x
 enough model cost x g zero h = absurd (omega arith)
@@ -395,6 +407,12 @@ range_below s net₀ w₀ e lsb m k at net w x l left =
       on = λ y net₁ w₁ g d. (loop_turn s net₀ w₀ (M.Range e lsb m) _ _ _ _ net w net₁ w₁ h x.need y refl g d, l.1);
       out = λ y net₁ w₁ g q. loop_out s net₀ w₀ (M.Range e lsb m) _ _ _ (range_rest s e lsb m x.next x.at) net w net₁ w₁ h x.need y refl g q;
     }
+
+-- a refusal that is passed on
+pub turn_refused : (s net₀ w₀ : List ℕ) (part : Part) (k : ℕ) (r : Next) (e : Refusal) (net w : List ℕ) → IsErr r × IsErrAnd r (λ y. y ≡ e)
+    → Gives s net₀ w₀ (need_of part) (Err e) net w → After s net₀ w₀ part k r net w
+turn_refused s net₀ w₀ part k (Ok x) e net w h g = absurd h.1
+turn_refused s net₀ w₀ part k (Err y) e net w h g = subst (λ (y : Refusal). Gives s net₀ w₀ (need_of part) (Err y) net w) (sym h.1) g
 
 -- where a part begins plays no part
 pub whole_at_law : (s net₀ w₀ : List ℕ) (e k at : ℕ) (net w : List ℕ) → At s net₀ w₀ (P.Whole e) k at net w → At s net₀ w₀ (P.Whole e) k 0 net w

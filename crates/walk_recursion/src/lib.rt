@@ -23,7 +23,13 @@ pub enum Part {
 
 // ---- turns: what one answers is what is left to lower, or nothing where the expression is done ----
 
-fn turn_whole(image: &[u8], net: &mut [u32], scr: &mut [u32], e: u32, k: u32) -> Result<Option<Left>, Refusal>
+fn turn_whole(
+    image: &[u8],
+    net: &mut [u32],
+    scr: &mut [u32],
+    e: u32,
+    k: u32,
+) -> Result<Option<Left>, Refusal>
     requires { Begun image.now (P.Whole e) k 0 net.old scr.old }
     ensures { Turns image.now net.old scr.old (P.Whole e) k 0 result net.new scr.new }
 {
@@ -66,7 +72,14 @@ fn turn_range(
 
 // Turn k of an expression or a range; the part of a Concat that it takes begins at bit at. Two functions call it, so the compiler keeps it
 // out of their frames.
-fn turn(image: &[u8], net: &mut [u32], scr: &mut [u32], part: Part, k: u32, at: u32) -> Result<Option<Left>, Refusal>
+fn turn(
+    image: &[u8],
+    net: &mut [u32],
+    scr: &mut [u32],
+    part: Part,
+    k: u32,
+    at: u32,
+) -> Result<Option<Left>, Refusal>
     requires { Begun image.now part k at net.old scr.old }
     ensures { Turns image.now net.old scr.old part k at result net.new scr.new }
 {
@@ -80,7 +93,13 @@ fn turn(image: &[u8], net: &mut [u32], scr: &mut [u32], part: Part, k: u32, at: 
 
 #[cycle(walk)]
 #[inline(never)]
-pub fn resolve_signal_bit(image: &[u8], net: &mut [u32], scr: &mut [u32], p: u32, b: u32) -> Result<(), Refusal>
+pub fn resolve_signal_bit(
+    image: &[u8],
+    net: &mut [u32],
+    scr: &mut [u32],
+    p: u32,
+    b: u32,
+) -> Result<(), Refusal>
     requires { (Ready image.now net.old scr.old) × (Sure image.now net.old scr.old) × (p < count_at_of image.now 0) × (b < signal_width image.now p) }
     ensures { Gives image.now net.old scr.old (model.Bit p b) result net.new scr.new }
 {
@@ -100,7 +119,12 @@ pub fn resolve_signal_bit(image: &[u8], net: &mut [u32], scr: &mut [u32], p: u32
 
 #[cycle(walk)]
 #[inline(never)]
-pub fn lower_expression(image: &[u8], net: &mut [u32], scr: &mut [u32], e: u32) -> Result<(), Refusal>
+pub fn lower_expression(
+    image: &[u8],
+    net: &mut [u32],
+    scr: &mut [u32],
+    e: u32,
+) -> Result<(), Refusal>
     requires { (Ready image.now net.old scr.old) × (Sure image.now net.old scr.old) × (e < count_at_of image.now 1) }
     ensures { Gives image.now net.old scr.old (model.Whole e) result net.new scr.new }
 {
@@ -160,14 +184,21 @@ fn lower_whole(image: &[u8], net: &mut [u32], scr: &mut [u32], e: u32) -> Result
 // What a need names, if there is one.
 #[cycle(walk)]
 #[inline(always)]
-fn lower_need(image: &[u8], net: &mut [u32], scr: &mut [u32], need: Option<Need>) -> Result<(), Refusal>
+fn lower_need(
+    image: &[u8],
+    net: &mut [u32],
+    scr: &mut [u32],
+    need: Option<Need>,
+) -> Result<(), Refusal>
     requires { (Ready image.now net.old scr.old) × (Sure image.now net.old scr.old) × (ThereNeed image.now need) }
     ensures { GivesNeed image.now net.old scr.old need result net.new scr.new }
 {
+    let Some(need) = need else {
+        return Ok(());
+    };
     match need {
-        Some(Need::Bit(p, b)) => lower_bit(image, net, scr, p, b),
-        Some(Need::Whole(e)) => lower_whole(image, net, scr, e),
-        Some(Need::Range(e, lsb, w)) => lower_expression_range(image, net, scr, e, lsb, w),
-        None => Ok(()),
+        Need::Bit(p, b) => lower_bit(image, net, scr, p, b),
+        Need::Whole(e) => lower_whole(image, net, scr, e),
+        Need::Range(e, lsb, w) => lower_expression_range(image, net, scr, e, lsb, w),
     }
 }

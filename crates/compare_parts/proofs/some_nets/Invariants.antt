@@ -1,6 +1,5 @@
 -- `compare_parts::some_nets` meets its contract. Assumes nothing.
 use mathlib.Core.Path.{◌≡◌}
-use Prim.Native.Nat.{◌-◌}
 use lib.ListN.{length}
 use Rattle.compare_parts.proofs.some_nets.Given as goal
 

@@ -1,0 +1,2 @@
+-- Laws that proofs of the crates above cite.
+pub mod Errors
