@@ -2,10 +2,11 @@
 use mathlib.Core.Path.{◌≡◌, refl, sym, ap, ◌∙◌}
 use mathlib.Core.Bool.{Bool, true, false, ◌&&◌}
 use mathlib.Core.List.{List, [], ◌∷◌}
-use Prim.Native.Nat.{ℕ, zero, suc, ◌+◌, ◌*◌, ◌≤◌, ◌<◌}
+use Prim.Native.Nat.{ℕ, suc, ◌+◌, ◌*◌, ◌≤◌, ◌<◌}
 use native.Mathlib.Omega.{arith}
 use native.Mathlib.Numerals.{add-one}
 use native.Mathlib.Nat.{add-zero}
+use Rattle.std.proofs.lemmas.List.{get_or_default}
 use lib.ListN.{length, get_or, set, take, drop, drop_of_length-le}
 use lib.Seq.{drop-cons, drop-set-add, get_or-drop, get_or-set_other}
 use lib.Dec.{eqb}
@@ -47,15 +48,9 @@ begins_law (x ∷ key) (y ∷ w) = go (eqb x y) (begins_law key w)
 
 -- ---- a cell's words ----
 
--- a word that is there, whatever stands past the end
-within : (w : List ℕ) (i a b : ℕ) → i < length w → get_or w i a ≡ get_or w i b
-within [] i a b h = absurd (omega arith)
-within (x ∷ w) zero a b h = refl
-within (x ∷ w) (suc i) a b h = within w i a b (omega arith)
-
 module _ (w : List ℕ) (at : ℕ) (h : at + 2 < length w) where
   kind_at : get_or (drop at w) 0 absent ≡ get_or w at 0
-  kind_at = get_or-drop at w 0 absent ∙ ap (λ (j : ℕ). get_or w j absent) (add-zero at) ∙ within w at absent 0 (omega arith)
+  kind_at = get_or-drop at w 0 absent ∙ ap (λ (j : ℕ). get_or w j absent) (add-zero at) ∙ get_or_default w at absent 0 (omega arith)
 
   width_at_law : get_or (drop at w) 2 0 ≡ get_or w (at + 2) 0
   width_at_law = get_or-drop at w 2 0

@@ -50,7 +50,7 @@ fn next_cell(net: &[u32], idx: &[u32], n: u32, at: usize) -> u32
     idx[3 * (n as usize) + o]
 }
 
-// The place of the outputs of the cell with a key, whose hash is h.
+// The place of the outputs of the cell with a key, whose hash is h. The index stands in lent words, by places: there is no heap.
 pub fn find_cell(net: &[u32], idx: &[u32], n: u32, h: u32, key: &[u32]) -> Option<usize>
     requires { (Held n net.now idx.now) × (Key key.now) × (h ≡ hash_key n key.now) × (h < n) }
     ensures { Finds n key.now net.now result }

@@ -50,24 +50,27 @@ pub enum ComparisonOp {
     LessOrEqualSigned,
 }
 
-fn comparison_word(op: ComparisonOp) -> u32
-    ensures { result ≡ comparison_word (compare_of op) }
-{
-    match op {
-        ComparisonOp::LessThanUnsigned => 0,
-        ComparisonOp::LessOrEqualUnsigned => 1,
-        ComparisonOp::LessThanSigned => 2,
-        ComparisonOp::LessOrEqualSigned => 3,
+// The word of a comparison's record.
+impl From<ComparisonOp> for u32 {
+    ghost from_gives = { λ op w. w ≡ comparison_word (compare_of op) };
+
+    fn from(op: ComparisonOp) -> u32 {
+        match op {
+            ComparisonOp::LessThanUnsigned => 0,
+            ComparisonOp::LessOrEqualUnsigned => 1,
+            ComparisonOp::LessThanSigned => 2,
+            ComparisonOp::LessOrEqualSigned => 3,
+        }
     }
 }
 
 // A comparison's key in front of a buffer.
-fn put_comparison(buffer: &mut [u32], op: u32, lhs: &[u32], rhs: &[u32])
+fn put_comparison(buffer: &mut [u32], op: ComparisonOp, lhs: &[u32], rhs: &[u32])
     requires { (length rhs.now ≡ length lhs.now) × (length lhs.now ≤ 1024) × (3 + 2 * length lhs.now ≤ length buffer.old) }
-    ensures { take (3 + 2 * length lhs.now) buffer.new ≡ comparison_key op lhs.now rhs.now }
+    ensures { take (3 + 2 * length lhs.now) buffer.new ≡ comparison_key (comparison_word (compare_of op)) lhs.now rhs.now }
 {
     buffer[0] = COMPARISON_RECORD;
-    buffer[1] = op;
+    buffer[1] = u32::from(op);
     buffer[2] = lhs.len() as u32;
     net_records::put_words(buffer, 3, lhs);
     let at = 3 + lhs.len();
@@ -103,8 +106,7 @@ fn comparison_in(
     requires { (Held n net.old idx.old) × (length rhs.now ≡ length lhs.now) × (0 < length lhs.now) × (length lhs.now ≤ 1024) × (length cell.old ≡ 4 + 2 * length lhs.now) }
     ensures { Compares op lhs.now rhs.now n net.old result net.new idx.new }
 {
-    let word = comparison_word(op);
-    put_comparison(cell, word, lhs, rhs);
+    put_comparison(cell, op, lhs, rhs);
     compare(net, idx, n, cell)
 }
 
@@ -145,23 +147,19 @@ pub fn comparison(
 
 // ---- arithmetic ----
 
-fn arithmetic_word(op: ArithmeticOp) -> u32
-    ensures { result ≡ arithmetic_word (op_of op) }
-{
-    match op {
-        ArithmeticOp::Add => 0,
-        ArithmeticOp::Subtract => 1,
-        ArithmeticOp::Multiply => 2,
-    }
-}
-
 // An arithmetic cell's key in front of a buffer.
-fn put_arithmetic(buffer: &mut [u32], op: u32, carry: Option<u32>, lhs: &[u32], rhs: &[u32])
+fn put_arithmetic(
+    buffer: &mut [u32],
+    op: ArithmeticOp,
+    carry: Option<u32>,
+    lhs: &[u32],
+    rhs: &[u32],
+)
     requires { (length rhs.now ≡ length lhs.now) × (length lhs.now ≤ 1024) × (4 + 2 * length lhs.now ≤ length buffer.old) }
-    ensures { take (4 + 2 * length lhs.now) buffer.new ≡ arithmetic_key op lhs.now rhs.now (option_of carry) }
+    ensures { take (4 + 2 * length lhs.now) buffer.new ≡ arithmetic_key (arithmetic_word (op_of op)) lhs.now rhs.now (option_of carry) }
 {
     buffer[0] = ARITHMETIC_RECORD;
-    buffer[1] = op;
+    buffer[1] = u32::from(op);
     buffer[2] = lhs.len() as u32;
     buffer[3] = carry.unwrap_or(ABSENT);
     net_records::put_words(buffer, 4, lhs);
@@ -239,8 +237,7 @@ fn arithmetic_in(
     requires { (Held n net.old idx.old) × (OneWidth lhs.now rhs.now out.old x.old y.old) × (length cell.old ≡ 4 + 3 * length lhs.now) }
     ensures { Computes op lhs.now rhs.now carry n net.old result out.new net.new idx.new }
 {
-    let word = arithmetic_word(op);
-    put_arithmetic(cell, word, carry, lhs, rhs);
+    put_arithmetic(cell, op, carry, lhs, rhs);
     compute(net, idx, n, op, lhs, rhs, carry, out, x, y, cell)
 }
 

@@ -49,7 +49,7 @@ fn is_node(net: &[u32], k: u32, kind: u32, owner: u32, a: u32, b: u32, c: u32) -
         && owner == net[p + OWNER]
 }
 
-// The newest node equal to the given one, whose hash is h.
+// The newest node equal to the given one, whose hash is h. The index stands in lent words, by net numbers: there is no heap.
 fn find_gate(
     net: &[u32],
     idx: &[u32],

@@ -1,8 +1,9 @@
 -- A copy as a run of stores; the ways of a push. Assumes nothing.
 use mathlib.Core.Path.{◌≡◌, refl, sym, ap, ◌∙◌}
-use mathlib.Core.List.{List, [], ◌∷◌, ◌++◌, append_assoc}
+use mathlib.Core.List.{List, ◌++◌, append_assoc}
 use Prim.Native.Nat.{ℕ, ◌+◌, ◌≤◌, ◌<◌}
 use native.Mathlib.Omega.{arith}
+use Rattle.std.proofs.lemmas.List.{get_or_default}
 use lib.ListN.{length, get_or, take, drop}
 use lib.Seq.{sets, sets-eq, drop-drop}
 use borrow.Rule.Slice.PartMut.{put_mid}
@@ -42,13 +43,8 @@ module _ (n : ℕ) (w r : List ℕ) (b : Built n w) where
     held = λ e idx d. d;
   }
 
--- a record's first word, whatever stands past the end
-first_word : (r : List ℕ) → 0 < length r → get_or r 0 0 ≡ get_or r 0 absent
-first_word [] h = absurd (omega arith)
-first_word (x ∷ r) h = refl
-
 pub kind_word_law : (r : List ℕ) → Formed r → get_or r 0 absent ≡ get_or r 0 0
-kind_word_law r f = sym (first_word r f.some)
+kind_word_law r f = get_or_default r 0 absent 0 f.some
 
 pub kind_less : (r : List ℕ) → Formed r → get_or r 0 0 < 5
 kind_less r f = omega (arith, f.kind, kind_word_law r f)

@@ -20,7 +20,7 @@ pub enum Gate {
     Xor,
 }
 
-// What is made of two bits: a gate, or whether they are equal.
+// What is made of two bits: a gate, or whether they are equal. A closure would have to promise of every lent netlist and index what `add_pair` promises of its own.
 #[derive(Clone, Copy)]
 pub enum Pair {
     Gate(Gate),

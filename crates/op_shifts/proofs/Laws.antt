@@ -1,12 +1,13 @@
 -- The bits of a moved word; stages one by one. Assumes nothing.
 use mathlib.Core.Path.{◌≡◌, refl, sym, ap, ◌∙◌}
 use mathlib.Core.Bool.{cond, false}
-use mathlib.Core.List.{List, [], ◌∷◌, map}
+use mathlib.Core.List.{List, map}
 use Prim.Native.Nat.{ℕ, zero, suc, pred, ◌+◌, ◌*◌, ◌-◌, ◌^◌, ◌≤◌, ◌<◌, min}
 use native.Mathlib.Omega.{arith}
 use native.Mathlib.Nat.{zero-add, pow-succ'}
 use borrow.Author.Tests.{lt-ltb, le-ltb}
 use lib.Dec.{ltb}
+use Rattle.std.proofs.lemmas.List.{get_or_default}
 use lib.ListN.{length, get_or, drop, length-map, drop_of_length-le}
 use lib.Seq.{drop-cons}
 use Rattle.spec_model.specs.Words.{Netlist}
@@ -22,12 +23,6 @@ use Rattle.std.specs.Prelude.{Result, Ok, Err}
 use Rattle.net_gates.specs.Nots.{PlainNots, keeps_mux, keeps_both, kept}
 use Rattle.net_fold.specs.Values.{Fills}
 use Rattle.op_bits.proofs.Laws.{nets, both_nets, first_out, list_by}
-
--- within a list the default does not matter
-get_or_in : (xs : List ℕ) (i d e : ℕ) → i < length xs → get_or xs i d ≡ get_or xs i e
-get_or_in [] i d e h = absurd (omega arith)
-get_or_in (x ∷ xs) zero d e h = refl
-get_or_in (x ∷ xs) (suc i) d e h = get_or_in xs i d e (omega arith)
 
 map_from : (f : ℕ → ℕ) (b w i d : ℕ) → i < w → get_or (map f (from b w)) i d ≡ f (b + i)
 unfolding from
@@ -53,7 +48,7 @@ module _ (z d : ℕ) (r : List ℕ) (i : ℕ) (h : i < length r) where
   left_low q = sym (at_zero (λ j. cond (ltb j d) z (get_or r (j - d) z)) (length r) i 0 h ∙ rw (lt-ltb i d q))
 
   pub left_high : d ≤ i → get_or r (i - d) 0 ≡ get_or (shifted LeftS z d r) i 0
-  left_high q = get_or_in r (i - d) 0 z (omega arith) ∙ sym (at_zero (λ j. cond (ltb j d) z (get_or r (j - d) z)) (length r) i 0 h ∙ rw (le-ltb i d q))
+  left_high q = get_or_default r (i - d) 0 z (omega arith) ∙ sym (at_zero (λ j. cond (ltb j d) z (get_or r (j - d) z)) (length r) i 0 h ∙ rw (le-ltb i d q))
 
   pub right_bit : get_or r (i + d) z ≡ get_or (shifted RightS z d r) i 0
   right_bit = sym (at_zero (λ j. get_or r (j + d) z) (length r) i 0 h)
@@ -61,11 +56,11 @@ module _ (z d : ℕ) (r : List ℕ) (i : ℕ) (h : i < length r) where
   pub arithmetic_bit : get_or r (i + d) (get_or r (length r - 1) 0) ≡ get_or (shifted ArithmeticS z d r) i 0
   arithmetic_bit =
       let e : length r - 1 ≡ pred (length r) = omega arith in
-      ap (get_or r (i + d)) (get_or_in r (length r - 1) 0 z (omega arith) ∙ ap (λ (j : ℕ). get_or r j z) e)
+      ap (get_or r (i + d)) (get_or_default r (length r - 1) 0 z (omega arith) ∙ ap (λ (j : ℕ). get_or r j z) e)
       ∙ sym (at_zero (λ j. get_or r (j + d) (get_or r (pred (length r)) z)) (length r) i 0 h)
 
   pub down_in : (fill : ℕ) → i + d < length r → get_or r (i + d) 0 ≡ get_or r (i + d) fill
-  down_in fill q = get_or_in r (i + d) 0 fill q
+  down_in fill q = get_or_default r (i + d) 0 fill q
 
 -- ---- a stage ----
 
