@@ -16,6 +16,7 @@ pub fn is_late(r: u32, e: u32) -> bool
 }
 
 // Unary operator op of width w, on a width x.
+#[tactic(auto, using(spec_chains::proofs::Tests::chained), unfolding(spec_rules::specs::Checks::bad_unary))]
 fn bad_unary(op: u32, w: u32, x: u32) -> bool
     ensures { result ≡ bad_unary op w x }
 {
@@ -26,6 +27,7 @@ fn bad_unary(op: u32, w: u32, x: u32) -> bool
 }
 
 // Binary operator op of width w, on widths x and y.
+#[tactic(auto, using(spec_chains::proofs::Tests::chained), unfolding(spec_rules::specs::Checks::bad_binary))]
 fn bad_binary(op: u32, w: u32, x: u32, y: u32) -> bool
     ensures { result ≡ bad_binary op w x y }
 {
@@ -61,121 +63,85 @@ fn parts_sum(image: &[u8], start: u32, count: u32) -> u64
     t
 }
 
+#[tactic(auto, using(spec_chains::proofs::Tests::chained), unfolding(spec_rules::specs::Checks::bad_concat, crate::specs::Kinds::late_word, crate::specs::Kinds::part_width))]
 fn bad_concat(image: &[u8], r: u32, w: u32, start: u32, count: u32) -> bool
     ensures { result ≡ bad_concat image.now r w start count }
 {
-    if count == 0 {
-        return true;
-    }
-    if check_references::below_sum(image_fields::count(image, image_fields::LIST), start, count) {
-        return true;
-    }
-    if has_late_part(image, r, start, count) {
-        return true;
-    }
-    parts_sum(image, start, count) != (w as u64)
+    count == 0
+        || check_references::below_sum(image_fields::count(image, image_fields::LIST), start, count)
+        || has_late_part(image, r, start, count)
+        || parts_sum(image, start, count) != (w as u64)
 }
 
 // ---- record r of each kind, with width w and operands a, b, c ----
 
+#[tactic(auto, using(spec_chains::proofs::Tests::chained), unfolding(crate::specs::Kinds::bad_read))]
 fn bad_read(image: &[u8], w: u32, a: u32, b: u32, c: u32) -> bool
     ensures { result ≡ bad_read image.now w a b c }
 {
-    if check_references::no_signal(image, a) {
-        return true;
-    }
-    if check_references::below_sum(image_fields::signal_width(image, a), b, w) {
-        return true;
-    }
-    c != 0
+    check_references::no_signal(image, a)
+        || check_references::below_sum(image_fields::signal_width(image, a), b, w)
+        || c != 0
 }
 
+#[tactic(auto, using(spec_chains::proofs::Tests::chained), unfolding(crate::specs::Kinds::bad_constant, spec_rules::specs::Image::constant_words))]
 fn bad_constant(image: &[u8], w: u32, a: u32, b: u32, c: u32) -> bool
     requires { w ≤ 1024 }
     ensures { result ≡ bad_constant image.now w a b c }
 {
-    if check_references::below_sum(
+    check_references::below_sum(
         image_fields::count(image, image_fields::LIST),
         a,
         2 * ((w + 63) / 64),
-    ) {
-        return true;
-    }
-    if b != 0 {
-        return true;
-    }
-    c != 0
+    ) || b != 0
+        || c != 0
 }
 
+#[tactic(auto, using(spec_chains::proofs::Tests::chained), unfolding(crate::specs::Kinds::bad_unary_of))]
 fn bad_unary_of(image: &[u8], r: u32, w: u32, a: u32, b: u32, c: u32) -> bool
     ensures { result ≡ bad_unary_of image.now r w a b c }
 {
-    if is_late(r, b) {
-        return true;
-    }
-    if bad_unary(a, w, image_fields::expr_width(image, b)) {
-        return true;
-    }
-    c != 0
+    is_late(r, b) || bad_unary(a, w, image_fields::expr_width(image, b)) || c != 0
 }
 
+#[tactic(auto, using(spec_chains::proofs::Tests::chained), unfolding(crate::specs::Kinds::bad_binary_of))]
 fn bad_binary_of(image: &[u8], r: u32, w: u32, a: u32, b: u32, c: u32) -> bool
     ensures { result ≡ bad_binary_of image.now r w a b c }
 {
-    if is_late(r, b) {
-        return true;
-    }
-    if is_late(r, c) {
-        return true;
-    }
-    bad_binary(
-        a,
-        w,
-        image_fields::expr_width(image, b),
-        image_fields::expr_width(image, c),
-    )
+    is_late(r, b)
+        || is_late(r, c)
+        || bad_binary(
+            a,
+            w,
+            image_fields::expr_width(image, b),
+            image_fields::expr_width(image, c),
+        )
 }
 
+#[tactic(auto, using(spec_chains::proofs::Tests::chained), unfolding(crate::specs::Kinds::bad_mux))]
 fn bad_mux(image: &[u8], r: u32, w: u32, a: u32, b: u32, c: u32) -> bool
     ensures { result ≡ bad_mux image.now r w a b c }
 {
-    if is_late(r, a) {
-        return true;
-    }
-    if is_late(r, b) {
-        return true;
-    }
-    if is_late(r, c) {
-        return true;
-    }
-    if image_fields::expr_width(image, a) != 1 {
-        return true;
-    }
-    if image_fields::expr_width(image, b) != w {
-        return true;
-    }
-    image_fields::expr_width(image, c) != w
+    is_late(r, a)
+        || is_late(r, b)
+        || is_late(r, c)
+        || image_fields::expr_width(image, a) != 1
+        || image_fields::expr_width(image, b) != w
+        || image_fields::expr_width(image, c) != w
 }
 
+#[tactic(auto, using(spec_chains::proofs::Tests::chained), unfolding(crate::specs::Kinds::bad_concat_of))]
 fn bad_concat_of(image: &[u8], r: u32, w: u32, a: u32, b: u32, c: u32) -> bool
     ensures { result ≡ bad_concat_of image.now r w a b c }
 {
-    if bad_concat(image, r, w, a, b) {
-        return true;
-    }
-    c != 0
+    bad_concat(image, r, w, a, b) || c != 0
 }
 
+#[tactic(auto, using(spec_chains::proofs::Tests::chained), unfolding(crate::specs::Kinds::bad_slice))]
 fn bad_slice(image: &[u8], r: u32, w: u32, a: u32, b: u32, c: u32) -> bool
     ensures { result ≡ bad_slice image.now r w a b c }
 {
-    if is_late(r, a) {
-        return true;
-    }
-    if check_references::below_sum(image_fields::expr_width(image, a), b, w) {
-        return true;
-    }
-    c != 0
+    is_late(r, a) || check_references::below_sum(image_fields::expr_width(image, a), b, w) || c != 0
 }
 
 fn bad_kind(image: &[u8], r: u32, k: u32, w: u32, a: u32, b: u32, c: u32) -> bool
@@ -219,10 +185,7 @@ fn bad_expr(image: &[u8], r: u32, sum: u32) -> bool
     if image_fields::is_outside(w, 1, 1024) {
         return true;
     }
-    if 32768 < sum + w {
-        return true;
-    }
-    bad_fields(image, r, w)
+    32768 < sum + w || bad_fields(image, r, w)
 }
 
 // The first expression record that breaks a rule.

@@ -29,34 +29,29 @@ pub fn no_expr(image: &[u8], e: u32) -> bool
 }
 
 // Signal p is not there or not 1 wide.
+#[tactic(auto, using(spec_chains::proofs::Tests::chained), unfolding(spec_rules::specs::Checks::bad_bit))]
 pub fn bad_bit(image: &[u8], p: u32) -> bool
     ensures { result ≡ bad_bit image.now p }
 {
-    if no_signal(image, p) {
-        return true;
-    }
-    image_fields::signal_width(image, p) != 1
+    no_signal(image, p) || image_fields::signal_width(image, p) != 1
 }
 
 // Expression e is not there or not w wide.
+#[tactic(auto, using(spec_chains::proofs::Tests::chained), unfolding(spec_rules::specs::Checks::bad_value))]
 pub fn bad_value(image: &[u8], e: u32, w: u32) -> bool
     ensures { result ≡ bad_value image.now e w }
 {
-    if no_expr(image, e) {
-        return true;
-    }
-    image_fields::expr_width(image, e) != w
+    no_expr(image, e) || image_fields::expr_width(image, e) != w
 }
 
 // Fields f and f + 1 of record r of section k are no control.
+#[tactic(auto, using(spec_chains::proofs::Tests::chained), unfolding(spec_rules::specs::Checks::bad_control))]
 pub fn bad_control(image: &[u8], k: u32, r: u32, f: u32) -> bool
     requires { f ≤ 32 }
     ensures { result ≡ bad_control image.now k r f }
 {
-    if bad_bit(image, image_fields::record_field(image, k, r, f)) {
-        return true;
-    }
-    1 < image_fields::record_field(image, k, r, f + 1)
+    bad_bit(image, image_fields::record_field(image, k, r, f))
+        || 1 < image_fields::record_field(image, k, r, f + 1)
 }
 
 // One of the n fields from f on is not 0.
@@ -68,6 +63,7 @@ pub fn not_zero(image: &[u8], k: u32, r: u32, f: u32, n: u32) -> bool
 }
 
 // The same where the control may be absent.
+#[tactic(auto, using(spec_chains::proofs::Tests::chained), unfolding(spec_rules::specs::Checks::bad_optional))]
 pub fn bad_optional(image: &[u8], k: u32, r: u32, f: u32) -> bool
     requires { f ≤ 32 }
     ensures { result ≡ bad_optional image.now k r f }

@@ -1,2 +1,3 @@
--- Chains of iterators that search.
+-- Chains of iterators that search, and chains of tests.
 pub mod Chains
+pub mod Tests
