@@ -40,7 +40,7 @@ fn fusion_row(image: &[u8], a: u32, b: u32) -> [u32; 8]
     };
     let s = expr_fusion::add_with_carry(image, a, b);
     let last = s.carry.unwrap_or(ABSENT);
-    [zero as u32, carry, t[0], t[1], t[2], s.lhs, s.rhs, last]
+    [u32::from(zero), carry, t[0], t[1], t[2], s.lhs, s.rhs, last]
 }
 
 // Fusion answers for a pair of expressions; false if the image is refused or has no such expressions.
@@ -58,28 +58,20 @@ pub fn compare_fusion(image: &[u8], a: u32, b: u32, row: &mut [u32; 8]) -> bool 
 
 // ---- the netlist builder ----
 
-// A net of those made so far. The remainder is below the count: tested, not proved.
+// A net of those made so far.
 fn some_net(net: &[u32], x: u32) -> u32
     requires { (16 ≤ length net.now) × (0 < get_or net.now 1 0) }
     ensures { result < get_or net.now 1 0 }
 {
-    let k = x % net[1];
-    if k < net[1] {
-        return k;
-    }
-    0
+    x % net[1]
 }
 
-// A word of the pool, from its start again after its end; tested like the above.
+// A word of the pool, from its start again after its end.
 fn pool_word(pool: &[u32], k: usize) -> u32 {
-    if pool.len() == 0 {
+    if pool.is_empty() {
         return 0;
     }
-    let i = k % pool.len();
-    if i < pool.len() {
-        return pool[i];
-    }
-    0
+    pool[k % pool.len()]
 }
 
 // Nets for w bits, as the words of a pool from a place on name them.
@@ -87,9 +79,9 @@ fn some_nets(net: &[u32], pool: &[u32], start: u32, w: usize) -> [u32; 1024]
     requires { (16 ≤ length net.now) × (0 < get_or net.now 1 0) × (w ≤ 1024) }
     ensures { length result ≡ 1024 }
 {
-    let mut nets = [0u32; 1024];
-    for i in 0..w {
-        nets[i] = some_net(net, pool_word(pool, start as usize + i));
+    let mut nets = [0; 1024];
+    for (i, bit) in nets[..w].iter_mut().enumerate() {
+        *bit = some_net(net, pool_word(pool, start as usize + i));
     }
     nets
 }
