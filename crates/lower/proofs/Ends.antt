@@ -52,7 +52,7 @@ module _ (s : List ℕ) (n p : ℕ) where
 
   -- the words net of a walk whose answer r is the model's
   answer_is : (r : Lowered) (st : State) → lower (decode s) n p ≡ and_then (out_of r st) (λ st. done st.netlist) → end_of r ≡ outcome (lower (decode s) n p)
-  unfolding end_of outcome
+  unfolding outcome
   answer_is (Ok u) st e = rw e
   answer_is (Err (W.Undriven q b)) st e = rw e
   answer_is (Err (W.Loop q b)) st e = rw e

@@ -1,12 +1,12 @@
 -- An arithmetic cell's key, and the ways to its outputs. Assumes nothing.
 use mathlib.Core.Path.{◌≡◌, refl, sym, ap, ◌∙◌}
 use mathlib.Core.Bool.{Bool}
-use mathlib.Core.List.{List, [], ◌∷◌, ◌++◌, append-nil}
+use mathlib.Core.List.{List, [], ◌∷◌, ◌++◌}
 use mathlib.Core.Option.{Option, none, some}
 use Prim.Native.Nat.{ℕ, ◌+◌, ◌*◌, ◌≤◌, ◌<◌}
 use native.Mathlib.Omega.{arith}
-use lib.ListN.{length, get_or, set, take, drop, drop_of_length-le, length-append, length-set}
-use lib.Seq.{sets, sets-eq, length-sets}
+use lib.ListN.{length, get_or, set, take, drop, length-append, length-set}
+use lib.Seq.{sets, length-sets}
 use Rattle.std.specs.Prelude.{Option as CodeOption, Some, None}
 use Rattle.std.specs.Option.{unwrap_or}
 use Rattle.spec_tests.specs.Options.{option_of}
@@ -73,11 +73,6 @@ fills_out m n b ListFull w idx out g = record { says = g.says; held = g.held }
 
 pub fills_run : (m : Made (List ℕ)) (n b first : ℕ) (w idx out : List ℕ) → out ≡ from first b → GivesRun m n b (Ok first) w idx → Fills m n (Ok tt) out w idx
 fills_run m n b first w idx out e g = record { says = g.says ∙ (λ i. done (sym e i, netlist_of n w)); held = g.held }
-
--- a whole list stored over one of its length
-pub sets_all : (x vs : List ℕ) → length x ≡ length vs → sets x 0 vs ≡ vs
-sets_all x vs e =
-    sets-eq vs x 0 (omega arith) ∙ ap (λ (t : List ℕ). vs ++ t) (drop_of_length-le x {i = 0 + length vs} (omega arith)) ∙ append-nil vs
 
 -- the first output is the next net
 recorded_made : (key : List ℕ) (made : Made (List ℕ)) (ns : List ℕ) (l : Netlist) → add_recorded key made ≡ done (ns, l) → (l₁ : Netlist) × (made ≡ done (ns, l₁))

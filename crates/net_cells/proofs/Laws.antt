@@ -6,6 +6,7 @@ use mathlib.Core.Option.{Option, none}
 use Prim.Native.Nat.{ℕ, ◌+◌, ◌-◌, ◌*◌, ◌≤◌, ◌<◌}
 use native.Mathlib.Omega.{arith}
 use lib.ListN.{length, get_or, set, take, drop, length-append, length-drop, length-set, drop_of_length-le}
+use borrow.Rule.Slice.PartMut.{put_mid}
 use lib.Seq.{sets, sets-eq, take_at, get_or-append-add, length-take-le, length-sets, drop-cons}
 use Rattle.spec_model.specs.Words.{Node, Netlist, used, comparison_key}
 use Rattle.spec_model.specs.Builder.{done, Made, or_made, from, add_recorded}
@@ -39,14 +40,15 @@ indexed_same m ns idx idx' e h ix = record { heads = λ j l. e j (omega arith) �
 -- ---- the record ----
 
 -- a record whose outputs are stored
-pub record_whole : (cell : List ℕ) (first b : ℕ) → b ≤ length cell
-    → sets cell (length cell - b) (from first b) ≡ take (length cell - b) cell ++ from first b
-record_whole cell first b h =
-    let len : length (from first b) ≡ b = length_from first b in
+pub record_whole : (cell run : List ℕ) (first b : ℕ) → b ≤ length cell → let k = length cell - b in
+    run ≡ from first (length (take (length cell - k) (drop k cell))) → put_mid k (length cell - k) cell run ≡ take k cell ++ from first b
+record_whole cell run first b h e =
     let k = length cell - b in
-    sets-eq (from first b) cell k (omega arith)
-    ∙ ap (λ (t : List ℕ). take k cell ++ from first b ++ t) (drop_of_length-le cell {i = k + length (from first b)} (omega arith))
-    ∙ append-nil (take k cell ++ from first b)
+    let u : length cell - k ≡ b = omega arith in
+    let d : length (drop k cell) ≡ b = length-drop k cell ∙ omega arith in
+    let l : length (take (length cell - k) (drop k cell)) ≡ b = length-take-le (length cell - k) (drop k cell) (omega arith) ∙ u in
+    ap (λ (t : List ℕ). take k cell ++ (run ++ t)) (drop_of_length-le (drop k cell) {i = length cell - k} (omega arith))
+    ∙ ap (λ (t : List ℕ). take k cell ++ t) (append-nil run ∙ e ∙ ap (from first) l)
 
 module _ (n h kind b : ℕ) (key w idx : List ℕ) (r : CellRoom n h kind b key w idx) (first : ℕ) where
   starts : begins key (key ++ from first b) ≡ true

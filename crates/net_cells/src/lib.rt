@@ -34,7 +34,7 @@ pub fn add_cell(
     let first = net_ports::add_nodes(net, n, kind, owner, 0, b)?;
     let used = net[LIST_USED];
     let at = cell.len() - b as usize;
-    net_ports::put_run(cell, at, first, b);
+    net_ports::put_run(&mut cell[at..], first);
     net_records::push_record(net, n, cell)?;
     net_cell_index::link_cell(idx, n, first, h, used);
     Ok(first)
@@ -184,7 +184,7 @@ fn add_arithmetic(
     let owner = net[ARITHMETIC_COUNT];
     let w = out.len() as u32;
     let first = add_cell(net, idx, n, h, ARITHMETIC_OUTPUT, owner, cell, w)?;
-    net_ports::put_run(out, 0, first, w);
+    net_ports::put_run(out, first);
     Ok(())
 }
 

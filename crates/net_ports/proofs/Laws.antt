@@ -1,16 +1,17 @@
--- Runs of stores, of numbers and of nodes. Assumes nothing.
+-- Runs of numbers and of nodes. Assumes nothing.
 use mathlib.Core.Path.{◌≡◌, refl, sym, ap, ◌∙◌}
 use mathlib.Core.Bool.{Bool, true, false}
 use mathlib.Core.List.{List, [], ◌∷◌, ◌++◌, append_assoc, append-nil}
 use Prim.Native.Nat.{ℕ, zero, suc, ◌+◌, ◌-◌, ◌≤◌, ◌<◌}
 use native.Mathlib.Omega.{arith}
 use native.Mathlib.Numerals.{add-one}
-use lib.ListN.{length, get_or, set, take, drop, replicate, length-set}
-use lib.Seq.{paste, paste-zero, paste-suc, sets, sets-eq, take_all, take_at}
+use lib.ListN.{length, get_or, set, take, length-set, drop_of_length-le}
+use lib.Seq.{take_all, take-suc-set}
+use borrow.Rule.Slice.PartMut.{put_mid}
 use lib.Dec.{ltb}
 use Rattle.spec_model.specs.Words.{absent, Node, node, Netlist}
 use Rattle.spec_model.specs.Builder.{refused, done, and_then, Made, add_node, also, each, both, from, add_nodes, add_recorded, add_output_port, push}
-use Rattle.word_laws.specs.Runs.{from_snoc, length_from}
+use Rattle.word_laws.specs.Runs.{from_snoc}
 use Rattle.net_view.specs.View.{netlist_of, Built}
 use Rattle.net_view.specs.Laws.{count_is, with_node}
 use Rattle.net_index.specs.Index.{is_cell, Held}
@@ -22,30 +23,29 @@ use Rattle.net_nodes.specs.declared.Full.TheVariants.{Nets, List as ListFull}
 use Rattle.std.specs.Prelude.{Result, Ok, Err}
 use Rattle.net_ports.specs.Runs.{run_of, Runs, output_node}
 
--- ---- a run of stores ----
+-- ---- a run of numbers ----
 
--- what holds at the head of the copy's loop
-pub record Copied (w₀ : List ℕ) (at : ℕ) (r w : List ℕ) (i : ℕ) : Type 0 where
-  pub within : i ≤ length r
-  pub sized : length w ≡ length w₀
-  pub says : w ≡ paste w₀ at r i
+-- what holds after i stores
+pub record Numbered (first : ℕ) (out₀ out : List ℕ) (i : ℕ) : Type 0 where
+  pub within : i ≤ length out
+  pub sized : length out ≡ length out₀
+  pub says : take i out ≡ from first i
 
-pub copied_start : (w₀ : List ℕ) (at : ℕ) (r : List ℕ) → Copied w₀ at r w₀ 0
-copied_start w₀ at r = record { within = omega arith; sized = refl; says = paste-zero w₀ at r }
+pub numbered_start : (first : ℕ) (out : List ℕ) → Numbered first out out 0
+unfolding from
+numbered_start first out = record { within = omega arith; sized = refl; says = refl }
 
-pub copied_more : (w₀ : List ℕ) (at : ℕ) (r w : List ℕ) (i : ℕ) → Copied w₀ at r w i → i < length r → at + length r ≤ length w₀
-    → Copied w₀ at r (set w (at + i) (get_or r i 0)) (i + 1)
-copied_more w₀ at r w i c h f = record {
-  within = omega arith;
-  sized = length-set w (at + i) (get_or r i 0) ∙ c.sized;
-  says = ap (λ (u : List ℕ). set u (at + i) (get_or r i 0)) c.says ∙ paste-suc w₀ at r i 0 (omega arith) h ∙ ap (paste w₀ at r) (sym (add-one i));
-}
+pub numbered_more : (first : ℕ) (out₀ out : List ℕ) (i : ℕ) → Numbered first out₀ out i → i < length out → Numbered first out₀ (set out i (first + i)) (i + 1)
+numbered_more first out₀ out i g h = rw (add-one i) (record {
+  within = rw length-set h;
+  sized = length-set out i (first + i) ∙ g.sized;
+  says = take-suc-set out i (first + i) h ∙ ap (λ (t : List ℕ). t ++ ((first + i) ∷ [])) g.says ∙ sym (from_snoc first i);
+})
 
-pub copied_end : (w₀ : List ℕ) (at : ℕ) (r w : List ℕ) (i : ℕ) → Copied w₀ at r w i → length r ≤ i → at + length r ≤ length w₀ → w ≡ sets w₀ at r
-copied_end w₀ at r w i c h f =
-    let e : i ≡ length r = omega (arith, c.within) in
-    c.says ∙ ap (λ (k : ℕ). take at w₀ ++ take k r ++ drop (at + k) w₀) e
-    ∙ ap (λ (t : List ℕ). take at w₀ ++ t ++ drop (at + length r) w₀) (take_all (length r) r (omega arith)) ∙ sym (sets-eq r w₀ at f)
+pub numbered_end : (first : ℕ) (out₀ out : List ℕ) (i : ℕ) → Numbered first out₀ out i → length out ≤ i → out ≡ from first (length out₀)
+numbered_end first out₀ out i g h =
+    let e : i ≡ length out₀ = omega (arith, g.within, g.sized) in
+    sym (take_all i out h) ∙ g.says ∙ ap (from first) e
 
 -- ---- a run of nodes, one by one ----
 
@@ -203,13 +203,18 @@ module _ (x : ℕ → Node) (n b w first : ℕ) (w₀ net : List ℕ) (i : ℕ) 
     held = λ idx d. a.held idx (g.held idx d);
   }
 
--- a port's record, as it stands in front of an array
-pub port_words_law : (s w first : ℕ) → w ≤ 1024
-    → take (3 + w) (sets (set (set (replicate 1027 0) 1 s) 2 w) 3 (from first w)) ≡ 0 ∷ s ∷ w ∷ from first w
-port_words_law s w first h =
-    let a : List ℕ = set (set (replicate 1027 0) 1 s) 2 w in
-    let len : length (from first w) ≡ w = length_from first w in
-    ap (take (3 + w)) (sets-eq (from first w) a 3 (rw len (omega arith))) ∙ take_at (take 3 a ++ from first w) (drop (3 + length (from first w)) a) (3 + w) (omega arith)
+-- a port's record in its words
+pub port_put : (words run : List ℕ) (s first x k : ℕ) → 3 ≤ length words → let w = length words - 3 in
+    x ≡ w → k ≡ w → run ≡ from first w → put_mid 3 k (set (set (set words 0 0) 1 s) 2 x) run ≡ 0 ∷ s ∷ w ∷ from first w
+port_put [] run s first x k h a b e = absurd (omega arith)
+port_put (y ∷ []) run s first x k h a b e = absurd (omega arith)
+port_put (y ∷ z ∷ []) run s first x k h a b e = absurd (omega arith)
+port_put (y ∷ z ∷ u ∷ rest) run s first x k h a b e =
+    ap (λ (t : List ℕ). 0 ∷ s ∷ x ∷ (run ++ t)) (drop_of_length-le rest {i = k} (omega arith))
+    ∙ ap (λ (t : List ℕ). 0 ∷ s ∷ x ∷ t) (append-nil run ∙ e) ∙ ap (λ (i : ℕ). 0 ∷ s ∷ i ∷ from first (length (y ∷ z ∷ u ∷ rest) - 3)) a
+
+pub width : (w : ℕ) → 3 + w - 3 ≡ w
+width w = omega arith
 
 -- ---- nodes, and then a record of them ----
 

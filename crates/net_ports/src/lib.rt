@@ -1,8 +1,7 @@
 // Runs of nodes, and the ports that they make.
 #![tactic(auto)]
 
-ghost use Rattle.std.specs.Prelude.{◌≡◌, false, ◌∷◌, ◌+◌, ◌≤◌, length};
-ghost use Rattle.std.proofs.lemmas.List.Edits.{sets};
+ghost use Rattle.std.specs.Prelude.{◌≡◌, false, ◌∷◌, ◌+◌, ◌-◌, ◌≤◌, length};
 ghost use Rattle.spec_model.specs.Words.{source};
 ghost use Rattle.spec_model.specs.Builder.{from, add_nodes, add_input_port, add_output_port};
 ghost use Rattle.net_view.specs.View.{netlist_of, Built};
@@ -33,27 +32,35 @@ pub fn add_nodes(
     Ok(first)
 }
 
-// The numbers from a first one on, w of them, from a place on.
-pub fn put_run(out: &mut [u32], at: usize, first: u32, w: u32)
-    requires { (at + w ≤ length out.old) × (first + w ≤ 131070) }
-    ensures { out.new ≡ sets out.old at (from first w) }
+// The numbers from a first one on.
+pub fn put_run(out: &mut [u32], first: u32)
+    requires { first + length out.old ≤ 131070 }
+    ensures { out.new ≡ from first (length out.old) }
 {
-    for i in 0..w {
-        out[at + i as usize] = first + i;
+    for (i, x) in out.iter_mut().enumerate() {
+        *x = first + i as u32;
     }
 }
 
-// A port's record; its first word, PORT_RECORD, is 0.
+// A port's record.
+fn put_port(words: &mut [u32], s: u32, first: u32)
+    requires { (3 ≤ length words.old) × (length words.old ≤ 1027) × (first + length words.old ≤ 131073) }
+    ensures { words.new ≡ 0 ∷ s ∷ (length words.old - 3) ∷ from first (length words.old - 3) }
+{
+    words[0] = PORT_RECORD;
+    words[1] = s;
+    words[2] = words.len() as u32 - 3;
+    put_run(&mut words[3..], first);
+}
+
 fn push_port(net: &mut [u32], n: u32, s: u32, first: u32, w: u32) -> Result<(), ListFull>
     requires { (Built n net.old) × (w ≤ 1024) × (first + w ≤ 131070) }
     ensures { Pushes (0 ∷ s ∷ w ∷ from first w) n result net.old net.new }
 {
-    let mut record = [0u32; 1027];
-    record[1] = s;
-    record[2] = w;
-    put_run(&mut record, 3, first, w);
+    let mut words = [0u32; 1027];
     let len = 3 + w as usize;
-    net_records::push_record(net, n, &record[..len])
+    put_port(&mut words[..len], s, first);
+    net_records::push_record(net, n, &words[..len])
 }
 
 // An input port: its nodes and its record. The answer is the first net.

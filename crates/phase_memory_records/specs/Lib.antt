@@ -1,4 +1,3 @@
 -- Words put into a record, and a memory's.
 pub mod Puts
 pub mod Memories
-pub mod Second

@@ -49,6 +49,12 @@ pub record MemoryWhole (s w : List ℕ) (x : Memory) : Type 0 where
 
 -- ---- a port's words: widths and nets, then controls ----
 
+abbrev pub read_nets : Module → State → Port → List ℕ
+read_nets m st p = whole_nets st p.read_address ++ signal_nets st p.read_data 0 (signal_width m p.read_data)
+
+abbrev pub write_nets : State → Port → List ℕ
+write_nets st p = whole_nets st p.write_address ++ whole_nets st p.write_data
+
 abbrev pub net_words : Module → State → Port → List ℕ
 net_words m st p =
     let ra = whole_nets st p.read_address in

@@ -1,4 +1,5 @@
 -- What each way through the functions gives, from what their calls give. Assumes nothing.
+use Rattle.std.specs.Prelude as code
 use mathlib.Core.Path.{◌≡◌, refl, sym, ap, ◌∙◌, subst}
 use mathlib.Core.Bool.{Bool}
 use mathlib.Core.List.{List, [], ◌∷◌}
@@ -11,23 +12,21 @@ use Rattle.spec_model.specs.Builder.{refused, and_then, constant_value}
 use Rattle.spec_model.specs.Lowering.{State, signal_net, whole_net, option_control, push_record, reset_by, register_bit, register_bits}
 use Rattle.image_records.specs.declared.Register.{Register}
 use Rattle.image_records.specs.declared.Reset.{Reset}
-use Rattle.image_records.specs.declared.ResetOption.TheVariants as O
-use Rattle.image_records.specs.Others.{reset_means, register_means}
+use Rattle.image_records.specs.Others.{control_means, reset_means, register_means}
 use Rattle.walk_view.specs.Turns.{in_turn}
 use Rattle.phase_register_records.specs.declared.ResetWords.{ResetWords}
 use Rattle.phase_register_records.specs.Registers.{reset_of, ThereReset, WideReset, There, WholeReset, Wholes, bit_words, four_words, net_reset}
-use Rattle.phase_register_records.specs.Resets.{present_means}
 
 -- ---- the code's reset ----
 
-module _ (x : Register) where
-  pub register_reset : (register_means x).reset ≡ reset_means x.reset
-  unfolding register_means
-  register_reset = refl
+pub no_reset : (x : Register) → x.reset ≡ code.None → (register_means x).reset ≡ none
+unfolding register_means reset_means
+no_reset x q = ap reset_means q
 
-module _ (x : Register) (y : Reset) (q : x.reset ≡ O.Present y) where
+module _ (x : Register) (y : Reset) (q : x.reset ≡ code.Some y) where
   pub reset_is : (register_means x).reset ≡ some (reset_of y)
-  reset_is = register_reset x ∙ present_means x.reset y q
+  unfolding register_means reset_means control_means
+  reset_is = ap reset_means q
 
   pub there_reset : (s : List ℕ) → There s (register_means x) → ThereReset s (some (reset_of y))
   there_reset s h = subst (ThereReset s) reset_is h.reset

@@ -1,3 +1,2 @@
 -- A register's records.
 pub mod Registers
-pub mod Resets

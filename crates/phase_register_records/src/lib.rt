@@ -14,9 +14,8 @@ ghost use Rattle.phase_parts.specs.Ran.{Ran};
 ghost use Rattle.phase_register_records.specs.Registers.{bits_turn, reset_of, ThereReset, There, WholeReset, Wholes, bit_words, four_words, IsReset};
 
 use image_numbers::*;
-use image_records::{Register, Reset, ResetOption};
-use net_nodes::Constant;
-use walk_view::Lowered;
+use image_records::{Register, Reset};
+use walk_view::Refusal;
 
 // A reset in a record: net, level, mode, value.
 #[derive(Clone, Copy)]
@@ -35,7 +34,7 @@ fn reset_words(image: &[u8], scr: &[u32], x: Reset, v: u32) -> ResetWords
     ResetWords {
         net: phase_parts::bit_net(image, scr, c.signal, 0),
         level: phase_parts::low_word(c.level),
-        mode: phase_parts::bit_word(x.asynchronous),
+        mode: u32::from(x.asynchronous),
         value: v,
     }
 }
@@ -49,7 +48,7 @@ fn push_register(
     x: Register,
     b: u32,
     z: ResetWords,
-) -> Lowered
+) -> Result<(), Refusal>
     requires { (Ready image.now net.old scr.now) × (Sure image.now net.old scr.now) × (There image.now (register_means x)) × (Wholes image.now scr.now (register_means x)) × (b < signal_width image.now (register_means x).target) }
     ensures { Ran (model.push_record (bit_words k (register_means x) b (walk_state image.now net.old scr.now) (four_words z)) (walk_state image.now net.old scr.now)) image.now net.old scr.now result net.new scr.now }
 {
@@ -57,8 +56,7 @@ fn push_register(
     let next = scratch_tables::expr_net(image, scr, x.next, b);
     let clock = phase_parts::bit_net(image, scr, x.clock, 0);
     let edge = phase_parts::low_word(x.rising);
-    let enable = x.enable;
-    let c = phase_parts::control_words(image, scr, enable);
+    let c = phase_parts::control_words(image, scr, x.enable);
     let record = [
         REGISTER_RECORD,
         k,
@@ -86,31 +84,33 @@ fn push_reset(
     x: Register,
     b: u32,
     y: Reset,
-) -> Lowered
+) -> Result<(), Refusal>
     requires { (Ready image.now net.old scr.now) × (Sure image.now net.old scr.now) × (There image.now (register_means x)) × (Wholes image.now scr.now (register_means x)) × (b < signal_width image.now (register_means x).target) × (ThereReset image.now (some (reset_of y))) × (b < expr_width image.now (reset_of y).value) × (WholeReset image.now scr.now (some (reset_of y))) }
     ensures { Ran (model.register_bit (some (reset_of y)) k (register_means x) b (walk_state image.now net.old scr.now)) image.now net.old scr.now result net.new scr.now }
 {
     let value = scratch_tables::expr_net(image, scr, y.value, b);
     match net_nodes::constant_value(net, value) {
-        Constant::Zero => {
-            let z = reset_words(image, scr, y, 0);
+        Some(v) => {
+            let z = reset_words(image, scr, y, u32::from(v));
             push_register(image, net, scr, k, x, b, z)
         }
-        Constant::One => {
-            let z = reset_words(image, scr, y, 1);
-            push_register(image, net, scr, k, x, b, z)
-        }
-        Constant::Other => Lowered::Reset(k, b),
+        None => Err(Refusal::Reset(k, b)),
     }
 }
 
-fn push_bit(image: &[u8], net: &mut [u32], scr: &[u32], k: u32, x: Register, b: u32) -> Lowered
+fn push_bit(
+    image: &[u8],
+    net: &mut [u32],
+    scr: &[u32],
+    k: u32,
+    x: Register,
+    b: u32,
+) -> Result<(), Refusal>
     requires { (Ready image.now net.old scr.now) × (Sure image.now net.old scr.now) × (There image.now (register_means x)) × (Wholes image.now scr.now (register_means x)) × (b < signal_width image.now (register_means x).target) }
     ensures { Ran (model.register_bit (register_means x).reset k (register_means x) b (walk_state image.now net.old scr.now)) image.now net.old scr.now result net.new scr.now }
 {
-    let o = x.reset;
-    match o {
-        ResetOption::Absent => {
+    match x.reset {
+        None => {
             let z = ResetWords {
                 net: ABSENT,
                 level: 0,
@@ -119,21 +119,24 @@ fn push_bit(image: &[u8], net: &mut [u32], scr: &[u32], k: u32, x: Register, b: 
             };
             push_register(image, net, scr, k, x, b, z)
         }
-        ResetOption::Present(y) => push_reset(image, net, scr, k, x, b, y),
+        Some(y) => push_reset(image, net, scr, k, x, b, y),
     }
 }
 
 // The records of all bits of register k.
-pub fn push_bits(image: &[u8], net: &mut [u32], scr: &[u32], k: u32, x: Register) -> Lowered
+pub fn push_bits(
+    image: &[u8],
+    net: &mut [u32],
+    scr: &[u32],
+    k: u32,
+    x: Register,
+) -> Result<(), Refusal>
     requires { (Ready image.now net.old scr.now) × (Sure image.now net.old scr.now) × (There image.now (register_means x)) × (Wholes image.now scr.now (register_means x)) }
     ensures { Ran (bits_turn image.now k (register_means x) (walk_state image.now net.old scr.now)) image.now net.old scr.now result net.new scr.now }
 {
     let n = image_fields::signal_width(image, x.target);
     for b in 0..n {
-        let r = push_bit(image, net, scr, k, x, b);
-        let Lowered::Done = r else {
-            return r;
-        };
+        push_bit(image, net, scr, k, x, b)?;
     }
-    Lowered::Done
+    Ok(())
 }

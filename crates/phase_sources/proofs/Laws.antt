@@ -3,8 +3,7 @@ use mathlib.Core.Path.{◌≡◌, refl, sym, ap, ◌∙◌}
 use mathlib.Core.List.{List}
 use Prim.Native.Nat.{ℕ, zero, suc, ◌+◌, ◌≤◌, ◌<◌}
 use native.Mathlib.Omega.{arith}
-use lib.ListN.{length, take, drop}
-use lib.Seq.{sets, sets-eq, take_at}
+use lib.ListN.{length}
 use Rattle.spec_tests.specs.Rules.{pick}
 use Rattle.spec_tests.specs.Laws.{eq_yes, eq_no}
 use Rattle.spec_rtl.specs.Rtl as R
@@ -35,12 +34,6 @@ use Rattle.walk_view.specs.Answers.{Refused}
 use Rattle.walk_view.specs.Stores.{kept_then, stored_ready, stored_kept, stored_state}
 use Rattle.walk_view.specs.Phases.{phase_none, phase_as, phase_then, phase_out}
 use Rattle.phase_sources.specs.Reserves.{input_at, second_at_of, data_at}
-
--- a run at the start of a list
-pub run_taken : (a : List ℕ) (first n : ℕ) → n ≤ length a → take n (sets a 0 (from first n)) ≡ from first n
-run_taken a first n h =
-    let len = length_from first n in
-    ap (take n) (sets-eq (from first n) a 0 (rw len (omega arith))) ∙ take_at (from first n) (drop (0 + length (from first n)) a) n len
 
 pub run_small : (first n : ℕ) → first + n ≤ 65535 → Small (length (from first n)) (from first n)
 run_small first n u = rw (length_from first n) (λ i l. rw (from_at first n i 0 l) (omega arith))

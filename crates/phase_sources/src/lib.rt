@@ -24,8 +24,9 @@ fn keep_run(image: &[u8], scr: &mut [u32], p: u32, first: u32, n: u32)
     ensures { Writes (λ st. set_signal st p (from first n)) image.now scr.old scr.new }
 {
     let mut nets = [0u32; 1024];
-    net_ports::put_run(&mut nets, 0, first, n);
-    scratch_tables::keep_signals(image, scr, p, &nets[..n as usize]);
+    let n = n as usize;
+    net_ports::put_run(&mut nets[..n], first);
+    scratch_tables::keep_signals(image, scr, p, &nets[..n]);
 }
 
 // An input port for signal p, n bits wide.

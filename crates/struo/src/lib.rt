@@ -7,9 +7,19 @@ ghost use Rattle.spec_tests.specs.Rules.{pick};
 ghost use Rattle.spec_call.specs.Call.{numbers_of};
 ghost use Rattle.spec_netlist.specs.Accept.{accepts};
 ghost use Rattle.spec_netlist.specs.Given.{is_node, node_given, is_record, record_given};
+ghost use Rattle.lower_outcome.specs.Answer.{answer_of};
 ghost use Rattle.struo.specs.Answers.{Answers};
 
 use image_numbers::*;
+use lower_outcome::Refusal;
+
+// The check's answer, as the call's.
+fn check(image: &[u8], n: u32, p: u32, netlist: usize, scratch: usize) -> Result<(), Refusal>
+    ensures { answer_of result ≡ checked image.now n p netlist scratch }
+{
+    check_image::check(image, n, p, netlist, scratch)?;
+    Ok(())
+}
 
 // Checks a module image: refusals 1 to 5, for net limit n, list limit p and the words that the netlist buffer and the scratch will have.
 // The answer is the refusal's number and its two places, 0 0 0 where nothing is refused.
@@ -23,9 +33,7 @@ pub fn struo_check(
 )
     ensures { answer.new ≡ numbers_of (checked image.now n p netlist scratch) }
 {
-    *answer = lower_outcome::numbers(lower_outcome::of_check(check_image::check(
-        image, n, p, netlist, scratch,
-    )));
+    *answer = lower_outcome::numbers(check(image, n, p, netlist, scratch));
 }
 
 // Lowers a module image into the netlist image that the model gives, for net limit n and list limit p. The answer is the refusal's
@@ -57,26 +65,27 @@ pub fn struo_netlist_check(netlist: &[u32], answer: &mut [u32; 3])
     }
     let nets = net_words::word_at(netlist, NET_COUNT);
     if nets <= 64 {
-        *answer = stored_check::numbers(stored_check::check_tiny(netlist));
+        *answer = stored_check::numbers(stored_check::check::<192>(netlist));
         return;
     }
     if nets <= 1024 {
-        *answer = stored_check::numbers(stored_check::check_small(netlist));
+        *answer = stored_check::numbers(stored_check::check::<3072>(netlist));
         return;
     }
     if nets <= 8192 {
-        *answer = stored_check::numbers(stored_check::check_middle(netlist));
+        *answer = stored_check::numbers(stored_check::check::<24576>(netlist));
         return;
     }
-    *answer = stored_check::numbers(stored_check::check_large(netlist));
+    *answer = stored_check::numbers(stored_check::check::<196608>(netlist));
 }
 
 // The six words of a node, and 1; six times 0, and 0 where there is no such node.
 pub fn struo_netlist_node(netlist: &[u32], net: u32, node: &mut [u32; 6]) -> u32
     ensures { (result ≡ pick (is_node netlist.now net) 1 0) × (node.new ≡ node_given netlist.now net) }
 {
-    *node = stored_given::node(netlist, net);
-    stored_given::flag(stored_given::is_node(netlist, net))
+    let given = stored_given::node(netlist, net);
+    *node = given.unwrap_or([0; 6]);
+    stored_given::flag(given.is_some())
 }
 
 // The sort and the length of the record that begins at a list word, the list word after it, and 1; three times 0, and 0 where the list
@@ -84,6 +93,7 @@ pub fn struo_netlist_node(netlist: &[u32], net: u32, node: &mut [u32; 6]) -> u32
 pub fn struo_netlist_record(netlist: &[u32], at: u32, found: &mut [u32; 3]) -> u32
     ensures { (result ≡ pick (is_record netlist.now at) 1 0) × (found.new ≡ record_given netlist.now at) }
 {
-    *found = stored_given::record(netlist, at);
-    stored_given::flag(stored_given::is_record(netlist, at))
+    let given = stored_given::record(netlist, at);
+    *found = given.unwrap_or([0; 3]);
+    stored_given::flag(given.is_some())
 }

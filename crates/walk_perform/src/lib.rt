@@ -39,7 +39,14 @@ fn mux(
     op_bits::mux_bits(net, idx, n, c, &mut xs[..k], &ys[..k])
 }
 
-fn unary(net: &mut [u32], idx: &mut [u32], n: u32, op: UnaryOp, k: u32, xs: &mut [u32]) -> Result<(), Full>
+fn unary(
+    net: &mut [u32],
+    idx: &mut [u32],
+    n: u32,
+    op: UnaryOp,
+    k: u32,
+    xs: &mut [u32],
+) -> Result<(), Full>
     requires { (Held n net.old idx.old) × (0 < k) × (k ≤ length xs.old) }
     ensures { Fills (lower_unary (unary_means op) (take k xs.old) (netlist_of n net.old)) n result (take (unary_width op k) xs.new) net.new idx.new }
 {
@@ -79,7 +86,15 @@ fn carried(
     ensures { Fills (W.arithmetic B.Add (take k xs.old) (take k ys.now) (some c) (netlist_of n net.old)) n result (take k xs.new) net.new idx.new }
 {
     let m = k as usize;
-    net_cells::arithmetic(net, idx, n, ArithmeticOp::Add, Some(c), &mut xs[..m], &ys[..m])
+    net_cells::arithmetic(
+        net,
+        idx,
+        n,
+        ArithmeticOp::Add,
+        Some(c),
+        &mut xs[..m],
+        &ys[..m],
+    )
 }
 
 // The nets of a task of width v, in a job of width w.

@@ -11,20 +11,11 @@ returns-then-count-eq0 c = carry_none c.args.image.now c.args.start c.args.count
 pub loop-i-init : goal.loop-i-init
 loop-i-init c = (omega arith, carry_begins c.args.image.now c.args.start c.args.count)
 
-pub overflow_add-start : goal.overflow_add-start
-overflow_add-start c = omega (arith, c.requires.room)
-
-pub is_zero_expression-requires : goal.is_zero_expression-requires
-is_zero_expression-requires c = record { readable = c.requires.readable; inside = let y = c.requires.inside c.loop-i.i (omega arith) in omega (arith, c.list_word.ensures) }
-
 pub returns-then-not-is_zero_expression : goal.returns-then-not-is_zero_expression
 returns-then-not-is_zero_expression c = carry_stops c.args.image.now c.args.start c.args.count c.loop-i.i (omega arith) c.loop-i.invariant.1 (rw (← c.list_word.ensures) (sym c.is_zero_expression.ensures ∙ c.if-not-is_zero_expression.true))
 
 pub loop-i-preserved : goal.loop-i-preserved
 loop-i-preserved c = (omega arith, carry_passes c.args.image.now c.args.start c.args.count c.loop-i.i (omega arith) c.loop-i.invariant.1 (rw (← c.list_word.ensures) (sym c.is_zero_expression.ensures ∙ c.if-not-is_zero_expression.false)))
-
-pub overflow_add-start-2 : goal.overflow_add-start-2
-overflow_add-start-2 c = omega (arith, c.requires.room)
 
 pub returns-then-expr_width-eq1 : goal.returns-then-expr_width-eq1
 returns-then-expr_width-eq1 c = carry_last c.args.image.now c.args.start c.args.count c.requires c.loop-i.i (c.args.count - 1) c.list_word-part.result (omega arith) (omega arith) c.loop-i.invariant.1 c.list_word-part.ensures (sym c.expr_width.ensures ∙ c.if-expr_width-eq1.true)

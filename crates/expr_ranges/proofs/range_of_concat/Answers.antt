@@ -8,15 +8,6 @@ use Rattle.expr_ranges.proofs.range_of_concat.Goals as goal
 pub loop-i-init : goal.loop-i-init
 loop-i-init c = (omega arith, join_begins c.args.image.now c.args.table.now c.args.start c.args.count c.args.width c.requires)
 
-pub overflow_add-start : goal.overflow_add-start
-overflow_add-start c = omega (arith, c.requires.room)
-
-pub known_range-requires : goal.known_range-requires
-known_range-requires c = rw c.list_word-part.ensures (c.requires.rows c.loop-i.i (omega arith))
-
-pub full-requires : goal.full-requires
-full-requires c = (c.requires.least, c.requires.most)
-
 pub returns-in_default : goal.returns-in_default
 returns-in_default c = c.full.ensures ∙ join_stops c.args.image.now c.args.table.now c.args.start c.args.count c.args.width c.requires c.loop-i.i (shown c.loop-i.result) (omega arith) c.loop-i.invariant.1 c.list_word-part.result c.list_word-part.ensures (sym (sym c.known_range.ensures ∙ ap known c.in_default.is))
 

@@ -1,5 +1,4 @@
 -- `phase_register_records::push_bits` meets its contract. Assumes nothing.
-use Prim.Native.Nat.{◌-◌}
 use Rattle.spec_model.specs.Lowering.{register_bit}
 use Rattle.image_records.specs.Others.{register_means}
 use Rattle.walk_view.specs.View.{Sure, walk_state}

@@ -4,18 +4,6 @@ use Rattle.scratch_view.specs.Laws.{expr_ends}
 use Rattle.scratch_tables.proofs.Ways.{start_word}
 use Rattle.scratch_tables.proofs.expr_place.Goals as goal
 
-pub overflow_cast-first : goal.overflow_cast-first
-overflow_cast-first c =
-    omega (arith, start_word c.args.image.now c.args.scr.now c.requires.0 c.args.e c.requires.1, expr_ends c.args.image.now c.args.e c.requires.1)
-
-pub overflow_add-result : goal.overflow_add-result
-overflow_add-result c =
-    omega (arith, start_word c.args.image.now c.args.scr.now c.requires.0 c.args.e c.requires.1, expr_ends c.args.image.now c.args.e c.requires.1)
-
-pub overflow_add-result-2 : goal.overflow_add-result-2
-overflow_add-result-2 c =
-    omega (arith, start_word c.args.image.now c.args.scr.now c.requires.0 c.args.e c.requires.1, expr_ends c.args.image.now c.args.e c.requires.1)
-
 pub returns : goal.returns
 returns c =
     let f = start_word c.args.image.now c.args.scr.now c.requires.0 c.args.e c.requires.1 in

@@ -8,18 +8,6 @@ pub bounds-scr-column : goal.bounds-scr-column
 bounds-scr-column c =
     omega (arith, signals_few c.args.image.now c.requires.0.image)
 
-pub overflow_cast-first-2 : goal.overflow_cast-first-2
-overflow_cast-first-2 c =
-    omega (arith, first_word c.args.image.now c.args.scr.now c.requires.0 c.args.p c.requires.1, signal_ends c.args.image.now c.args.p c.requires.1)
-
-pub overflow_add-result : goal.overflow_add-result
-overflow_add-result c =
-    omega (arith, first_word c.args.image.now c.args.scr.now c.requires.0 c.args.p c.requires.1, signal_ends c.args.image.now c.args.p c.requires.1)
-
-pub overflow_add-result-2 : goal.overflow_add-result-2
-overflow_add-result-2 c =
-    omega (arith, first_word c.args.image.now c.args.scr.now c.requires.0 c.args.p c.requires.1, signal_ends c.args.image.now c.args.p c.requires.1)
-
 pub returns : goal.returns
 returns c =
     let f = first_word c.args.image.now c.args.scr.now c.requires.0 c.args.p c.requires.1 in

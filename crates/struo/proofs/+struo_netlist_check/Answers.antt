@@ -15,23 +15,23 @@ struo_netlist_check-requires t c = (omega (arith, ap length c.stretch.ensures, l
 pub returns-then-end-netlist : goal.returns-then-end-netlist
 returns-then-end-netlist t c = c.struo_netlist_check.ensures ∙ ap numbers_of (ap accepts c.stretch.ensures ∙ end_cut c.args.netlist.now c.list_end-end.result c.list_end-end.ensures c.if-end-netlist.true)
 
-pub check_tiny-requires : goal.check_tiny-requires
-check_tiny-requires t c = omega (arith, c.word_at-nets.ensures)
+pub check-requires : goal.check-requires
+check-requires t c = (λ h. omega (arith, h, c.word_at-nets.ensures), omega arith)
 
 pub returns-then-nets-le64 : goal.returns-then-nets-le64
-returns-then-nets-le64 t c = c.numbers.ensures ∙ ap numbers_of c.check_tiny.ensures
+returns-then-nets-le64 t c = c.numbers.ensures ∙ ap numbers_of c.check.ensures
 
-pub check_small-requires : goal.check_small-requires
-check_small-requires t c = omega (arith, c.word_at-nets.ensures)
+pub check-requires-then-nets-le1024 : goal.check-requires-then-nets-le1024
+check-requires-then-nets-le1024 t c = (λ h. omega (arith, h, c.word_at-nets.ensures), omega arith)
 
 pub returns-then-nets-le1024 : goal.returns-then-nets-le1024
-returns-then-nets-le1024 t c = c.numbers-then-nets-le1024.ensures ∙ ap numbers_of c.check_small.ensures
+returns-then-nets-le1024 t c = c.numbers-then-nets-le1024.ensures ∙ ap numbers_of c.check-then-nets-le1024.ensures
 
-pub check_middle-requires : goal.check_middle-requires
-check_middle-requires t c = omega (arith, c.word_at-nets.ensures)
+pub check-requires-then-nets-le8192 : goal.check-requires-then-nets-le8192
+check-requires-then-nets-le8192 t c = (λ h. omega (arith, h, c.word_at-nets.ensures), omega arith)
 
 pub returns-then-nets-le8192 : goal.returns-then-nets-le8192
-returns-then-nets-le8192 t c = c.numbers-then-nets-le8192.ensures ∙ ap numbers_of c.check_middle.ensures
+returns-then-nets-le8192 t c = c.numbers-then-nets-le8192.ensures ∙ ap numbers_of c.check-then-nets-le8192.ensures
 
 pub returns : goal.returns
-returns t c = c.numbers-2.ensures ∙ ap numbers_of c.check_large.ensures
+returns t c = c.numbers-2.ensures ∙ ap numbers_of c.check-2.ensures
