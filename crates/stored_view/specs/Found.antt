@@ -4,11 +4,13 @@
 --     some_below, none_below          what such an answer tells
 use Rattle.std.specs.Prelude.{ℕ, suc, ◌+◌, ◌-◌, ◌<◌, ◌≤◌, Bool, true, false, cond, ◌≡◌, refl, List, [], ◌∷◌, length, take, drop, get_or, ltb, Option, Some, None, position}
 use Rattle.std.specs.List.{position_or_len}
-use Rattle.std.proofs.Common.{sym, ap, ap₂, ◌∙◌, subst, arith, lt-ltb, le-ltb, ltb-true, ltb-false}
+use Rattle.std.proofs.Common.{sym, ap, ap₂, ◌∙◌, subst, arith, lt-ltb, le-ltb}
 use Rattle.std.proofs.lemmas.List.{get_or-take, get_or-drop, length-take-le, length-drop}
 use Rattle.std.proofs.lemmas.List.Recursion.{is_position_or_len}
 use Rattle.spec_tests.specs.Rules.{◌<?◌, pick, up_to, first}
 use Rattle.spec_tests.specs.Options.{first_of}
+use Rattle.spec_chains.specs.Search as chains
+use Rattle.spec_chains.specs.Search.{some_tells, none_tells}
 use Rattle.spec_tests.specs.Laws.{from, begins, here, passed, past}
 use Rattle.spec_netlist.specs.Accept.{not_own_of}
 use Rattle.stored_view.specs.Own.{not_own_at}
@@ -28,37 +30,27 @@ below_end {n} {m} h = rw (le-ltb m n h)
 pub below_at : (n : ℕ) {i j : ℕ} {r : Option ℕ} → i ≡ j → r ≡ below n i → r ≡ below n j
 below_at n e q = q ∙ ap (below n) e
 
-some_of : {n m k : ℕ} (b : Bool) → ltb m n ≡ b → Some k ≡ pick b (Some m) None → (k < n) × (k ≡ m)
-unfolding pick
-some_of {n} {m} {k} true h e =
-    let z : k ≡ m = cc in
-    (omega (arith, z, ltb-true m n h), z)
-some_of {n} {m} {k} false h e = absurd cc
-
 pub some_below : {n m k : ℕ} → Some k ≡ below n m → (k < n) × (k ≡ m)
-unfolding below ◌<?◌
-some_below {n} {m} e = some_of (ltb m n) refl e
-
-none_of : {n m : ℕ} (b : Bool) → ltb m n ≡ b → None ≡ pick b (Some m) None → n ≤ m
-unfolding pick
-none_of true h e = absurd cc
-none_of {n} {m} false h e = ltb-false m n h
+unfolding below
+some_below {n} {m} {k} e =
+    let s = chains.some_below m n k (sym e) in
+    (s.0, sym s.1)
 
 pub none_below : {n m : ℕ} → None ≡ below n m → n ≤ m
-unfolding below ◌<?◌
-none_below {n} {m} e = none_of (ltb m n) refl e
+unfolding below
+none_below {n} {m} e = chains.none_below m n (sym e)
 
 pub first_of_below : (p : ℕ → Bool) (n : ℕ) → first_of p n ≡ below n (from p n 0)
 unfolding first_of below
 first_of_below p n = ap (λ (k : ℕ). pick (k <? n) (Some k) None) (begins p n)
 
 pub some_first : (p : ℕ → Bool) {n k : ℕ} → Some k ≡ first_of p n → (k < n) × (k ≡ first p n)
-some_first p {n} e =
-    let s = some_below (e ∙ first_of_below p n) in
-    (s.0, s.1 ∙ sym (begins p n))
+some_first p {n} {k} e =
+    let s = some_tells p n k (sym e) in
+    (s.0, sym s.1)
 
 pub none_first : (p : ℕ → Bool) {n : ℕ} → None ≡ first_of p n → n ≤ first p n
-none_first p {n} e = subst (λ (k : ℕ). n ≤ k) (sym (begins p n)) (none_below (e ∙ first_of_below p n))
+none_first p {n} e = omega (arith, none_tells p n (sym e))
 
 -- ---- a search that goes on behind another ----
 
