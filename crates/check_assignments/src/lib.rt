@@ -2,8 +2,8 @@
 // the assignments drive are marked.
 #![tactic(auto)]
 
-ghost use Rattle.std.specs.Prelude.{false, ◌≡◌, ℕ, ◌+◌, ◌≤◌, length};
-ghost use Rattle.spec_tests.specs.Rules.{first};
+ghost use Rattle.std.specs.Prelude.{false, None, ◌≡◌, ℕ, ◌+◌, ◌≤◌, length};
+ghost use Rattle.spec_tests.specs.Options.{first_of};
 ghost use Rattle.spec_rules.specs.Image.{count_at_of};
 ghost use Rattle.spec_rules.specs.Checks.{signal_bits, bad_assign};
 ghost use Rattle.check_drivers.specs.Bits.{Firsts, Marks};
@@ -59,16 +59,16 @@ fn check_assign(image: &[u8], firsts: &[u32], taken: &mut [u8], r: u32) -> bool
     false
 }
 
-// The first assignment record that breaks a rule, and the number of records where none does: then the bits of all are marked.
-pub fn first_assign(image: &[u8], firsts: &[u32], taken: &mut [u8]) -> u32
+// The first assignment record that breaks a rule; where none does, the bits of all are marked.
+pub fn first_assign(image: &[u8], firsts: &[u32], taken: &mut [u8]) -> Option<u32>
     requires { (Firsts image.now firsts.now) × (Marks image.now 0 0 0 taken.old) }
-    ensures { (result ≡ first (bad_assign image.now) (count_at_of image.now 3)) × (count_at_of image.now 3 ≤ result → Marks image.now (count_at_of image.now 3) 0 0 taken.new) }
+    ensures { (result ≡ first_of (bad_assign image.now) (count_at_of image.now 3)) × (result ≡ None → Marks image.now (count_at_of image.now 3) 0 0 taken.new) }
 {
     let n = image_fields::count(image, image_fields::ASSIGNMENTS);
     for r in 0..n {
         if check_assign(image, firsts, taken, r) {
-            return r;
+            return Some(r);
         }
     }
-    n
+    None
 }

@@ -4,6 +4,7 @@ use Rattle.std.proofs.Common.{sym, ap, ◌∙◌, arith}
 use Rattle.spec_tests.specs.Rules.{◌<?◌, ◌≢?◌, pick, first, Fine, Refused}
 use Rattle.spec_tests.specs.Laws.{or_no, and_skip, pick_hit, pick_skip, eq_yes, eq_no, no_lt, no_ne, lt_yes, lt_no, first_most, none, sum_none, sum_more}
 use Rattle.spec_tests.specs.Options.{first_of}
+use Rattle.spec_chains.specs.Search.{some_below, none_below}
 use Rattle.spec_rules.specs.Image.{word_at, most_of, count_at_of, offset_at, bytes_of, start_of, field}
 use Rattle.spec_rules.specs.Checks.{wrong_count, wrong_field, first_field, header}
 
@@ -30,6 +31,14 @@ found_short s h = rw (lt_yes _ _ h) (sym (rw (lt_yes 0 16 (omega arith)) refl))
 pub found_long : (s : List ℕ) → 64 ≤ length s → first_of (wrong_field s) 16 ≡ field_found s
 unfolding field_found first_field first_of pick
 found_long s h = rw (lt_no _ _ h) refl
+
+pub found_tells : (s : List ℕ) (f : ℕ) → field_found s ≡ Some f → (f < 16) × (first_field s ≡ f)
+unfolding field_found
+found_tells s f e = some_below (first_field s) 16 f e
+
+pub none_found : (s : List ℕ) → field_found s ≡ None → 16 ≤ first_field s
+unfolding field_found
+none_found s e = none_below (first_field s) 16 e
 
 -- ---- a passed header ----
 

@@ -1,21 +1,28 @@
 -- The answer of the check as its numbers, and laws of the order in which the checks run.
-use Rattle.std.specs.Prelude.{ℕ, ◌≤◌, ◌<◌, List, Bool, true, false, ◌≡◌, refl}
+use Rattle.std.specs.Prelude.{ℕ, List, Bool, true, false, Some, None, Result, Ok, Err, ◌≡◌, refl}
 use Rattle.std.proofs.Common.{sym, arith}
 use Rattle.spec_tests.specs.Rules.{◌<?◌, pick, first, Answer, Fine, Refused, and_then}
-use Rattle.spec_tests.specs.Laws.{lt_yes, lt_no, pick_hit, pick_skip, first_most}
+use Rattle.spec_tests.specs.Laws.{lt_yes, lt_no, pick_hit, pick_skip}
+use Rattle.spec_tests.specs.Options.{first_of}
+use Rattle.spec_chains.specs.Search.{some_tells, none_tells}
 use Rattle.spec_rules.specs.Image.{count_at_of}
 use Rattle.spec_rules.specs.Checks as rule
-use Rattle.check_image.specs.declared.Checked.{Checked}
-use Rattle.check_image.specs.declared.Checked.TheVariants as C
+use Rattle.check_header.specs.Header.{field_found, found_tells, none_found}
+use Rattle.check_image.specs.declared.Refusal.{Refusal}
+use Rattle.check_image.specs.declared.Refusal.TheVariants.{Limits, NetlistShort, Field, Record, ScratchShort}
 
--- each case by its number and its two places
-unfoldable pub answer_of : Checked → Answer
-answer_of C.Fine = Fine
-answer_of C.Limits = Refused 1 0 0
-answer_of C.NetlistShort = Refused 2 0 0
-answer_of (C.Field f) = Refused 3 f 0
-answer_of (C.Record k r) = Refused 4 k r
-answer_of C.ScratchShort = Refused 5 0 0
+-- a refusal by its number and its two places
+abbrev pub refusal_of : Refusal → Answer
+refusal_of Limits = Refused 1 0 0
+refusal_of NetlistShort = Refused 2 0 0
+refusal_of (Field f) = Refused 3 f 0
+refusal_of (Record k r) = Refused 4 k r
+refusal_of ScratchShort = Refused 5 0 0
+
+-- the answer as its numbers
+abbrev pub answer_of : Result (Unit {0}) Refusal → Answer
+answer_of (Ok u) = Fine
+answer_of (Err e) = refusal_of e
 
 pub then_fine : {c d r : Answer} → c ≡ Fine → r ≡ d → r ≡ and_then c d
 unfolding and_then
@@ -40,26 +47,26 @@ refuse_no n e = rw e
 
 -- ---- a section's answer, from its first bad record ----
 
-pub section_bad : (s : List ℕ) (k : ℕ) (bad : ℕ → Bool) (r n : ℕ) → r ≡ first bad (count_at_of s k) → n ≡ count_at_of s k → r < n → rule.section s k bad ≡ Refused 4 k r
+pub section_bad : (s : List ℕ) (k : ℕ) (bad : ℕ → Bool) (r : ℕ) → Some r ≡ first_of bad (count_at_of s k) → rule.section s k bad ≡ Refused 4 k r
 unfolding rule.section
-section_bad s k bad r n e c h = rw (← e) (sym (pick_hit _ (lt_yes r (count_at_of s k) (omega arith)) refl))
+section_bad s k bad r e = let t = some_tells bad (count_at_of s k) r (sym e) in rw t.1 (sym (pick_hit _ (lt_yes r (count_at_of s k) t.0) refl))
 
-pub section_fine : (s : List ℕ) (k : ℕ) (bad : ℕ → Bool) (r n : ℕ) → r ≡ first bad (count_at_of s k) → n ≡ count_at_of s k → n ≤ r → rule.section s k bad ≡ Fine
+pub all_good : (s : List ℕ) (k : ℕ) (bad : ℕ → Bool) → None ≡ first_of bad (count_at_of s k) → first bad (count_at_of s k) ≡ count_at_of s k
+all_good s k bad e = none_tells bad (count_at_of s k) (sym e)
+
+pub section_fine : (s : List ℕ) (k : ℕ) (bad : ℕ → Bool) → None ≡ first_of bad (count_at_of s k) → rule.section s k bad ≡ Fine
 unfolding rule.section
-section_fine s k bad r n e c h = rw (← e) (sym (pick_skip _ (lt_no r (count_at_of s k) (omega arith)) refl))
-
-pub all_good : (s : List ℕ) (k : ℕ) (bad : ℕ → Bool) (r n : ℕ) → r ≡ first bad (count_at_of s k) → n ≡ count_at_of s k → n ≤ r → first bad (count_at_of s k) ≡ count_at_of s k
-all_good s k bad r n e c h = omega (arith, first_most bad (count_at_of s k))
+section_fine s k bad e = let t = all_good s k bad e in sym (pick_skip _ (lt_no _ _ (omega arith)) refl)
 
 -- ---- the header's answer, from its first wrong field ----
 
-pub header_bad : (s : List ℕ) (f : ℕ) → f ≡ rule.first_field s → f < 16 → rule.header s ≡ Refused 3 f 0
+pub header_bad : (s : List ℕ) (f : ℕ) → Some f ≡ field_found s → rule.header s ≡ Refused 3 f 0
 unfolding rule.header
-header_bad s f e h = rw (← e) (sym (pick_hit _ (lt_yes f 16 h) refl))
+header_bad s f e = let t = found_tells s f (sym e) in rw t.1 (sym (pick_hit _ (lt_yes f 16 t.0) refl))
 
-pub header_fine : (s : List ℕ) (f : ℕ) → f ≡ rule.first_field s → 16 ≤ f → rule.header s ≡ Fine
+pub header_fine : (s : List ℕ) → None ≡ field_found s → rule.header s ≡ Fine
 unfolding rule.header
-header_fine s f e h = rw (← e) (sym (pick_skip _ (lt_no f 16 h) refl))
+header_fine s e = sym (pick_skip _ (lt_no _ _ (none_found s (sym e))) refl)
 
 -- ---- the sections in their order ----
 

@@ -8,9 +8,9 @@ ghost use Rattle.check_drivers.specs.Bits.{SignalsFit, Firsts, Marks};
 ghost use Rattle.check_image.specs.Accepted.{Counts};
 ghost use Rattle.check_image.specs.Checked.{answer_of, drivers_then, records_then};
 
-#[derive(Clone, Copy)]
-pub enum Checked {
-    Fine,
+// Why an image is refused: its numbers are those of docs/RULES.md, 1 to 5.
+#[derive(Clone, Copy, Debug, PartialEq, Eq)]
+pub enum Refusal {
     Limits,
     NetlistShort,
     Field(u32),
@@ -19,83 +19,88 @@ pub enum Checked {
 }
 
 // The answer of the assignments, registers, memories and the scratch; firsts has each signal's first bit, and taken no marked bit.
-fn check_sections(image: &[u8], firsts: &[u32], taken: &mut [u8], n: u32, scratch: usize) -> Checked
+fn check_sections(
+    image: &[u8],
+    firsts: &[u32],
+    taken: &mut [u8],
+    n: u32,
+    scratch: usize,
+) -> Result<(), Refusal>
     requires { (Counts image.now) × (rule.expr_bits image.now ≤ 32768) × (Firsts image.now firsts.now) × (Marks image.now 0 0 0 taken.old) }
     ensures { answer_of result ≡ drivers_then image.now n scratch }
 {
-    let a = check_assignments::first_assign(image, firsts, taken);
-    if a < image_fields::count(image, image_fields::ASSIGNMENTS) {
-        return Checked::Record(3, a);
+    if let Some(r) = check_assignments::first_assign(image, firsts, taken) {
+        return Err(Refusal::Record(3, r));
     }
-    let r = check_registers::first_register(image, firsts, taken);
-    if r < image_fields::count(image, image_fields::REGISTERS) {
-        return Checked::Record(4, r);
+    if let Some(r) = check_registers::first_register(image, firsts, taken) {
+        return Err(Refusal::Record(4, r));
     }
-    let m = check_memories::first_memory(image, firsts, taken);
-    if m < image_fields::count(image, image_fields::MEMORIES) {
-        return Checked::Record(5, m);
+    if let Some(r) = check_memories::first_memory(image, firsts, taken) {
+        return Err(Refusal::Record(5, r));
     }
     if check_header::scratch_short(image, n, scratch) {
-        return Checked::ScratchShort;
+        return Err(Refusal::ScratchShort);
     }
-    Checked::Fine
+    Ok(())
 }
 
-// The same, with a table for 256 bits where there are no more; firsts has room for the signals.
-fn check_bits(image: &[u8], firsts: &mut [u32], n: u32, scratch: usize) -> Checked
-    requires { (Counts image.now) × (SignalsFit image.now) × (rule.expr_bits image.now ≤ 32768) × (count_at_of image.now 0 ≤ length firsts.old) }
+// The same, with a table for B bits; firsts has room for the signals.
+fn check_bits<const B: usize>(
+    image: &[u8],
+    firsts: &[u32],
+    n: u32,
+    scratch: usize,
+) -> Result<(), Refusal>
+    requires { (Counts image.now) × (rule.expr_bits image.now ≤ 32768) × (Firsts image.now firsts.now) × (rule.signal_bits image.now ≤ B) × (B ≤ 65536) }
     ensures { answer_of result ≡ drivers_then image.now n scratch }
 {
-    if check_drivers::lay_firsts(image, firsts) <= 256 {
-        let mut taken: [u8; 256] = [0; 256];
-        return check_sections(image, firsts, &mut taken, n, scratch);
-    }
-    let mut taken: [u8; 4096] = [0; 4096];
+    let mut taken: [u8; B] = [0; B];
     check_sections(image, firsts, &mut taken, n, scratch)
 }
 
-// The same, with a table for 32 signals where there are no more.
-fn check_drivers(image: &[u8], n: u32, scratch: usize) -> Checked
-    requires { (Counts image.now) × (SignalsFit image.now) × (rule.expr_bits image.now ≤ 32768) }
+// The same, with a table for S signals; the bits have a table of 256 where there are no more.
+fn check_drivers<const S: usize>(image: &[u8], n: u32, scratch: usize) -> Result<(), Refusal>
+    requires { (Counts image.now) × (SignalsFit image.now) × (rule.expr_bits image.now ≤ 32768) × (count_at_of image.now 0 ≤ S) × (S ≤ 65536) }
     ensures { answer_of result ≡ drivers_then image.now n scratch }
 {
-    if image_fields::count(image, image_fields::SIGNALS) <= 32 {
-        let mut firsts: [u32; 32] = [0; 32];
-        return check_bits(image, &mut firsts, n, scratch);
+    let mut firsts: [u32; S] = [0; S];
+    if check_drivers::lay_firsts(image, &mut firsts) <= 256 {
+        check_bits::<256>(image, &firsts, n, scratch)
+    } else {
+        check_bits::<4096>(image, &firsts, n, scratch)
     }
-    let mut firsts: [u32; 512] = [0; 512];
-    check_bits(image, &mut firsts, n, scratch)
 }
 
 // The answer of all records and the scratch.
-fn check_records(image: &[u8], n: u32, scratch: usize) -> Checked
+fn check_records(image: &[u8], n: u32, scratch: usize) -> Result<(), Refusal>
     requires { Counts image.now }
     ensures { answer_of result ≡ records_then image.now n scratch }
 {
-    let p = check_signals::first_signal(image);
-    if p < image_fields::count(image, image_fields::SIGNALS) {
-        return Checked::Record(0, p);
+    if let Some(r) = check_signals::first_signal(image) {
+        return Err(Refusal::Record(0, r));
     }
-    let e = check_expressions::first_expr(image);
-    if e < image_fields::count(image, image_fields::EXPRESSIONS) {
-        return Checked::Record(1, e);
+    if let Some(r) = check_expressions::first_expr(image) {
+        return Err(Refusal::Record(1, r));
     }
-    check_drivers(image, n, scratch)
+    if image_fields::count(image, image_fields::SIGNALS) <= 32 {
+        check_drivers::<32>(image, n, scratch)
+    } else {
+        check_drivers::<512>(image, n, scratch)
+    }
 }
 
 // The check of an image, for net limit n, list limit p and the words of the two buffers.
-pub fn check(image: &[u8], n: u32, p: u32, netlist: usize, scratch: usize) -> Checked
+pub fn check(image: &[u8], n: u32, p: u32, netlist: usize, scratch: usize) -> Result<(), Refusal>
     ensures { answer_of result ≡ rule.checked image.now n p netlist scratch }
 {
     if check_header::bad_limits(n, p) {
-        return Checked::Limits;
+        return Err(Refusal::Limits);
     }
     if check_header::netlist_short(n, p, netlist) {
-        return Checked::NetlistShort;
+        return Err(Refusal::NetlistShort);
     }
-    let f = check_header::first_field(image);
-    if f < 16 {
-        return Checked::Field(f);
+    if let Some(f) = check_header::first_field(image) {
+        return Err(Refusal::Field(f));
     }
     check_records(image, n, scratch)
 }

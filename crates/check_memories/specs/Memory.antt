@@ -1,6 +1,7 @@
 -- The rules of a memory but for its name, in parts, a port in two halves: where name or rest is first broken is the earlier of two places.
 use Rattle.std.specs.Prelude.{ℕ, ◌+◌, ◌<◌, Bool, false, List, ◌≡◌}
-use Rattle.spec_tests.specs.Rules.{◌<?◌, ◌≢?◌, ◌or◌, outside, first}
+use Rattle.spec_tests.specs.Rules.{◌<?◌, ◌≢?◌, ◌or◌, outside}
+use Rattle.spec_tests.specs.Options.{first_of}
 use Rattle.spec_tests.specs.Laws.{or_no}
 use Rattle.spec_rules.specs.Image.{count_at_of, field, signal_width, width_field, style_field, latency_field, first_port, has_second}
 use Rattle.spec_rules.specs.Checks.{no_signal, bad_bit, bad_control, bad_optional, bad_value, driven, bad_address, bad_port, bad_second, bad_memory}
@@ -45,5 +46,5 @@ pub name_or_rest : (s : List ℕ) (r : ℕ) → bad_memory s r ≡ (wrong_name s
 unfolding bad_memory wrong_name bad_shape bad_rest
 name_or_rest s r = simp or_assoc
 
-pub first_earlier : (s : List ℕ) (n : ℕ) → first (bad_memory s) n ≡ earlier_of (first (wrong_name s 5) n) (first (bad_rest s) n)
+pub first_earlier : (s : List ℕ) (n : ℕ) → first_of (bad_memory s) n ≡ earlier_of (first_of (wrong_name s 5) n) (first_of (bad_rest s) n)
 first_earlier s n = first_either _ _ _ n (name_or_rest s)

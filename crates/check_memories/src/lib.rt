@@ -3,7 +3,7 @@
 #![tactic(auto)]
 
 ghost use Rattle.std.specs.Prelude.{false, ◌≡◌, ◌+◌, ◌≤◌};
-ghost use Rattle.spec_tests.specs.Rules.{first};
+ghost use Rattle.spec_tests.specs.Options.{first_of};
 ghost use Rattle.spec_rules.specs.Image.{count_at_of};
 ghost use Rattle.spec_rules.specs.Checks.{bad_address, bad_port, bad_second, bad_memory};
 ghost use Rattle.check_drivers.specs.Bits.{Firsts, Marks};
@@ -173,24 +173,24 @@ fn check_rest(image: &[u8], firsts: &[u32], taken: &mut [u8], r: u32) -> bool
     false
 }
 
-// The first memory that breaks another rule than that of names, and the number of memories where none does.
-fn first_rest(image: &[u8], firsts: &[u32], taken: &mut [u8]) -> u32
+// The first memory that breaks another rule than that of names.
+fn first_rest(image: &[u8], firsts: &[u32], taken: &mut [u8]) -> Option<u32>
     requires { (Firsts image.now firsts.now) × (Marks image.now (count_at_of image.now 3) (count_at_of image.now 4) 0 taken.old) }
-    ensures { result ≡ first (bad_rest image.now) (count_at_of image.now 5) }
+    ensures { result ≡ first_of (bad_rest image.now) (count_at_of image.now 5) }
 {
     let n = image_fields::count(image, image_fields::MEMORIES);
     for r in 0..n {
         if check_rest(image, firsts, taken, r) {
-            return r;
+            return Some(r);
         }
     }
-    n
+    None
 }
 
-// The first memory record that breaks a rule, and the number of records where none does.
-pub fn first_memory(image: &[u8], firsts: &[u32], taken: &mut [u8]) -> u32
+// The first memory record that breaks a rule.
+pub fn first_memory(image: &[u8], firsts: &[u32], taken: &mut [u8]) -> Option<u32>
     requires { (count_at_of image.now 5 ≤ 16) × (Firsts image.now firsts.now) × (Marks image.now (count_at_of image.now 3) (count_at_of image.now 4) 0 taken.old) }
-    ensures { result ≡ first (bad_memory image.now) (count_at_of image.now 5) }
+    ensures { result ≡ first_of (bad_memory image.now) (count_at_of image.now 5) }
 {
     check_names::earlier(
         check_names::first_name(image, image_fields::MEMORIES),

@@ -10,33 +10,12 @@ ghost use Rattle.image_records.specs.Expr.{Decoded};
 ghost use Rattle.image_records.specs.Others.{signal_means, assignment_means, register_means, memory_means};
 ghost use Rattle.check_image.specs.Checked.{answer_of};
 
-use check_image::Checked;
+use check_image::Refusal;
 use image_records::{Assignment, Expression, Memory, Register, Signal};
 
 #[derive(Clone, Copy)]
 pub struct Lowering<'a> {
     pub image: &'a [u8],
-}
-
-// The name of signal p: that stretch of the image.
-fn signal_name_in(image: &[u8], p: u32) -> &[u8]
-    ensures { result.now ≡ name_of image.now 0 p }
-{
-    image_fields::name(image, image_fields::SIGNALS, p)
-}
-
-// The name of register r.
-fn register_name_in(image: &[u8], r: u32) -> &[u8]
-    ensures { result.now ≡ name_of image.now 4 r }
-{
-    image_fields::name(image, image_fields::REGISTERS, r)
-}
-
-// The name of memory m.
-fn memory_name_in(image: &[u8], m: u32) -> &[u8]
-    ensures { result.now ≡ name_of image.now 5 m }
-{
-    image_fields::name(image, image_fields::MEMORIES, m)
 }
 
 impl<'a> Lowering<'a> {
@@ -48,7 +27,7 @@ impl<'a> Lowering<'a> {
     }
 
     // Refusals 1 to 5, for net limit n, list limit p and the words of the two buffers.
-    pub fn check(self, n: u32, p: u32, netlist: usize, scratch: usize) -> Checked
+    pub fn check(self, n: u32, p: u32, netlist: usize, scratch: usize) -> Result<(), Refusal>
         ensures { answer_of result ≡ checked self.entry.image.now n p netlist scratch }
     {
         check_image::check(self.image, n, p, netlist, scratch)
@@ -98,22 +77,23 @@ impl<'a> Lowering<'a> {
         image_records::memory_at(self.image, m)
     }
 
+    // The names of signal p, register r and memory m: that stretch of the image.
     pub fn signal_name(self, p: u32) -> &'a [u8]
         ensures { result.now ≡ name_of self.entry.image.now 0 p }
     {
-        signal_name_in(self.image, p)
+        image_fields::name(self.image, image_fields::SIGNALS, p)
     }
 
     pub fn register_name(self, r: u32) -> &'a [u8]
         ensures { result.now ≡ name_of self.entry.image.now 4 r }
     {
-        register_name_in(self.image, r)
+        image_fields::name(self.image, image_fields::REGISTERS, r)
     }
 
     pub fn memory_name(self, m: u32) -> &'a [u8]
         ensures { result.now ≡ name_of self.entry.image.now 5 m }
     {
-        memory_name_in(self.image, m)
+        image_fields::name(self.image, image_fields::MEMORIES, m)
     }
 }
 

@@ -1,7 +1,8 @@
 -- The rules of a register but for its name: where either is first broken is the earlier of two places.
 use Rattle.std.specs.Prelude.{ℕ, Bool, List, ◌≡◌}
 use Rattle.std.proofs.Common.{sym}
-use Rattle.spec_tests.specs.Rules.{◌<?◌, ◌or◌, first}
+use Rattle.spec_tests.specs.Rules.{◌<?◌, ◌or◌}
+use Rattle.spec_tests.specs.Options.{first_of}
 use Rattle.spec_rules.specs.Image.{field, signal_width}
 use Rattle.spec_rules.specs.Checks.{no_signal, bad_bit, bad_optional, bad_value, bad_reset, driven, bad_register}
 use Rattle.check_names.specs.Names.{wrong_name}
@@ -28,5 +29,5 @@ pub name_or_rest : (s : List ℕ) (r : ℕ) → bad_register s r ≡ (wrong_name
 unfolding bad_register wrong_name bad_rest bad_rest_of
 name_or_rest s r = sym (or_assoc _ _ _)
 
-pub first_earlier : (s : List ℕ) (n : ℕ) → first (bad_register s) n ≡ earlier_of (first (wrong_name s 4) n) (first (bad_rest s) n)
+pub first_earlier : (s : List ℕ) (n : ℕ) → first_of (bad_register s) n ≡ earlier_of (first_of (wrong_name s 4) n) (first_of (bad_rest s) n)
 first_earlier s n = first_either _ _ _ n (name_or_rest s)

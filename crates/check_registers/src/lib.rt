@@ -2,8 +2,8 @@
 // most 256 registers; the bits that the assignments drive are marked, and then those of the targets.
 #![tactic(auto)]
 
-ghost use Rattle.std.specs.Prelude.{false, ◌≡◌, ◌+◌, ◌≤◌};
-ghost use Rattle.spec_tests.specs.Rules.{first};
+ghost use Rattle.std.specs.Prelude.{false, None, ◌≡◌, ◌+◌, ◌≤◌};
+ghost use Rattle.spec_tests.specs.Options.{first_of};
 ghost use Rattle.spec_rules.specs.Image.{count_at_of};
 ghost use Rattle.spec_rules.specs.Checks.{bad_reset, bad_register};
 ghost use Rattle.check_drivers.specs.Bits.{Firsts, Marks};
@@ -76,25 +76,24 @@ fn check_rest(image: &[u8], firsts: &[u32], taken: &mut [u8], r: u32) -> bool
     false
 }
 
-// The first register that breaks another rule than that of names, and the number of registers where none does: then the bits of all
-// targets are marked.
-fn first_rest(image: &[u8], firsts: &[u32], taken: &mut [u8]) -> u32
+// The first register that breaks another rule than that of names; where none does, the bits of all targets are marked.
+fn first_rest(image: &[u8], firsts: &[u32], taken: &mut [u8]) -> Option<u32>
     requires { (Firsts image.now firsts.now) × (Marks image.now (count_at_of image.now 3) 0 0 taken.old) }
-    ensures { (result ≡ first (bad_rest image.now) (count_at_of image.now 4)) × (count_at_of image.now 4 ≤ result → Marks image.now (count_at_of image.now 3) (count_at_of image.now 4) 0 taken.new) }
+    ensures { (result ≡ first_of (bad_rest image.now) (count_at_of image.now 4)) × (result ≡ None → Marks image.now (count_at_of image.now 3) (count_at_of image.now 4) 0 taken.new) }
 {
     let n = image_fields::count(image, image_fields::REGISTERS);
     for r in 0..n {
         if check_rest(image, firsts, taken, r) {
-            return r;
+            return Some(r);
         }
     }
-    n
+    None
 }
 
-// The first register record that breaks a rule, and the number of records where none does: then the bits of all targets are marked.
-pub fn first_register(image: &[u8], firsts: &[u32], taken: &mut [u8]) -> u32
+// The first register record that breaks a rule; where none does, the bits of all targets are marked.
+pub fn first_register(image: &[u8], firsts: &[u32], taken: &mut [u8]) -> Option<u32>
     requires { (count_at_of image.now 4 ≤ 256) × (Firsts image.now firsts.now) × (Marks image.now (count_at_of image.now 3) 0 0 taken.old) }
-    ensures { (result ≡ first (bad_register image.now) (count_at_of image.now 4)) × (count_at_of image.now 4 ≤ result → Marks image.now (count_at_of image.now 3) (count_at_of image.now 4) 0 taken.new) }
+    ensures { (result ≡ first_of (bad_register image.now) (count_at_of image.now 4)) × (result ≡ None → Marks image.now (count_at_of image.now 3) (count_at_of image.now 4) 0 taken.new) }
 {
     check_names::earlier(
         check_names::first_name(image, image_fields::REGISTERS),

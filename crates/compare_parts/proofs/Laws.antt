@@ -1,7 +1,7 @@
 -- From a call's answer to what later calls ask. After each operation no Not has a Not or a constant as its input: over the model, then over
 -- the calls' contracts. Assumes nothing.
 use mathlib.Core.Path.{◌≡◌, refl, sym, ap, ◌∙◌}
-use mathlib.Core.Bool.{Bool, true, false, not, cond, ◌||◌}
+use mathlib.Core.Bool.{Bool, true, false, true≢false, not, cond, ◌||◌}
 use mathlib.Core.List.{List, ◌∷◌, [], ◌++◌}
 use mathlib.Core.Option.{Option, none, some}
 use Prim.Native.Nat.{ℕ, ◌+◌, ◌*◌, ◌≤◌, ◌<◌, min, max}
@@ -16,8 +16,7 @@ use Rattle.spec_model.specs.WordCells.{find_cell, arithmetic, comparison}
 use Rattle.spec_rules.specs.Checks.{checked}
 use Rattle.check_image.specs.Checked.{answer_of}
 use Rattle.check_image.specs.Accepted.{accepted}
-use Rattle.check_image.specs.declared.Checked.{Checked}
-use Rattle.check_image.specs.declared.Checked.TheVariants as C
+use Rattle.check_image.specs.declared.Refusal.{Refusal}
 use Rattle.law_accepted.specs.Formed.{readable}
 use Rattle.expr_laws.specs.Exprs.{Readable}
 use Rattle.net_view.specs.View.{netlist_of}
@@ -25,20 +24,18 @@ use Rattle.net_view.specs.Laws.{length_nodes_of, with_record, empty, Holds}
 use Rattle.net_index.specs.Index.{Held}
 use Rattle.net_index.specs.Start.{held_start}
 use Rattle.net_nodes.specs.Gives.{out_of, Gives}
-use Rattle.net_nodes.specs.declared.Added.{Added}
-use Rattle.net_nodes.specs.declared.Added.TheVariants.{Net, TooManyNets, ListFull}
+use Rattle.std.specs.Prelude.{Result, Ok, Err, is_ok}
+use Rattle.net_nodes.specs.declared.Full.{Full}
 use Rattle.net_ports.specs.Runs.{run_of}
 use Rattle.net_fold.specs.Values.{filled_of, Fills}
-use Rattle.net_fold.specs.declared.Filled.{Filled}
-use Rattle.net_fold.specs.declared.Filled.TheVariants as F
 use Rattle.net_gates.specs.Nots.{PlainNots, not_there, Keeps, keeps_done, keeps_if, keeps_bind, keeps_made, keeps_node, keeps_cached, keeps_constant, keeps_each, keeps_both, kept}
 use Rattle.compare_parts.specs.Steps.{Steps}
 
 -- ---- an image that passes, nets of a word ----
 
-pub fine_readable : (s : List ℕ) (c : Checked) → answer_of c ≡ checked s 1 0 22 98372 → c ≡ C.Fine → Readable s
-unfolding answer_of
-fine_readable s c e f = readable s (accepted s 1 0 22 98372 (sym e ∙ ap answer_of f)).0
+pub fine_readable : (s : List ℕ) (c : Result (Unit {0}) Refusal) → answer_of c ≡ checked s 1 0 22 98372 → is_ok c ≡ true → Readable s
+fine_readable s (Ok u) e f = readable s (accepted s 1 0 22 98372 (sym e)).0
+fine_readable s (Err r) e f = absurd (true≢false (sym f))
 
 -- the front of an array of 1,024 words
 pub front : (w : ℕ) (l : List ℕ) → length l ≡ 1024 → w ≤ 1024 → length (take w l) ≡ w
@@ -147,22 +144,19 @@ keeps_arithmetic op lhs rhs carry l p =
 pub there : (w : List ℕ) (a : ℕ) → a < get_or w 1 0 → a < length (netlist_of 0 w).nodes
 there w a h = omega (arith, length_nodes_of w (get_or w 1 0))
 
-module _ {n : ℕ} {r : Added} {w idx : List ℕ} where
+module _ {n : ℕ} {r : Result ℕ Full} {w idx : List ℕ} where
   pub gives : {m : Made ℕ} → Keeps m → Gives m n r w idx → Steps n r w idx
-  gives h g = record { held = g.held; nots = λ k e. kept h (g.says ∙ ap (λ (x : Added). out_of x (netlist_of n w)) e) }
+  gives h g = record { held = g.held; nots = λ k e. kept h (g.says ∙ ap (λ (x : Result ℕ Full). out_of x (netlist_of n w)) e) }
 
   pub runs : {m : Made (List ℕ)} (b : ℕ) → Keeps m → Held n w idx → m ≡ run_of r b (netlist_of n w) → Steps n r w idx
-  runs b h held e = record { held = held; nots = λ k q. kept h (e ∙ ap (λ (x : Added). run_of x b (netlist_of n w)) q) }
+  runs b h held e = record { held = held; nots = λ k q. kept h (e ∙ ap (λ (x : Result ℕ Full). run_of x b (netlist_of n w)) q) }
 
-pub fills : {m : Made (List ℕ)} {n : ℕ} {f : Filled} {out w idx : List ℕ} (d : ℕ) → Keeps m → Fills m n f out w idx → f ≡ F.Done → Steps n (Net d) w idx
-fills {n} {out} {w} d h g e = record { held = g.held; nots = λ k _. kept h (g.says ∙ ap (λ (x : Filled). filled_of x out (netlist_of n w)) e) }
+pub fills : {m : Made (List ℕ)} {n : ℕ} {f : Result (Unit {0}) Full} {out w idx : List ℕ} (d : ℕ) → Keeps m → Fills m n f out w idx → f ≡ Ok tt → Steps n (Ok d) w idx
+fills {n} {out} {w} d h g e = record { held = g.held; nots = λ k _. kept h (g.says ∙ ap (λ (x : Result (Unit {0}) Full). filled_of x out (netlist_of n w)) e) }
 
 -- after a refusal nothing is said of the netlist
-pub nets_steps : {n : ℕ} {w idx : List ℕ} → Held n w idx → Steps n TooManyNets w idx
-nets_steps h = record { held = h; nots = λ k q. let z : ◌≡◌ {A = ℕ} 0 1 = cc in absurd (omega arith) }
-
-pub list_steps : {n : ℕ} {w idx : List ℕ} → Held n w idx → Steps n ListFull w idx
-list_steps h = record { held = h; nots = λ k q. let z : ◌≡◌ {A = ℕ} 0 1 = cc in absurd (omega arith) }
+pub full_steps : {n : ℕ} {w idx : List ℕ} (e : Full) → Held n w idx → Steps n (Err e) w idx
+full_steps e h = record { held = h; nots = λ k q. let z : ◌≡◌ {A = ℕ} 0 1 = cc in absurd (omega arith) }
 
 -- ---- the empty netlist ----
 

@@ -8,21 +8,18 @@ ghost use Rattle.net_index.specs.Index.{Held};
 ghost use Rattle.net_gates.specs.Nots.{PlainNots};
 ghost use Rattle.compare_parts.specs.Steps.{Steps};
 
-use check_image::Checked;
-use expr_fusion::{Carry, Fusion};
 use image_numbers::ABSENT;
 use net_cells::ComparisonOp;
-use net_fold::{ArithmeticOp, Filled};
-use net_nodes::Added;
+use net_fold::ArithmeticOp;
+use net_nodes::Full;
 
 // ---- expressions of an image that passes the checks, under limits and buffers that refuse none ----
 
 // Ranges and narrowed adders, eight words for each expression; false if the image is refused or the table short.
 pub fn compare_adder_widths(image: &[u8], table: &mut [u32]) -> bool {
-    let checked = check_image::check(image, 1, 0, 22, 98372);
-    let Checked::Fine = checked else {
+    if check_image::check(image, 1, 0, 22, 98372).is_err() {
         return false;
-    };
+    }
     let count = image_fields::count(image, image_fields::EXPRESSIONS) as usize;
     if count * 8 <= table.len() {
         expr_ranges::adder_widths(image, table);
@@ -31,73 +28,50 @@ pub fn compare_adder_widths(image: &[u8], table: &mut [u32]) -> bool {
     false
 }
 
-fn carry_word(c: Carry) -> u32 {
-    match c {
-        Carry::Of(e) => e,
-        Carry::Nothing => ABSENT,
-    }
-}
-
-fn fusion_words(answer: Fusion) -> [u32; 3] {
-    let Fusion::Carried(lhs, rhs, c) = answer else {
-        return [ABSENT, ABSENT, ABSENT];
-    };
-    [lhs, rhs, c]
-}
-
 // Whether a is zero, its carry, the fusion test of a and b, what an Add of them lowers.
 fn fusion_row(image: &[u8], a: u32, b: u32) -> [u32; 8]
     requires { Inside image.now a b }
 {
     let zero = expr_fusion::is_zero_expression(image, a);
-    let carry = carry_word(expr_fusion::carry_lsb(image, a));
-    let t = fusion_words(expr_fusion::fusion_test(image, a, b));
+    let carry = expr_fusion::carry_lsb(image, a).unwrap_or(ABSENT);
+    let t = match expr_fusion::fusion_test(image, a, b) {
+        Some(fused) => [fused.lhs, fused.rhs, fused.carry],
+        None => [ABSENT; 3],
+    };
     let s = expr_fusion::add_with_carry(image, a, b);
-    let c = s.carry;
-    let last = carry_word(c);
-    [zero as u32, carry, t[0], t[1], t[2], s.lhs, s.rhs, last]
+    let last = s.carry.unwrap_or(ABSENT);
+    [u32::from(zero), carry, t[0], t[1], t[2], s.lhs, s.rhs, last]
 }
 
 // Fusion answers for a pair of expressions; false if the image is refused or has no such expressions.
 pub fn compare_fusion(image: &[u8], a: u32, b: u32, row: &mut [u32; 8]) -> bool {
-    let checked = check_image::check(image, 1, 0, 22, 98372);
-    let Checked::Fine = checked else {
+    if check_image::check(image, 1, 0, 22, 98372).is_err() {
         return false;
-    };
+    }
     let count = image_fields::count(image, image_fields::EXPRESSIONS);
-    if a < count {
-        if b < count {
-            *row = fusion_row(image, a, b);
-            return true;
-        }
+    if a < count && b < count {
+        *row = fusion_row(image, a, b);
+        return true;
     }
     false
 }
 
 // ---- the netlist builder ----
 
-// A net of those made so far. The remainder is below the count: tested, not proved.
+// A net of those made so far.
 fn some_net(net: &[u32], x: u32) -> u32
     requires { (16 ≤ length net.now) × (0 < get_or net.now 1 0) }
     ensures { result < get_or net.now 1 0 }
 {
-    let k = x % net[1];
-    if k < net[1] {
-        return k;
-    }
-    0
+    x % net[1]
 }
 
-// A word of the pool, from its start again after its end; tested like the above.
+// A word of the pool, from its start again after its end.
 fn pool_word(pool: &[u32], k: usize) -> u32 {
-    if pool.len() == 0 {
+    if pool.is_empty() {
         return 0;
     }
-    let i = k % pool.len();
-    if i < pool.len() {
-        return pool[i];
-    }
-    0
+    pool[k % pool.len()]
 }
 
 // Nets for w bits, as the words of a pool from a place on name them.
@@ -105,24 +79,28 @@ fn some_nets(net: &[u32], pool: &[u32], start: u32, w: usize) -> [u32; 1024]
     requires { (16 ≤ length net.now) × (0 < get_or net.now 1 0) × (w ≤ 1024) }
     ensures { length result ≡ 1024 }
 {
-    let mut nets = [0u32; 1024];
-    for i in 0..w {
-        nets[i] = some_net(net, pool_word(pool, start as usize + i));
+    let mut nets = [0; 1024];
+    for (i, bit) in nets[..w].iter_mut().enumerate() {
+        *bit = some_net(net, pool_word(pool, start as usize + i));
     }
     nets
 }
 
 // One word for several nets.
 fn digest(nets: &[u32]) -> u32 {
-    let mut h: u32 = 0;
-    for i in 0..nets.len() {
-        h = net_gate_index::mix(h, nets[i]);
-    }
-    h
+    nets.iter().fold(0, |h, x| net_gate_index::mix(h, *x))
 }
 
 // Operations 0 to 5: constants and gates; a constant where there is no net to take.
-fn gate_step(net: &mut [u32], idx: &mut [u32], n: u32, op: u32, a: u32, b: u32, c: u32) -> Added
+fn gate_step(
+    net: &mut [u32],
+    idx: &mut [u32],
+    n: u32,
+    op: u32,
+    a: u32,
+    b: u32,
+    c: u32,
+) -> Result<u32, Full>
     requires { (Held n net.old idx.old) × (PlainNots (netlist_of n net.old)) }
     ensures { Steps n result net.new idx.new }
 {
@@ -150,13 +128,13 @@ fn arithmetic_op(op: u32) -> ArithmeticOp {
 }
 
 // A carry for operation 9 only.
-fn carry_net(net: &[u32], op: u32, c: u32) -> u32
+fn carry_net(net: &[u32], op: u32, c: u32) -> Option<u32>
     requires { (16 ≤ length net.now) × (0 < get_or net.now 1 0) }
 {
     if op == 9 {
-        return some_net(net, c);
+        return Some(some_net(net, c));
     }
-    ABSENT
+    None
 }
 
 fn comparison_op(op: u32) -> ComparisonOp {
@@ -177,7 +155,7 @@ fn nets_step(
     c: u32,
     xs: &mut [u32],
     ys: &[u32],
-) -> Added
+) -> Result<u32, Full>
     requires { (Held n net.old idx.old) × (PlainNots (netlist_of n net.old)) × (0 < get_or net.old 1 0) × (0 < length xs.old) × (length xs.old ≡ length ys.now) × (length xs.old ≤ 1024) }
     ensures { Steps n result net.new idx.new }
 {
@@ -189,12 +167,8 @@ fn nets_step(
         return net_cells::comparison(net, idx, n, comparison_op(op), xs, ys);
     }
     let carry = carry_net(net, op, c);
-    let made = net_cells::arithmetic(net, idx, n, arithmetic_op(op), carry, xs, ys);
-    match made {
-        Filled::Done => Added::Net(digest(xs)),
-        Filled::TooManyNets => Added::TooManyNets,
-        Filled::ListFull => Added::ListFull,
-    }
+    net_cells::arithmetic(net, idx, n, arithmetic_op(op), carry, xs, ys)?;
+    Ok(digest(xs))
 }
 
 // The same on words of width w, of nets that a pool names.
@@ -208,7 +182,7 @@ fn word_step(
     b: u32,
     c: u32,
     pool: &[u32],
-) -> Added
+) -> Result<u32, Full>
     requires { (Held n net.old idx.old) × (PlainNots (netlist_of n net.old)) × (0 < get_or net.old 1 0) × (0 < w) × (w ≤ 1024) }
     ensures { Steps n result net.new idx.new }
 {
@@ -218,7 +192,7 @@ fn word_step(
 }
 
 // Operation 14: an input port. Ports count the signals.
-fn input_step(net: &mut [u32], idx: &[u32], n: u32, w: u32) -> Added
+fn input_step(net: &mut [u32], idx: &[u32], n: u32, w: u32) -> Result<u32, Full>
     requires { (Held n net.old idx.now) × (PlainNots (netlist_of n net.old)) × (w ≤ 1024) }
     ensures { Steps n result net.new idx.now }
 {
@@ -227,7 +201,14 @@ fn input_step(net: &mut [u32], idx: &[u32], n: u32, w: u32) -> Added
 }
 
 // The operation whose five words stand at a place.
-fn step(net: &mut [u32], idx: &mut [u32], n: u32, ops: &[u32], at: usize, pool: &[u32]) -> Added
+fn step(
+    net: &mut [u32],
+    idx: &mut [u32],
+    n: u32,
+    ops: &[u32],
+    at: usize,
+    pool: &[u32],
+) -> Result<u32, Full>
     requires { (Held n net.old idx.old) × (PlainNots (netlist_of n net.old)) × (at + 5 ≤ length ops.now) }
     ensures { Steps n result net.new idx.new }
 {
@@ -248,12 +229,11 @@ fn step(net: &mut [u32], idx: &mut [u32], n: u32, ops: &[u32], at: usize, pool: 
     word_step(net, idx, n, op, w, b, c, ops[at + 4], pool)
 }
 
-// The refusal of an answer: 9 or 10.
-fn refusal(x: Added) -> u64 {
-    match x {
-        Added::Net(_) => 0,
-        Added::TooManyNets => 9,
-        Added::ListFull => 10,
+// The refusal's number.
+fn refusal(full: Full) -> u64 {
+    match full {
+        Full::Nets => 9,
+        Full::List => 10,
     }
 }
 
@@ -270,11 +250,10 @@ fn run(
     requires { (Held n net.old idx.old) × (PlainNots (netlist_of n net.old)) × (5 * turns ≤ length ops.now) × (turns ≤ length results.old) }
 {
     for at in 0..turns {
-        let x = step(net, idx, n, ops, 5 * at, pool);
-        let Added::Net(k) = x else {
-            return [refusal(x), at as u64];
-        };
-        results[at] = k;
+        match step(net, idx, n, ops, 5 * at, pool) {
+            Ok(k) => results[at] = k,
+            Err(full) => return [refusal(full), at as u64],
+        }
     }
     [0, 0]
 }
@@ -292,14 +271,10 @@ fn build(
     requires { (0 < n) × (n ≤ 65535) × (5 * turns ≤ length ops.now) × (turns ≤ length results.old) }
 {
     let least = 16 + 6 * n as usize;
-    if least <= net.len() {
-        if net.len() <= least + 65535 {
-            if idx.len() == 4 * n as usize {
-                net_nodes::clear(idx);
-                net_nodes::start(net, n);
-                return run(net, idx, n, ops, turns, pool, results);
-            }
-        }
+    if least <= net.len() && net.len() <= least + 65535 && idx.len() == 4 * n as usize {
+        idx.fill(0);
+        net_nodes::start(net, n);
+        return run(net, idx, n, ops, turns, pool, results);
     }
     [1, 0]
 }
@@ -316,13 +291,7 @@ pub fn compare_build(
     answer: &mut [u64; 2],
 ) {
     *answer = [1, 0];
-    if turns <= ops.len() / 5 {
-        if turns <= results.len() {
-            if 0 < n {
-                if n <= 65535 {
-                    *answer = build(n, ops, turns, pool, net, idx, results);
-                }
-            }
-        }
+    if turns <= ops.len() / 5 && turns <= results.len() && 0 < n && n <= 65535 {
+        *answer = build(n, ops, turns, pool, net, idx, results);
     }
 }

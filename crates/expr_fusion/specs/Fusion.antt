@@ -1,5 +1,7 @@
 -- What the answers of the fusion stand for, and the laws of each function by the way it returns. Assumes nothing.
 use Rattle.std.specs.Prelude.{◌≡◌, Bool, true, not, cond, List, [], ◌∷◌, ℕ, ◌+◌, ◌^◌, ◌%◌, ◌≤◌, ◌<◌, min, ltb}
+use Rattle.std.specs.Prelude as code
+use Rattle.std.specs.Prelude.{Some, None}
 use Rattle.std.proofs.Math.Path.{refl, sym}
 use Rattle.std.proofs.Common.{◌∙◌, lt→ltb}
 use Rattle.std.proofs.Math.Bool.{false}
@@ -9,6 +11,7 @@ use native.Mathlib.Omega.{arith}
 use Rattle.std.proofs.Math.Dec.{T}
 use Rattle.std.proofs.Math.Arith.{le→nltb}
 use Rattle.spec_rtl.specs.Rtl as R
+use Rattle.spec_tests.specs.Options.{option_of}
 use Rattle.spec_tests.specs.Rules.{each, list_of}
 use Rattle.spec_rules.specs.Image.{count_at_of, expr_width, list_word, constant_of}
 use Rattle.spec_model.specs.Ranges as ranges
@@ -27,12 +30,7 @@ use Rattle.expr_laws.specs.Listed.{below_list_of, onward, onward_all, onward_con
 use Rattle.expr_laws.specs.Exprs.{exprs_of, Readable, in_exprs, width_at_law, width_least, width_read, kind_read, low_read, listed_read}
 use Rattle.expr_fusion.specs.declared.ZeroTest.{ZeroTest}
 use Rattle.expr_fusion.specs.declared.ZeroTest.TheVariants.{Zero, NotZero, Parts}
-use Rattle.expr_fusion.specs.declared.Carry.{Carry}
-use Rattle.expr_fusion.specs.declared.Carry.TheVariants as C
-use Rattle.expr_fusion.specs.declared.Sum.{Sum}
-use Rattle.expr_fusion.specs.declared.Sum.TheVariants as S
-use Rattle.expr_fusion.specs.declared.Fusion.{Fusion}
-use Rattle.expr_fusion.specs.declared.Fusion.TheVariants.{Carried, Plain}
+use Rattle.expr_fusion.specs.declared.Fused.{Fused}
 use Rattle.expr_fusion.specs.declared.Operands.{Operands}
 
 -- ---- what is asked: a readable image, and expressions of it ----
@@ -71,25 +69,17 @@ pub record ZeroStep (s : List ℕ) (e : ℕ) (r : ZeroTest) : Type 0 where
   pub same : is_zero_expression (exprs_of s) e ≡ zero_of s r
   pub falls : Falls s e r
 
-abbrev pub carry_of : Carry → Option ℕ
-carry_of (C.Of c) = some c
-carry_of C.Nothing = none
-
 -- by the kind of e
 abbrev pub carry_by : List ℕ → ℕ → Option ℕ
 carry_by s e = carry_kind (exprs_of s) e (ranges.width_at (exprs_of s) e) (ranges.expr_at (exprs_of s) e).kind
-
-abbrev pub sum_of : Sum → Option (ℕ × ℕ)
-sum_of (S.Of a b) = some (a, b)
-sum_of S.Nothing = none
 
 abbrev pub sum_by : BinaryOp → ℕ → ℕ → Option (ℕ × ℕ)
 sum_by op a b = cond (adds_of (op_class_of op)) (some (a, b)) none
 
 -- a fusion: operands and carry, over what stands without one
-abbrev pub fusion_of : Fusion → Option model.Operands
-fusion_of (Carried a b c) = some (record { lhs = a; rhs = b; carry = some c })
-fusion_of Plain = none
+abbrev pub fusion_of : code.Option Fused → Option model.Operands
+fusion_of (Some f) = some (record { lhs = f.lhs; rhs = f.rhs; carry = some f.carry })
+fusion_of None = none
 
 abbrev pub together : Option (ℕ × ℕ) → Option ℕ → Option model.Operands
 together none c = none
@@ -107,7 +97,7 @@ abbrev pub either_side : List ℕ → ℕ → ℕ → Option model.Operands
 either_side s a b = or_else (fusion_by s a b) (fusion_by s b a)
 
 abbrev pub shown : Operands → model.Operands
-shown r = record { lhs = r.lhs; rhs = r.rhs; carry = carry_of r.carry }
+shown r = record { lhs = r.lhs; rhs = r.rhs; carry = option_of r.carry }
 
 -- ---- by the kind of an expression that was read ----
 

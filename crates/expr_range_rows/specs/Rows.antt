@@ -1,5 +1,7 @@
 -- The range that a value stands for, and the laws of the rows. Assumes nothing.
 use Rattle.std.specs.Prelude.{◌≡◌, ℕ, zero, suc, ◌+◌, ◌-◌, ◌*◌, ◌/◌, ◌%◌, ◌^◌, ◌<◌, ◌≤◌, min, max, true, false, ◌&&◌, ◌==◌, ◌≢◌, nat_le, nat_lt, refl}
+use Rattle.std.specs.Prelude as code
+use Rattle.std.specs.Prelude.{Some, None}
 use Rattle.std.proofs.Common.{sym, ap, ◌∙◌, arith, leb→le, le→leb, lt→ltb}
 use Rattle.std.proofs.Math.Option.{Option, none, some}
 use Rattle.std.proofs.Math.Nat.{mod-add-mod, add-mod_right, pow-succ'}
@@ -13,15 +15,13 @@ use Rattle.word_laws.specs.Shift.{T_true, T_false}
 use Rattle.word_laws.specs.Tree.{test_iff, eqb_no}
 use Rattle.word_ranges.specs.Rows.{bit_len_fits}
 use Rattle.expr_range_rows.specs.declared.Range.{Range}
-use Rattle.expr_range_rows.specs.declared.Known.{Known}
-use Rattle.expr_range_rows.specs.declared.Known.TheVariants.{Of, Wide}
 
 abbrev pub shown : Range → model.Range
 shown r = record { lo = r.min; hi = r.max }
 
-abbrev pub known : Known → Option model.Range
-known (Of r) = some (shown r)
-known Wide = none
+abbrev pub known : code.Option Range → Option model.Range
+known (Some r) = some (shown r)
+known None = none
 
 pub record Held (l r : Range) (width : ℕ) : Type 0 where
   pub least : 1 ≤ width
@@ -165,8 +165,8 @@ bit_len_some (suc x) k n e = (omega arith, omega (arith, bit_len_most 64 (suc x)
 
 -- ---- the narrowed width ----
 
-pub narrow_yes : (w : ℕ) (r : model.Range) (k : ℕ) → k ≡ max 1 (model.bit_len 64 r.hi) → k < w → k ≡ narrow_word (model.narrow_by w (some r))
+pub narrow_yes : (w : ℕ) (r : model.Range) (k : ℕ) → k ≡ max 1 (model.bit_len 64 r.hi) → k < w → some k ≡ model.narrow_by w (some r)
 narrow_yes w r k e h = rw (← e, T_true (nat_lt k w) (lt→ltb k w h))
 
-pub narrow_no : (w : ℕ) (r : model.Range) (k : ℕ) → k ≡ max 1 (model.bit_len 64 r.hi) → w ≤ k → 0 ≡ narrow_word (model.narrow_by w (some r))
+pub narrow_no : (w : ℕ) (r : model.Range) (k : ℕ) → k ≡ max 1 (model.bit_len 64 r.hi) → w ≤ k → none ≡ model.narrow_by w (some r)
 narrow_no w r k e h = rw (← e, T_false (nat_lt k w) (le→nltb k w h))

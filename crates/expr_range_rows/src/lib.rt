@@ -3,8 +3,9 @@
 
 ghost use Rattle.std.specs.Prelude.{◌≡◌, ◌+◌, ◌-◌, ◌*◌, ◌/◌, ◌%◌, ◌^◌, ◌<◌, ◌≤◌, min, max, ◌&&◌, nat_le};
 ghost use Rattle.std.proofs.Math.Option.{some};
+ghost use Rattle.spec_tests.specs.Options.{option_of};
 ghost use Rattle.spec_model.specs.Ranges as model;
-ghost use Rattle.expr_range_rows.specs.Rows.{shown, known, Held, Joins, and_range, join_of, narrow_word};
+ghost use Rattle.expr_range_rows.specs.Rows.{shown, known, Held, Joins, and_range, join_of};
 
 // The least and the largest number that a word can be.
 #[derive(Clone, Copy)]
@@ -57,18 +58,14 @@ pub fn full(width: u32) -> Range
 fn both_single(l: Range, r: Range) -> bool
     ensures { result ≡ (model.single (shown l) && model.single (shown r)) }
 {
-    if l.min == l.max {
-        r.min == r.max
-    } else {
-        false
-    }
+    l.min == l.max && r.min == r.max
 }
 
 // The sum is at most m, whether or not it fits 64 bits.
 fn sum_fits(a: u64, b: u64, m: u64) -> bool
     ensures { result ≡ nat_le (a + b) m }
 {
-    if a <= m { b <= m - a } else { false }
+    a <= m && b <= m - a
 }
 
 // Add: two constants wrap; else the sums, where the largest fits.
@@ -111,7 +108,7 @@ pub fn and_range(l: Range, r: Range) -> Range
 {
     Range {
         min: 0,
-        max: word_order::smaller_u64(l.max, r.max),
+        max: l.max.min(r.max),
     }
 }
 
@@ -138,7 +135,7 @@ pub fn or_range(l: Range, r: Range) -> Range
 {
     Range {
         min: 0,
-        max: ones(word_order::larger_u64(l.max, r.max)),
+        max: ones(l.max.max(r.max)),
     }
 }
 
@@ -146,30 +143,23 @@ fn hull(lhs: Range, rhs: Range) -> Range
     ensures { shown result ≡ model.hull (shown lhs) (shown rhs) }
 {
     Range {
-        min: word_order::smaller_u64(lhs.min, rhs.min),
-        max: word_order::larger_u64(lhs.max, rhs.max),
+        min: lhs.min.min(rhs.min),
+        max: lhs.max.max(rhs.max),
     }
-}
-
-// A range, or none for an expression wider than 64 bits.
-#[derive(Clone, Copy)]
-pub enum Known {
-    Of(Range),
-    Wide,
 }
 
 fn is_point(k: u64, r: Range) -> bool
     ensures { result ≡ model.is_point k (shown r) }
 {
-    if r.min == k { r.max == k } else { false }
+    r.min == k && r.max == k
 }
 
-// Mux: the side that a constant condition takes, else the hull of both.
-pub fn mux_range(condition: Known, then_range: Range, else_range: Range) -> Range
+// Mux: the side that a constant condition takes, else the hull of both. An expression wider than 64 bits has no range.
+pub fn mux_range(condition: Option<Range>, then_range: Range, else_range: Range) -> Range
     ensures { shown result ≡ model.mux_range (known condition) (shown then_range) (shown else_range) }
 {
     match condition {
-        Known::Of(r) => {
+        Some(r) => {
             if is_point(0, r) {
                 return else_range;
             }
@@ -178,7 +168,7 @@ pub fn mux_range(condition: Known, then_range: Range, else_range: Range) -> Rang
             }
             hull(then_range, else_range)
         }
-        Known::Wide => hull(then_range, else_range),
+        None => hull(then_range, else_range),
     }
 }
 
@@ -193,7 +183,7 @@ pub fn slice_range(lsb: u32, width: u32, r: Range) -> Range
     }
     Range {
         min: 0,
-        max: word_order::smaller_u64(high, mask(width)),
+        max: high.min(mask(width)),
     }
 }
 
@@ -219,16 +209,10 @@ pub fn join_range(acc: Range, part: Range, width: u32) -> Range
     }
 }
 
-// The width that an Add of this range is narrowed to; 0 where it is not.
-pub fn narrowed(width: u32, r: Range) -> u32
-    ensures { result ≡ narrow_word (model.narrow_by width (some (shown r))) }
+// The width that an Add of this range is narrowed to, if it is.
+pub fn narrowed(width: u32, r: Range) -> Option<u32>
+    ensures { option_of result ≡ model.narrow_by width (some (shown r)) }
 {
-    let needed = bit_width(r.max);
-    if needed < 1 {
-        if 1 < width {
-            return 1;
-        }
-        return 0;
-    }
-    if needed < width { needed } else { 0 }
+    let needed = bit_width(r.max).max(1);
+    if needed < width { Some(needed) } else { None }
 }

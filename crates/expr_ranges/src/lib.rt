@@ -12,8 +12,8 @@ ghost use Rattle.expr_laws.specs.Exprs.{exprs_of, Readable};
 ghost use Rattle.expr_ranges.specs.Table.{range_in, put_row, filled};
 ghost use Rattle.expr_ranges.specs.Steps.{Row, Rows, RowList, TwoRows, MuxRows, SliceRow, parts_range, range_by, row_width, row_range};
 
-use expr_range_rows::{Known, Range};
-use image_records::{BinaryOp, ExprKind, OpClass};
+use expr_range_rows::Range;
+use image_records::{BinaryOp, ExprKind, Expression, OpClass};
 
 fn low_half(x: u64) -> u32
     ensures { result ≡ x % 4294967296 }
@@ -59,14 +59,14 @@ fn load_range(table: &[u32], e: u32) -> Range
 }
 
 // The range of an expression whose row is written; none where it is wider than 64 bits.
-fn known_range(image: &[u8], table: &[u32], e: u32) -> Known
+fn known_range(image: &[u8], table: &[u32], e: u32) -> Option<Range>
     requires { Row image.now table.now e }
     ensures { known result ≡ model.range_at (exprs_of image.now) e }
 {
     if 64 < image_fields::expr_width(image, e) {
-        return Known::Wide;
+        return None;
     }
-    Known::Of(load_range(table, e))
+    Some(load_range(table, e))
 }
 
 // The row of an operator.
@@ -74,8 +74,7 @@ fn binary_range(op: BinaryOp, l: Range, r: Range, width: u32) -> Range
     requires { Held l r width }
     ensures { shown result ≡ model.binary_range (model.class_of (binary_means op)) width (shown l) (shown r) }
 {
-    let class = image_records::op_class(op);
-    match class {
+    match image_records::op_class(op) {
         OpClass::Ands => expr_range_rows::and_range(l, r),
         OpClass::Ors => expr_range_rows::or_range(l, r),
         OpClass::Adds => expr_range_rows::add_range(l, r, width),
@@ -95,12 +94,10 @@ fn range_of_binary(
     requires { TwoRows image.now table.now lhs rhs width }
     ensures { shown result ≡ model.two width (model.range_at (exprs_of image.now) lhs) (model.range_at (exprs_of image.now) rhs) (model.binary_range (model.class_of (binary_means op)) width) }
 {
-    let left = known_range(image, table, lhs);
-    let Known::Of(l) = left else {
+    let Some(l) = known_range(image, table, lhs) else {
         return expr_range_rows::full(width);
     };
-    let right = known_range(image, table, rhs);
-    let Known::Of(r) = right else {
+    let Some(r) = known_range(image, table, rhs) else {
         return expr_range_rows::full(width);
     };
     binary_range(op, l, r, width)
@@ -110,12 +107,10 @@ fn range_of_mux(image: &[u8], table: &[u32], condition: u32, yes: u32, no: u32, 
     requires { MuxRows image.now table.now condition yes no width }
     ensures { shown result ≡ model.two width (model.range_at (exprs_of image.now) yes) (model.range_at (exprs_of image.now) no) (model.mux_range (model.range_at (exprs_of image.now) condition)) }
 {
-    let left = known_range(image, table, yes);
-    let Known::Of(y) = left else {
+    let Some(y) = known_range(image, table, yes) else {
         return expr_range_rows::full(width);
     };
-    let right = known_range(image, table, no);
-    let Known::Of(n) = right else {
+    let Some(n) = known_range(image, table, no) else {
         return expr_range_rows::full(width);
     };
     expr_range_rows::mux_range(known_range(image, table, condition), y, n)
@@ -125,8 +120,7 @@ fn range_of_slice(image: &[u8], table: &[u32], input: u32, lsb: u32, width: u32)
     requires { SliceRow image.now table.now input lsb width }
     ensures { shown result ≡ model.one width (model.range_at (exprs_of image.now) input) (model.slice_range_of lsb width) }
 {
-    let known = known_range(image, table, input);
-    let Known::Of(r) = known else {
+    let Some(r) = known_range(image, table, input) else {
         return expr_range_rows::full(width);
     };
     expr_range_rows::slice_range(lsb, width, r)
@@ -140,8 +134,7 @@ fn range_of_concat(image: &[u8], table: &[u32], start: u32, count: u32, width: u
     let mut result = Range { min: 0, max: 0 };
     for i in 0..count {
         let part = image_fields::list_word(image, start + i);
-        let known = known_range(image, table, part);
-        let Known::Of(r) = known else {
+        let Some(r) = known_range(image, table, part) else {
             return expr_range_rows::full(width);
         };
         result = expr_range_rows::join_range(result, r, image_fields::expr_width(image, part));
@@ -154,9 +147,7 @@ fn expression_range(image: &[u8], table: &[u32], e: u32) -> Range
     requires { Rows image.now table.now e × (expr_width image.now e ≤ 64) }
     ensures { shown result ≡ range_by image.now e }
 {
-    let x = image_records::expression_at(image, e);
-    let width = x.width;
-    let kind = x.kind;
+    let Expression { width, kind } = image_records::expression_at(image, e);
     match kind {
         ExprKind::Constant(start) => expr_range_rows::point(expr_constants::constant_value(
             image, start, width,
@@ -182,7 +173,7 @@ fn fill_row(image: &[u8], table: &mut [u32], e: u32)
     }
     let range = expression_range(image, table, e);
     let needed = expr_range_rows::narrowed(width, range);
-    store_row(table, e, range, needed);
+    store_row(table, e, range, needed.unwrap_or(0));
 }
 
 pub fn adder_widths(image: &[u8], table: &mut [u32])

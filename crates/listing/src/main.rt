@@ -10,13 +10,14 @@ fn input_bytes() -> [u8; 32768]
     [0; 32768]
 }
 
-// Reads into a lent buffer, lists what was read in another, and prints that.
+// Reads into a lent buffer, lists what was read in another, and prints that. Through crate io, over read and write alone: std's printing
+// rests on more of the C library.
 fn list(input: &mut [u8], out: &mut [u8])
     requires { 327680 ≤ length out.old }
 {
     let read = io::read_full(0, input);
     let end = listing_input::program(&input[..read], out);
-    io::write_all(1, image_fields::stretch(out, 0, end));
+    io::write_all(1, &out[..end]);
 }
 
 fn main() {

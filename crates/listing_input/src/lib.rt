@@ -5,8 +5,6 @@ ghost use Rattle.std.specs.Prelude.{◌≤◌, ◌≡◌, length, replicate};
 ghost use Rattle.spec_call.specs.Call as call;
 ghost use Rattle.listing_outcome.specs.Written.{Written};
 
-use lower_outcome::Outcome;
-
 // A buffer with room for the longest text.
 pub fn text_bytes() -> [u8; 327680]
     ensures { 327680 ≡ length result }
@@ -36,6 +34,6 @@ pub fn program(input: &[u8], out: &mut [u8]) -> usize
     let image = image_fields::stretch(input, 0, 32768);
     let mut netlist = netlist_words();
     let mut scratch = scratch_words();
-    let x: Outcome = lower::lower(image, 1024, 2048, &mut netlist, &mut scratch);
-    listing_outcome::outcome_text(x, image, &netlist, out)
+    let answer = lower::lower(image, 1024, 2048, &mut netlist, &mut scratch);
+    listing_outcome::outcome_text(answer, image, &netlist, out)
 }

@@ -1,14 +1,15 @@
 -- The pieces of a net line, and how a line is made of them.
 use Prim.Native.Nat.{ℕ, suc, ◌+◌, ◌-◌, ◌≤◌, ◌<◌}
-use Rattle.std.specs.Prelude.{Bool, true, false, ◌≡◌, refl, length, get_or}
+use Rattle.std.specs.Prelude.{Bool, true, false, ◌≡◌, refl, length, drop, get_or}
 use mathlib.Core.List.{List, [], ◌∷◌, ◌++◌, append-nil, append_assoc}
-use Rattle.std.proofs.Common.{sym, ◌∙◌, add-one}
+use Rattle.std.proofs.Common.{◌⊎◌, ⊎_elim, sym, ◌∙◌, add-one, drop_of_length-le}
+use Rattle.std.proofs.Math.Seq.{drop-cons}
 use Rattle.std.proofs.Math.Path.{ap}
 use Rattle.std.proofs.Math.Nat.{sub-zero}
 use native.Mathlib.Omega.{arith}
 use Rattle.std.proofs.Math.ListN.{get_or-eq_default}
 use Rattle.spec_tests.specs.Rules.{◌≡?◌, ◌or◌, pick, each, list_of}
-use Rattle.spec_tests.specs.Laws.{lt_yes, lt_no, eq_yes, eq_no, pick_hit, pick_skip}
+use Rattle.spec_tests.specs.Laws.{lt_yes, lt_no, eq_yes, eq_no, no_eq, or_left, or_right, or_skip, pick_hit, pick_skip}
 use Rattle.spec_rules.specs.Image.{absent, field, name_of, signal_width, first_port}
 use Rattle.spec_rules.specs.NetlistImage.{node_word}
 use Rattle.spec_rules.specs.Listing.{text, decimal, line, together, kind_word, bit_name, signal_name, register_name, memory_name, owned, inputs, net_line}
@@ -80,6 +81,10 @@ module _ {o : List ℕ} {at : ℕ} {o' : List ℕ} {r : ℕ} where
       let i = f ∙ ap (signal_width s) q in
       wrote_same (ap (λ (t : List ℕ). 32 ∷ t) (sym (pick_skip _ (lt_no _ _ (rw i at l)) refl))) (rw (e, i) at h)
 
+-- a name with nothing that marks it
+pub unmarked : (name : List ℕ) (w bit : ℕ) {o : List ℕ} {at : ℕ} {o' : List ℕ} {r : ℕ} → Wrote o at (32 ∷ bit_name (name ++ []) w bit) o' r → Wrote o at (32 ∷ bit_name name w bit) o' r
+unmarked name w bit h = wrote_same (ap (λ (t : List ℕ). 32 ∷ bit_name t w bit) (sym (append-nil name))) h
+
 -- ---- what a node is, by its kind ----
 
 spaced_one : (w : List ℕ) → spaced (w ∷ []) ≡ 32 ∷ w
@@ -120,6 +125,26 @@ module _ (s : List ℕ) (k owner bit : ℕ) where
           unfolding owned spaced
           owned_none e = ap spaced (sym (pick_skip _ a (pick_skip _ (eq_no k 1 b) (pick_skip _ (eq_no k 7 d) (pick_skip _ (eq_no k 9 f) (pick_skip _ e refl))))))
 
+-- the kinds with a signal, and with a cell
+pub port_kind : {k : ℕ} → (k ≡ 0) ⊎ (k ≡ 8) → (k ≡? 0 or k ≡? 8) ≡ true
+port_kind {k} h = ⊎_elim (λ (e : k ≡ 0). or_left (k ≡? 8) (eq_yes k 0 e)) (λ (e : k ≡ 8). or_right (k ≡? 0) (eq_yes k 8 e)) h
+
+pub other_kind : (k : ℕ) → (k ≡ 0 → ⊥) → (k ≡ 8 → ⊥) → (k ≡? 0 or k ≡? 8) ≡ false
+other_kind k a b = sym (or_skip (eq_no k 0 a) (sym (eq_no k 8 b)))
+
+pub cell_kind : (k : ℕ) → 10 ≤ k → k ≤ 11 → (k ≡? 10 or k ≡? 11) ≡ true
+cell_kind k h l = go (k ≡? 10) refl
+  where
+    go : (t : Bool) → (k ≡? 10) ≡ t → (k ≡? 10 or k ≡? 11) ≡ true
+    go true e = or_left (k ≡? 11) e
+    go false e = or_right (k ≡? 10) (eq_yes k 11 (omega (arith, no_eq k 10 e)))
+
+pub above : {k : ℕ} → 7 ≤ k → (k ≡ 7 → ⊥) → (k ≡ 8 → ⊥) → (k ≡ 9 → ⊥) → 10 ≤ k
+above h a b d = omega arith
+
+pub no_cell_kind : (k : ℕ) → (k ≡ 10 → ⊥) → (k ≡ 11 → ⊥) → (k ≡? 10 or k ≡? 11) ≡ false
+no_cell_kind k a b = sym (or_skip (eq_no k 10 a) (sym (eq_no k 11 b)))
+
 -- ---- inputs ----
 
 pub input_none : (n : ℕ) (ns : List ℕ) → n ≡ absent → spaced (inputs (n ∷ ns)) ≡ []
@@ -133,6 +158,27 @@ input_more n ns h = ap spaced (sym (pick_skip _ (eq_no n absent h) refl))
 pub input_last : (n : ℕ) → (n ≡ absent → ⊥) → spaced (inputs (n ∷ [])) ≡ 32 ∷ decimal n
 unfolding inputs
 input_last n h = ap spaced (sym (pick_skip _ (eq_no n absent h) refl)) ∙ spaced_one (decimal n)
+
+-- a loop over a node's inputs: of the text, those from the i-th on remain
+pub inputs_start : (ns o : List ℕ) (at : ℕ) → at ≤ length o → Writing o at (spaced (inputs ns)) o at (spaced (inputs (drop 0 ns)))
+inputs_start ns o at h = writing_all o at (spaced (inputs ns)) h
+
+abbrev left : List ℕ → List ℕ
+left l = spaced (inputs l)
+
+module _ (ns : List ℕ) {o : List ℕ} {at : ℕ} {o₁ : List ℕ} {to i : ℕ} where
+  pub inputs_stop : i < length ns → get_or ns i 0 ≡ absent → Writing o at (left ns) o₁ to (left (drop i ns)) → Wrote o at (left ns) o₁ to
+  inputs_stop h e w = writing_done (ap left (drop-cons ns i 0 h) ∙ input_none (get_or ns i 0) (drop (suc i) ns) e) w
+
+  pub inputs_next : i < length ns → (get_or ns i 0 ≡ absent → ⊥) → Writing o at (left ns) o₁ to (left (drop i ns)) → {o₂ : List ℕ} {r : ℕ} → Wrote o₁ to (32 ∷ decimal (get_or ns i 0)) o₂ r
+      → Writing o at (left ns) o₂ r (left (drop (i + 1) ns))
+  inputs_next h n w q =
+      let z : suc i ≡ i + 1 = omega arith in
+      writing_more (ap left (drop-cons ns i 0 h) ∙ input_more (get_or ns i 0) (drop (suc i) ns) n ∙ ap (λ (k : ℕ). (32 ∷ decimal (get_or ns i 0)) ++ left (drop k ns)) z) w q
+
+  pub inputs_end : length ns ≤ i → Writing o at (left ns) o₁ to (left (drop i ns)) → Wrote o at (left ns) o₁ to
+  unfolding inputs spaced
+  inputs_end h w = writing_done (ap left (drop_of_length-le ns h)) w
 
 -- ---- lines ----
 

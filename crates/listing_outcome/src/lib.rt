@@ -7,7 +7,7 @@ ghost use Rattle.spec_rules.specs.Listing as text;
 ghost use Rattle.lower_outcome.specs.Answer.{answer_of};
 ghost use Rattle.listing_outcome.specs.Written.{Written, Room};
 
-use lower_outcome::Outcome;
+use lower_outcome::Refusal;
 
 // The text for an accepted image and its netlist words; its length.
 fn accepted_text(image: &[u8], netlist: &[u32], out: &mut [u8]) -> usize
@@ -26,21 +26,20 @@ fn refused_text(out: &mut [u8], n: u32, a: u32, b: u32) -> usize
 }
 
 // The text for an answer of the lowering call and the netlist words that it left; its length.
-pub fn outcome_text(x: Outcome, image: &[u8], netlist: &[u32], out: &mut [u8]) -> usize
-    requires { Room image.now (answer_of x) netlist.now out.old }
-    ensures { Written (text.listing image.now (answer_of x) netlist.now) out.new result }
+pub fn outcome_text(
+    answer: Result<(), Refusal>,
+    image: &[u8],
+    netlist: &[u32],
+    out: &mut [u8],
+) -> usize
+    requires { Room image.now (answer_of answer) netlist.now out.old }
+    ensures { Written (text.listing image.now (answer_of answer) netlist.now) out.new result }
 {
-    match x {
-        Outcome::Fine => accepted_text(image, netlist, out),
-        Outcome::Limits => refused_text(out, 1, 0, 0),
-        Outcome::NetlistShort => refused_text(out, 2, 0, 0),
-        Outcome::Field(f) => refused_text(out, 3, f, 0),
-        Outcome::Record(k, r) => refused_text(out, 4, k, r),
-        Outcome::ScratchShort => refused_text(out, 5, 0, 0),
-        Outcome::Undriven(p, b) => refused_text(out, 6, p, b),
-        Outcome::Loop(p, b) => refused_text(out, 7, p, b),
-        Outcome::Reset(r, b) => refused_text(out, 8, r, b),
-        Outcome::TooManyNets => refused_text(out, 9, 0, 0),
-        Outcome::ListFull => refused_text(out, 10, 0, 0),
+    match answer {
+        Ok(()) => accepted_text(image, netlist, out),
+        Err(_) => {
+            let [n, a, b] = lower_outcome::numbers(answer);
+            refused_text(out, n, a, b)
+        }
     }
 }

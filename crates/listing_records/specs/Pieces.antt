@@ -1,5 +1,5 @@
 -- The pieces of a record line, and how a line is made of them.
-use Rattle.std.specs.Prelude.{ℕ, ◌+◌, ◌≤◌, ◌<◌, ◌≡◌, refl, length, drop, get_or}
+use Rattle.std.specs.Prelude.{ℕ, zero, suc, ◌+◌, ◌≤◌, ◌<◌, ◌≡◌, refl, length, drop, get_or}
 use mathlib.Core.List.{List, [], ◌∷◌, ◌++◌, map, append_assoc}
 use Rattle.std.proofs.Common.{sym, ap, ◌∙◌, add-one, arith, drop_of_length-le}
 use Rattle.std.proofs.Math.ListN.{get_or-eq_default}
@@ -42,6 +42,11 @@ record_word k = get_or record_words k []
 pub no_word : (k : ℕ) → 5 ≤ k → record_word k ≡ []
 unfolding record_word
 no_word k h = get_or-eq_default record_words [] h
+
+pub other_word : (k : ℕ) → (k ≡ 1 → ⊥) → (k ≡ 2 → ⊥) → (k ≡ 3 → ⊥) → (k ≡ 4 → ⊥) → record_word k ≡ []
+unfolding record_word
+other_word zero a b d e = refl
+other_word (suc k) a b d e = get_or-eq_default record_words [] (let h : 5 ≤ suc k = omega arith in h)
 
 unfoldable pub port_line : List ℕ → List ℕ → List ℕ
 port_line s r = line (text "port" ∷ name_of s 0 (get_or r 1 0) ∷ map decimal (drop 3 r))

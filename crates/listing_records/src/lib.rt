@@ -1,7 +1,7 @@
 // The record lines of the listing, as text in a lent buffer: a port's name and nets; else the record's kind and its words after the first.
 #![tactic(auto)]
 
-ghost use Rattle.std.specs.Prelude.{map, ◌≤◌, ◌<◌, length, drop};
+ghost use Rattle.std.specs.Prelude.{◌≡◌, map, ◌≤◌, ◌<◌, length, drop};
 ghost use Rattle.spec_rules.specs.NetlistImage.{records_of};
 ghost use Rattle.spec_rules.specs.Listing as listing;
 ghost use Rattle.listing_text.specs.Text.{Wrote, spaced};
@@ -16,24 +16,22 @@ fn put_numbers(out: &mut [u8], at: usize, words: &[u32]) -> usize
     ensures { Wrote out.old at (spaced (map listing.decimal words.now)) out.new result }
 {
     let mut to = at;
-    for i in 0..words.len() {
-        to = listing_text::put_number(out, to, words[i]);
+    for word in words {
+        to = listing_text::put_number(out, to, *word);
     }
     to
 }
 
 // The word of a record that is no port's, by the record's first word.
-fn record_word(out: &mut [u8], at: usize, k: u32) -> usize
-    requires { at ≤ length out.old }
-    ensures { Wrote out.old at (record_word k) out.new result }
+fn record_word(k: u32) -> &'static [u8]
+    ensures { result.now ≡ record_word k }
 {
     match k {
-        PORT_RECORD => at,
-        REGISTER_RECORD => listing_text::put(out, at, b"register"),
-        MEMORY_RECORD => listing_text::put(out, at, b"memory"),
-        ARITHMETIC_RECORD => listing_text::put(out, at, b"arithmetic"),
-        COMPARISON_RECORD => listing_text::put(out, at, b"comparison"),
-        _ => at,
+        REGISTER_RECORD => b"register",
+        MEMORY_RECORD => b"memory",
+        ARITHMETIC_RECORD => b"arithmetic",
+        COMPARISON_RECORD => b"comparison",
+        _ => b"",
     }
 }
 
@@ -44,11 +42,8 @@ fn port_line(image: &[u8], r: &[u32], out: &mut [u8], at: usize) -> usize
 {
     let p = listing_text::put(out, at, b"port");
     let signal = net_words::word_at(r, 1);
-    let q = listing_text::put_word(
-        out,
-        p,
-        image_fields::name(image, image_fields::SIGNALS, signal),
-    );
+    let name = image_fields::name(image, image_fields::SIGNALS, signal);
+    let q = listing_text::put_word(out, p, name);
     let t = put_numbers(out, q, net_words::part(r, 3));
     listing_text::put_byte(out, t, 10)
 }
@@ -58,7 +53,7 @@ fn cell_line(r: &[u32], out: &mut [u8], at: usize) -> usize
     requires { at ≤ length out.old }
     ensures { Wrote out.old at (cell_line r.now) out.new result }
 {
-    let p = record_word(out, at, net_words::word_at(r, 0));
+    let p = listing_text::put(out, at, record_word(net_words::word_at(r, 0)));
     let q = put_numbers(out, p, net_words::part(r, 1));
     listing_text::put_byte(out, q, 10)
 }
@@ -90,6 +85,7 @@ fn lines_of(image: &[u8], list: &[u32], out: &mut [u8], at: usize) -> usize
 {
     let mut to = at;
     let mut i = 0;
+    // The step is by the record that was read.
     while i < list.len() {
         let end = record_end(list, i);
         to = record_line(image, net_words::stretch(list, i, end - i), out, to);

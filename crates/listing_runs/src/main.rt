@@ -5,12 +5,13 @@
 ghost use Rattle.std.specs.Prelude.{◌≤◌, length};
 
 fn read_word() -> u32 {
-    let mut bytes = [0u8; 4];
+    let mut bytes = [0; 4];
     io::read_full(0, &mut bytes);
-    image_fields::word(&bytes, 0)
+    u32::from_le_bytes(bytes)
 }
 
-// Reads the next input into a lent buffer, lists it in another, and prints that.
+// Reads the next input into a lent buffer, lists it in another, and prints that. Through crate io, over read and write alone: std's printing
+// rests on more of the C library.
 fn list_next(input: &mut [u8], out: &mut [u8])
     requires { 327680 ≤ length out.old }
 {
@@ -18,9 +19,10 @@ fn list_next(input: &mut [u8], out: &mut [u8])
     if input.len() < bytes {
         return;
     }
-    io::read_full(0, &mut input[..bytes]);
-    let end = listing_input::program(image_fields::stretch(input, 0, bytes), out);
-    io::write_all(1, image_fields::stretch(out, 0, end));
+    let image = &mut input[..bytes];
+    io::read_full(0, image);
+    let end = listing_input::program(image, out);
+    io::write_all(1, &out[..end]);
 }
 
 fn list_all(n: u32, input: &mut [u8], out: &mut [u8])

@@ -1,13 +1,17 @@
 -- What it is to write a text into a buffer, and how a line and a number are written piece by piece.
-use Rattle.std.specs.Prelude.{ℕ, zero, suc, ◌+◌, ◌/◌, ◌%◌, ◌≤◌, ◌<◌, List, [], ◌∷◌, ◌++◌, ◌≡◌, refl, Bool, true, false, length, take, get_or, set}
-use Rattle.std.proofs.Common.{append_assoc, append-nil, sym, ap, ◌∙◌, arith, add-one, length-set, length-append, take_all, length-take-le, take-suc, take-suc-set}
+use Rattle.std.specs.Prelude.{ℕ, zero, suc, ◌+◌, ◌-◌, ◌/◌, ◌%◌, ◌≤◌, ◌<◌, List, [], ◌∷◌, ◌++◌, ◌≡◌, refl, Bool, true, false, min, length, take, drop, get_or, set}
+use Rattle.std.proofs.Common.{append_assoc, append-nil, sym, ap, ◌∙◌, arith, add-one, length-set, length-append, take_all, length-take-le, length-drop, take-suc, take-suc-set}
 use Rattle.std.proofs.lemmas.List.{take-append-le}
+use Rattle.std.proofs.Math.Seq.{take-append-add}
+use Rattle.std.proofs.Math.Decide.{dec_le}
+use Rattle.std.proofs.lemmas.Slice.{take-put_mid}
+use borrow.Rule.Slice.PartMut.{put_mid, mid_of, same_len_mid}
 use Rattle.spec_tests.specs.Rules.{pick, ◌<?◌}
 use Rattle.spec_tests.specs.Laws.{lt_yes, lt_no, no_lt, pick_hit, pick_skip}
 use Rattle.spec_rules.specs.Listing.{text, digits, decimal, line}
 
 -- t was written from at on into a buffer that held o and now holds o', cut at its end; r is the next place
-pub record Wrote (o : List ℕ) (at : ℕ) (t : List ℕ) (o' : List ℕ) (r : ℕ) : Type 0 where
+pub record Wrote {A : Type 0} (o : List A) (at : ℕ) (t : List A) (o' : List A) (r : ℕ) : Type 0 where
   pub size : length o' ≡ length o
   pub upto : r ≤ length o'
   pub text : take r o' ≡ take (length o) (take at o ++ t)
@@ -124,6 +128,29 @@ writing_done {o} {at} {t} {o₁} {a} {rest} e p = record {
 
 abbrev pub refusal_text : ℕ → ℕ → ℕ → List ℕ
 refusal_text n a b = text "refused" ++ ((32 ∷ decimal n) ++ ((32 ∷ decimal a) ++ ((32 ∷ decimal b) ++ (10 ∷ []))))
+
+-- a list copied to a place, as much of it as has room
+pub wrote_copy : {A : Type 0} (o list ys : List A) (at n k : ℕ) → at ≤ length o → n ≡ min (length list) (length o - at) → k ≡ n → ys ≡ take n list → Wrote o at list (put_mid at k o ys) (at + n)
+wrote_copy {A} o list ys at n k h en ek ey =
+    let ly : length ys ≡ n = ap length ey ∙ length-take-le n list (omega arith) in
+    let la : length (take at o) ≡ at = length-take-le at o h in
+    let lm : length (mid_of at k o) ≡ k = length-take-le k (drop at o) (let d = length-drop at o in omega arith) in
+    let lo : length (put_mid at k o ys) ≡ length o = same_len_mid at k o ys (omega arith) in
+    let t : take (at + n) (put_mid at k o ys) ≡ take at o ++ ys = take-put_mid at k o ys (at + n) (omega arith) h in
+    let m : length o ≡ length (take at o) + (length o - at) = omega arith in
+    let r : take (length o) (take at o ++ list) ≡ take at o ++ take (length o - at) list =
+    ap (λ (i : ℕ). take i (take at o ++ list)) m ∙ take-append-add (take at o) list (length o - at) in
+    record {
+      size = lo;
+      upto = omega arith;
+      text = t ∙ ap (λ (l : List A). take at o ++ l) (ey ∙ few) ∙ sym r;
+    }
+  where
+    few : take n list ≡ take (length o - at) list
+    few = elim (dec_le (length list) (length o - at)) [
+      | yes l ↦ (let e : n ≡ length list = omega arith in take_all n list (omega arith) ∙ sym (take_all (length o - at) list l))
+      | no l ↦ ap (λ (i : ℕ). take i list) (omega arith)
+    ]
 
 -- a text for which there is room stands there whole
 pub wrote_whole : {o t o' : List ℕ} {r : ℕ} → Wrote o 0 t o' r → length t ≤ length o → take r o' ≡ t

@@ -18,19 +18,17 @@ pub fn put_byte(out: &mut [u8], at: usize, b: u8) -> usize
     }
 }
 
-// A text at a place; the next place.
-pub fn put(out: &mut [u8], at: usize, text: &[u8]) -> usize
+// A list at a place, as much of it as has room; the next place.
+pub fn put<T: Copy>(out: &mut [T], at: usize, list: &[T]) -> usize
     requires { at ≤ length out.old }
-    ensures { Wrote out.old at text.now out.new result }
+    ensures { Wrote out.old at list.now out.new result }
 {
-    let mut to = at;
-    for i in 0..text.len() {
-        to = put_byte(out, to, text[i]);
-    }
-    to
+    let n = list.len().min(out.len() - at);
+    out[at..at + n].copy_from_slice(&list[..n]);
+    at + n
 }
 
-// A number in decimal at a place; the next place.
+// A number in decimal at a place; the next place. Digit by digit: must-fail/digits_reversed.edit is about the last of them.
 pub fn decimal(out: &mut [u8], at: usize, n: u32) -> usize
     requires { at ≤ length out.old }
     ensures { Wrote out.old at (listing.decimal n) out.new result }

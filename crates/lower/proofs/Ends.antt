@@ -1,13 +1,9 @@
 -- The end of the walk in the lent words, and the call's two ways: refused by the checks, or lowered. Assumes nothing.
 use mathlib.Core.Path.{◌≡◌, refl, sym, ap, ◌∙◌}
-use mathlib.Core.Bool.{false}
+use mathlib.Core.Bool.{true, false, true≢false}
 use mathlib.Core.List.{List, [], ◌∷◌, ◌++◌}
-use mathlib.Core.Logic.{⊎_elim}
 use Prim.Native.Nat.{ℕ, ◌+◌, ◌*◌, ◌≤◌}
 use native.Mathlib.Omega.{arith}
-use borrow.Author.Tests.{eqb-false}
-use types.Run.{OneOf}
-use denote.Enum.Declared.{tag_of}
 use lib.ListN.{length, take, drop, replicate}
 use lib.Seq.{length-take-le}
 use Rattle.spec_tests.specs.Rules.{Answer, Fine, Refused, and_then as both}
@@ -22,34 +18,30 @@ use Rattle.spec_call.specs.Call as Call
 use Rattle.spec_call.specs.Call.{outcome, image_of}
 use Rattle.law_call.proofs.Calls.{promise}
 use Rattle.check_image.specs.Accepted.{Accepted, Room, accepted}
-use Rattle.check_image.specs.Checked as checks
-use Rattle.check_image.specs.contracts.Checked.{the_type}
-use Rattle.check_image.specs.declared.Checked.{Checked}
-use Rattle.check_image.specs.declared.Checked.TheVariants as C
+use Rattle.check_image.specs.Checked.{refusal_of}
+use Rattle.check_image.specs.declared.Refusal as Checks
+use Rattle.check_image.specs.declared.Refusal.TheVariants as C
 use Rattle.net_view.specs.View.{room, netlist_of}
 use Rattle.scratch_view.specs.View.{limit_of}
-use Rattle.walk_view.specs.declared.Lowered.{Lowered}
-use Rattle.walk_view.specs.declared.Lowered.TheVariants as L
+use Rattle.std.specs.Prelude.{Ok, Err, is_err}
+use Rattle.walk_view.specs.Refusals.{Lowered}
+use Rattle.walk_view.specs.declared.Refusal.TheVariants as W
 use Rattle.walk_view.specs.View.{walk_state, out_of, Phase}
-use Rattle.walk_view.specs.Answers as answers
 use Rattle.lower_outcome.specs.Answer.{end_of}
 use Rattle.lower.specs.Lower.{kept_of, words_after, Lent, Prepared, Ended}
 use Rattle.lower.proofs.Stages.{limit_kept}
 
 -- ---- the netlist words after an answer ----
 
-pub kept_refused : (r : Lowered) → answers.Refused r → (net : List ℕ) → replicate (length net) 0 ≡ kept_of r net
+pub kept_refused : (r : Lowered) → is_err r ≡ true → (net : List ℕ) → replicate (length net) 0 ≡ kept_of r net
 unfolding kept_of
-kept_refused L.Done f net = absurd f
-kept_refused (L.Undriven p b) f net = refl
-kept_refused (L.Loop p b) f net = refl
-kept_refused (L.Reset p b) f net = refl
-kept_refused L.TooManyNets f net = refl
-kept_refused L.ListFull f net = refl
+kept_refused (Ok u) f net = absurd (true≢false (sym f))
+kept_refused (Err e) f net = refl
 
-pub kept_done : (r : Lowered) → r ≡ L.Done → (net : List ℕ) → net ≡ kept_of r net
+pub kept_done : (r : Lowered) → is_err r ≡ false → (net : List ℕ) → net ≡ kept_of r net
 unfolding kept_of
-kept_done r e net = rw e
+kept_done (Ok u) f net = refl
+kept_done (Err e) f net = absurd (true≢false f)
 
 -- ---- the walk's end ----
 
@@ -61,22 +53,22 @@ module _ (s : List ℕ) (n p : ℕ) where
   -- the words net of a walk whose answer r is the model's
   answer_is : (r : Lowered) (st : State) → lower (decode s) n p ≡ and_then (out_of r st) (λ st. done st.netlist) → end_of r ≡ outcome (lower (decode s) n p)
   unfolding end_of outcome
-  answer_is L.Done st e = rw e
-  answer_is (L.Undriven q b) st e = rw e
-  answer_is (L.Loop q b) st e = rw e
-  answer_is (L.Reset q b) st e = rw e
-  answer_is L.TooManyNets st e = rw e
-  answer_is L.ListFull st e = rw e
+  answer_is (Ok u) st e = rw e
+  answer_is (Err (W.Undriven q b)) st e = rw e
+  answer_is (Err (W.Loop q b)) st e = rw e
+  answer_is (Err (W.Reset q b)) st e = rw e
+  answer_is (Err W.TooManyNets) st e = rw e
+  answer_is (Err W.ListFull) st e = rw e
 
   words_are : (r : Lowered) (st : State) (net : List ℕ) → lower (decode s) n p ≡ and_then (out_of r st) (λ st. done st.netlist) → length net ≡ netlist_need n p
       → net ≡ words n p st.netlist → kept_of r net ≡ words_after n p (lower (decode s) n p)
   unfolding kept_of words_after
-  words_are L.Done st net e l w = rw e w
-  words_are (L.Undriven q b) st net e l w = rw (e, l)
-  words_are (L.Loop q b) st net e l w = rw (e, l)
-  words_are (L.Reset q b) st net e l w = rw (e, l)
-  words_are L.TooManyNets st net e l w = rw (e, l)
-  words_are L.ListFull st net e l w = rw (e, l)
+  words_are (Ok u) st net e l w = rw e w
+  words_are (Err (W.Undriven q b)) st net e l w = rw (e, l)
+  words_are (Err (W.Loop q b)) st net e l w = rw (e, l)
+  words_are (Err (W.Reset q b)) st net e l w = rw (e, l)
+  words_are (Err W.TooManyNets) st net e l w = rw (e, l)
+  words_are (Err W.ListFull) st net e l w = rw (e, l)
 
 -- from the words before the phases, net and w, to those behind them
 pub ended_way : (s : List ℕ) (n p : ℕ) (net w net₁ w₁ net₂ w₂ : List ℕ) (r : Lowered) → 16 + 6 * n + p ≡ length net → length w ≡ scratch_need s n → Prepared s n p net w
@@ -99,19 +91,13 @@ ended_way s n p net w net₁ w₁ net₂ w₂ r sized long q a e z =
 
 -- ---- the call ----
 
--- the `else` of `let Checked::Fine = c else` knows the tag
-pub not_fine : (c : Checked) → OneOf (1 ∷ 2 ∷ 3 ∷ 4 ∷ 5 ∷ []) (tag_of the_type c) → checks.answer_of c ≡ Fine → ⊥
-unfolding checks.answer_of
-not_fine C.Fine k e = ⊎_elim (eqb-false 0 1 refl) (⊎_elim (eqb-false 0 2 refl) (⊎_elim (eqb-false 0 3 refl) (⊎_elim (eqb-false 0 4 refl) (eqb-false 0 5 refl)))) k
-not_fine C.Limits k e = let z : ◌≡◌ {A = ℕ} 0 1 = cc in omega arith
-not_fine C.NetlistShort k e = let z : ◌≡◌ {A = ℕ} 0 1 = cc in omega arith
-not_fine (C.Field f) k e = let z : ◌≡◌ {A = ℕ} 0 1 = cc in omega arith
-not_fine (C.Record i r) k e = let z : ◌≡◌ {A = ℕ} 0 1 = cc in omega arith
-not_fine C.ScratchShort k e = let z : ◌≡◌ {A = ℕ} 0 1 = cc in omega arith
-
-pub passed : {c : Checked} {a : Answer} → checks.answer_of c ≡ a → c ≡ C.Fine → a ≡ Fine
-unfolding checks.answer_of
-passed {c} {a} e f = sym e ∙ rw f
+-- no refusal of the checks is an acceptance
+pub not_fine : (e : Checks.Refusal) → refusal_of e ≡ Fine → ⊥
+not_fine C.Limits q = let z : ◌≡◌ {A = ℕ} 0 1 = cc in omega arith
+not_fine C.NetlistShort q = let z : ◌≡◌ {A = ℕ} 0 1 = cc in omega arith
+not_fine (C.Field f) q = let z : ◌≡◌ {A = ℕ} 0 1 = cc in omega arith
+not_fine (C.Record i r) q = let z : ◌≡◌ {A = ℕ} 0 1 = cc in omega arith
+not_fine C.ScratchShort q = let z : ◌≡◌ {A = ℕ} 0 1 = cc in omega arith
 
 module _ (s : List ℕ) (N P : ℕ) (buffer scratch : List ℕ) where
   -- refused by the checks: no word is touched

@@ -25,8 +25,8 @@ use Rattle.law_phases.proofs.Registers.{registers_walk}
 use Rattle.law_phases.proofs.Registers.{AllBits}
 use Rattle.law_module.proofs.Good.{good}
 use Rattle.scratch_view.specs.View.{limit_of}
-use Rattle.walk_view.specs.declared.Lowered.{Lowered}
-use Rattle.walk_view.specs.declared.Lowered.TheVariants.{Done}
+use Rattle.std.specs.Prelude.{Ok}
+use Rattle.walk_view.specs.Refusals.{Lowered}
 use Rattle.walk_view.specs.View.{walk_state, Sure, Kept, Phase}
 use Rattle.walk_view.specs.Answers.{Refused}
 use Rattle.walk_view.specs.Phases.{phase_then, phase_out}
@@ -38,11 +38,8 @@ pub limit_kept : (s net w net₁ w₁ : List ℕ) → Kept s net w net₁ w₁ �
 limit_kept s net w net₁ w₁ k = sym (get_or-take 64 w₁ 0 0 (omega arith)) ∙ ap (λ (x : List ℕ). get_or x 0 0) k.fixed ∙ get_or-take 64 w 0 0 (omega arith)
 
 -- what the model's outcome meets, the state meets that the words hold
-after : (s net w net₁ w₁ : List ℕ) (o : Out State) (P : State → Type 0) → Meets Any P o → Phase o s net w Done net₁ w₁ → P (walk_state s net₁ w₁)
+after : (s net w net₁ w₁ : List ℕ) (o : Out State) (P : State → Type 0) → Meets Any P o → Phase o s net w (Ok tt) net₁ w₁ → P (walk_state s net₁ w₁)
 after s net w net₁ w₁ o P m a = subst (λ (x : Out State). Meets Any P x) a.says m
-
-pub done_phase : {o : Out State} {s net w net₁ w₁ : List ℕ} (r : Lowered) → r ≡ Done → Phase o s net w r net₁ w₁ → Phase o s net w Done net₁ w₁
-done_phase {o} {s} {net} {w} {net₁} {w₁} r e a = subst (λ (x : Lowered). Phase o s net w x net₁ w₁) e a
 
 -- ---- the four phases, from the start ----
 
@@ -86,7 +83,7 @@ module _ (s net w : List ℕ) (b : Begun s net w) where
       → Phase (lower_state false m (limit_of w) (room (limit_of w) net)) s net w r net₁ w₁
   refused_1 r net₁ w₁ f a = whole r net₁ w₁ (phase_out _ _ s net w net₁ w₁ r f a)
 
-  module _ (net₁ w₁ : List ℕ) (a₁ : Phase (sources m (walk_state s net w)) s net w Done net₁ w₁) where
+  module _ (net₁ w₁ : List ℕ) (a₁ : Phase (sources m (walk_state s net w)) s net w (Ok tt) net₁ w₁) where
     connected_1 : Connected m lim (walk_state s net₁ w₁) 0 (λ j. 0) 0
     connected_1 = connected m lim (walk_state s net₁ w₁) (after s net w net₁ w₁ _ (Reserved m lim) (sources_run m fine lim (walk_state s net w) begun) a₁)
 
@@ -95,9 +92,9 @@ module _ (s net w : List ℕ) (b : Begun s net w) where
 
     pub refused_2 : (r : Lowered) (net₂ w₂ : List ℕ) → Refused r → Phase (memories m (walk_state s net₁ w₁)) s net₁ w₁ r net₂ w₂
         → Phase (lower_state false m (limit_of w) (room (limit_of w) net)) s net w r net₂ w₂
-    refused_2 r net₂ w₂ f a = whole r net₂ w₂ (phase_then _ _ s net w net₁ w₁ Done r net₂ w₂ refl a₁ (phase_out _ _ s net₁ w₁ net₂ w₂ r f a))
+    refused_2 r net₂ w₂ f a = whole r net₂ w₂ (phase_then _ _ s net w net₁ w₁ (Ok tt) r net₂ w₂ refl a₁ (phase_out _ _ s net₁ w₁ net₂ w₂ r f a))
 
-    module _ (net₂ w₂ : List ℕ) (a₂ : Phase (memories m (walk_state s net₁ w₁)) s net₁ w₁ Done net₂ w₂) where
+    module _ (net₂ w₂ : List ℕ) (a₂ : Phase (memories m (walk_state s net₁ w₁)) s net₁ w₁ (Ok tt) net₂ w₂) where
       connected_2 : Connected m lim (walk_state s net₂ w₂) (0 + length m.memories) (λ j. 0) 0
       connected_2 =
           after s net₁ w₁ net₂ w₂ _ (λ st. Connected m lim st (0 + length m.memories) (λ j. 0) 0)
@@ -109,9 +106,9 @@ module _ (s net w : List ℕ) (b : Begun s net w) where
       pub refused_3 : (r : Lowered) (net₃ w₃ : List ℕ) → Refused r → Phase (registers m (walk_state s net₂ w₂)) s net₂ w₂ r net₃ w₃
           → Phase (lower_state false m (limit_of w) (room (limit_of w) net)) s net w r net₃ w₃
       refused_3 r net₃ w₃ f a =
-          whole r net₃ w₃ (phase_then _ _ s net w net₁ w₁ Done r net₃ w₃ refl a₁ (phase_then _ _ s net₁ w₁ net₂ w₂ Done r net₃ w₃ refl a₂ (phase_out _ _ s net₂ w₂ net₃ w₃ r f a)))
+          whole r net₃ w₃ (phase_then _ _ s net w net₁ w₁ (Ok tt) r net₃ w₃ refl a₁ (phase_then _ _ s net₁ w₁ net₂ w₂ (Ok tt) r net₃ w₃ refl a₂ (phase_out _ _ s net₂ w₂ net₃ w₃ r f a)))
 
-      module _ (net₃ w₃ : List ℕ) (a₃ : Phase (registers m (walk_state s net₂ w₂)) s net₂ w₂ Done net₃ w₃) where
+      module _ (net₃ w₃ : List ℕ) (a₃ : Phase (registers m (walk_state s net₂ w₂)) s net₂ w₂ (Ok tt) net₃ w₃) where
         pub sure_3 : Sure s net₃ w₃
         sure_3 =
             (after s net₂ w₂ net₃ w₃ _ (AllBits m fine false lim (0 + length m.memories) 0)
@@ -121,4 +118,4 @@ module _ (s net w : List ℕ) (b : Begun s net w) where
         pub ended : (r : Lowered) (net₄ w₄ : List ℕ) → Phase (outputs m (walk_state s net₃ w₃)) s net₃ w₃ r net₄ w₄
             → Phase (lower_state false m (limit_of w) (room (limit_of w) net)) s net w r net₄ w₄
         ended r net₄ w₄ a =
-            whole r net₄ w₄ (phase_then _ _ s net w net₁ w₁ Done r net₄ w₄ refl a₁ (phase_then _ _ s net₁ w₁ net₂ w₂ Done r net₄ w₄ refl a₂ (phase_then _ _ s net₂ w₂ net₃ w₃ Done r net₄ w₄ refl a₃ a)))
+            whole r net₄ w₄ (phase_then _ _ s net w net₁ w₁ (Ok tt) r net₄ w₄ refl a₁ (phase_then _ _ s net₁ w₁ net₂ w₂ (Ok tt) r net₄ w₄ refl a₂ (phase_then _ _ s net₂ w₂ net₃ w₃ (Ok tt) r net₄ w₄ refl a₃ a)))

@@ -1,5 +1,5 @@
 -- What the steps of the lowering call ask and leave: the words lent to the walk, its start, its end. Assumes nothing.
-use Rattle.std.specs.Prelude.{◌≡◌, List, ℕ, ◌+◌, ◌*◌, ◌≤◌, ◌<◌, length, replicate}
+use Rattle.std.specs.Prelude.{◌≡◌, List, ℕ, ◌+◌, ◌*◌, ◌≤◌, ◌<◌, length, replicate, Ok, Err}
 use Rattle.spec_rules.specs.Image.{decode}
 use Rattle.spec_rules.specs.Checks.{netlist_need, scratch_need}
 use Rattle.spec_model.specs.Words.{Netlist, words}
@@ -10,8 +10,7 @@ use Rattle.check_image.specs.Accepted.{Accepted}
 use Rattle.net_view.specs.View.{room}
 use Rattle.scratch_view.specs.View.{limit_of}
 use Rattle.walk_view.specs.View.{walk_state, Ready}
-use Rattle.walk_view.specs.declared.Lowered.{Lowered}
-use Rattle.walk_view.specs.declared.Lowered.TheVariants as L
+use Rattle.walk_view.specs.Refusals.{Lowered}
 use Rattle.lower_outcome.specs.Answer.{end_of}
 
 -- ---- the walk ----
@@ -37,12 +36,8 @@ pub record Prepared (s : List ℕ) (n p : ℕ) (net w : List ℕ) : Type 0 where
 
 -- the netlist words that an answer of the walk leaves
 unfoldable pub kept_of : Lowered → List ℕ → List ℕ
-kept_of L.Done net = net
-kept_of (L.Undriven p b) net = replicate (length net) 0
-kept_of (L.Loop p b) net = replicate (length net) 0
-kept_of (L.Reset r b) net = replicate (length net) 0
-kept_of L.TooManyNets net = replicate (length net) 0
-kept_of L.ListFull net = replicate (length net) 0
+kept_of (Ok u) net = net
+kept_of (Err e) net = replicate (length net) 0
 
 -- the words of an outcome: the netlist image, or all 0
 unfoldable pub words_after : ℕ → ℕ → Out Netlist → List ℕ

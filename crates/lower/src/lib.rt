@@ -14,9 +14,7 @@ ghost use Rattle.walk_view.specs.View.{Phase};
 ghost use Rattle.lower_outcome.specs.Answer.{answer_of};
 ghost use Rattle.lower.specs.Lower.{kept_of, Lent, Begun, Prepared, Ended};
 
-use check_image::Checked;
-use lower_outcome::Outcome;
-use walk_view::Lowered;
+use lower_outcome::Refusal;
 
 // The start: the scratch laid out, the widths of narrowed adders, an empty netlist.
 fn prepare(image: &[u8], n: u32, net: &mut [u32], scr: &mut [u32])
@@ -30,44 +28,39 @@ fn prepare(image: &[u8], n: u32, net: &mut [u32], scr: &mut [u32])
 }
 
 // The phases in their order, up to the first that refuses.
-fn phases(image: &[u8], net: &mut [u32], scr: &mut [u32]) -> Lowered
+fn phases(image: &[u8], net: &mut [u32], scr: &mut [u32]) -> Result<(), walk_view::Refusal>
     requires { Begun image.now net.old scr.old }
     ensures { Phase (model.lower_state false (decode image.now) (limit_of scr.old) (room (limit_of scr.old) net.old)) image.now net.old scr.old result net.new scr.new }
 {
-    let a = phase_sources::reserve_sources(image, net, scr);
-    let Lowered::Done = a else {
-        return a;
-    };
-    let b = phase_memories::connect_memories(image, net, scr);
-    let Lowered::Done = b else {
-        return b;
-    };
-    let c = phase_registers::connect_registers(image, net, scr);
-    let Lowered::Done = c else {
-        return c;
-    };
+    phase_sources::reserve_sources(image, net, scr)?;
+    phase_memories::connect_memories(image, net, scr)?;
+    phase_registers::connect_registers(image, net, scr)?;
     phase_outputs::connect_outputs(image, net, scr)
 }
 
 // After a refusal the netlist words are 0.
-fn clear_refused(r: Lowered, net: &mut [u32])
+fn clear_refused(r: Result<(), walk_view::Refusal>, net: &mut [u32])
     ensures { net.new ≡ kept_of r net.old }
 {
-    let Lowered::Done = r else {
-        net_nodes::clear(net);
-        return;
-    };
+    if r.is_err() {
+        net.fill(0);
+    }
 }
 
 // The walk over an accepted image, from its start to the clearing.
-fn lower_accepted(image: &[u8], n: u32, net: &mut [u32], scr: &mut [u32]) -> Lowered
+fn lower_accepted(
+    image: &[u8],
+    n: u32,
+    net: &mut [u32],
+    scr: &mut [u32],
+) -> Result<(), walk_view::Refusal>
     requires { Lent image.now n net.old scr.old }
     ensures { Ended image.now n (room n net.old) result net.new scr.new }
 {
     prepare(image, n, net, scr);
     let r = phases(image, net, scr);
     clear_refused(r, net);
-    net_nodes::clear(scr);
+    scr.fill(0);
     r
 }
 
@@ -86,15 +79,18 @@ fn scratch_need(image: &[u8], n: u32) -> usize
 
 // Lowers a module image for net limit n and list limit p. The required words of the two buffers are lent to the walk; a refusal by the
 // checks touches none.
-pub fn lower(image: &[u8], n: u32, p: u32, netlist: &mut [u32], scratch: &mut [u32]) -> Outcome
+pub fn lower(
+    image: &[u8],
+    n: u32,
+    p: u32,
+    netlist: &mut [u32],
+    scratch: &mut [u32],
+) -> Result<(), Refusal>
     ensures { call.Lowered image.now n p netlist.old scratch.old (answer_of result) netlist.new scratch.new }
 {
-    let c = check_image::check(image, n, p, netlist.len(), scratch.len());
-    let Checked::Fine = c else {
-        return lower_outcome::of_check(c);
-    };
+    check_image::check(image, n, p, netlist.len(), scratch.len())?;
     let words = 16 + 6 * (n as usize) + (p as usize);
     let need = scratch_need(image, n);
-    let r = lower_accepted(image, n, &mut netlist[..words], &mut scratch[..need]);
-    lower_outcome::of_walk(r)
+    lower_accepted(image, n, &mut netlist[..words], &mut scratch[..need])?;
+    Ok(())
 }

@@ -1,28 +1,37 @@
--- A call's answer by its number and places (docs/RULES.md): of the enum `Outcome`, and of what the walk answers. Assumes nothing.
+-- A call's answer by its number and places (docs/RULES.md): of the call's refusals, and of what the walk answers. Assumes nothing.
+use Rattle.std.specs.Prelude.{Result, Ok, Err}
 use Rattle.spec_tests.specs.Rules.{Answer, Fine, Refused}
-use Rattle.walk_view.specs.declared.Lowered.{Lowered}
-use Rattle.walk_view.specs.declared.Lowered.TheVariants as L
-use Rattle.lower_outcome.specs.declared.Outcome.{Outcome}
-use Rattle.lower_outcome.specs.declared.Outcome.TheVariants as O
+use Rattle.walk_view.specs.Refusals.{Lowered}
+use Rattle.walk_view.specs.declared.Refusal as W
+use Rattle.walk_view.specs.declared.Refusal.TheVariants as V
+use Rattle.lower_outcome.specs.declared.Refusal.{Refusal}
+use Rattle.lower_outcome.specs.declared.Refusal.TheVariants.{Limits, NetlistShort, Field, Record, ScratchShort, Undriven, Loop, Reset, TooManyNets, ListFull}
 
-unfoldable pub answer_of : Outcome → Answer
-answer_of O.Fine = Fine
-answer_of O.Limits = Refused 1 0 0
-answer_of O.NetlistShort = Refused 2 0 0
-answer_of (O.Field f) = Refused 3 f 0
-answer_of (O.Record k r) = Refused 4 k r
-answer_of O.ScratchShort = Refused 5 0 0
-answer_of (O.Undriven p b) = Refused 6 p b
-answer_of (O.Loop p b) = Refused 7 p b
-answer_of (O.Reset r b) = Refused 8 r b
-answer_of O.TooManyNets = Refused 9 0 0
-answer_of O.ListFull = Refused 10 0 0
+-- a refusal
+abbrev pub refusal_of : Refusal → Answer
+refusal_of Limits = Refused 1 0 0
+refusal_of NetlistShort = Refused 2 0 0
+refusal_of (Field f) = Refused 3 f 0
+refusal_of (Record k r) = Refused 4 k r
+refusal_of ScratchShort = Refused 5 0 0
+refusal_of (Undriven p b) = Refused 6 p b
+refusal_of (Loop p b) = Refused 7 p b
+refusal_of (Reset r b) = Refused 8 r b
+refusal_of TooManyNets = Refused 9 0 0
+refusal_of ListFull = Refused 10 0 0
 
--- the walk's answer
-unfoldable pub end_of : Lowered → Answer
-end_of L.Done = Fine
-end_of (L.Undriven p b) = Refused 6 p b
-end_of (L.Loop p b) = Refused 7 p b
-end_of (L.Reset r b) = Refused 8 r b
-end_of L.TooManyNets = Refused 9 0 0
-end_of L.ListFull = Refused 10 0 0
+abbrev pub answer_of : Result (Unit {0}) Refusal → Answer
+answer_of (Ok u) = Fine
+answer_of (Err e) = refusal_of e
+
+-- the walk's refusal, and its answer
+abbrev pub walk_refusal_of : W.Refusal → Answer
+walk_refusal_of (V.Undriven p b) = Refused 6 p b
+walk_refusal_of (V.Loop p b) = Refused 7 p b
+walk_refusal_of (V.Reset r b) = Refused 8 r b
+walk_refusal_of V.TooManyNets = Refused 9 0 0
+walk_refusal_of V.ListFull = Refused 10 0 0
+
+abbrev pub end_of : Lowered → Answer
+end_of (Ok u) = Fine
+end_of (Err e) = walk_refusal_of e

@@ -1,18 +1,20 @@
 -- The loops over a key, and the words of a cell's place. Assumes nothing.
-use mathlib.Core.Path.{◌≡◌, refl, sym, ap, ap₂, ◌∙◌}
-use mathlib.Core.Bool.{true, false}
+use mathlib.Core.Path.{◌≡◌, refl, sym, ap, ◌∙◌}
+use mathlib.Core.Bool.{Bool, true, false, ◌&&◌}
 use mathlib.Core.List.{List, [], ◌∷◌}
-use Prim.Native.Nat.{ℕ, zero, suc, ◌+◌, ◌*◌, ◌-◌, ◌≤◌, ◌<◌}
+use Prim.Native.Nat.{ℕ, zero, suc, ◌+◌, ◌*◌, ◌≤◌, ◌<◌}
 use native.Mathlib.Omega.{arith}
 use native.Mathlib.Numerals.{add-one}
 use native.Mathlib.Nat.{add-zero}
-use lib.ListN.{length, get_or, set, drop, drop_of_length-le}
+use lib.ListN.{length, get_or, set, take, drop, drop_of_length-le}
 use lib.Seq.{drop-cons, drop-set-add, get_or-drop, get_or-set_other}
+use lib.Dec.{eqb}
+use lib.Pointwise.{pointwise}
+use Rattle.std.specs.List.{starts_with}
 use borrow.Author.Tests.{eq-eqb, ne_eqb}
 use Rattle.spec_model.specs.Words.{absent}
 use Rattle.spec_model.specs.WordCells.{begins}
 use Rattle.net_index.specs.Index.{mixed, hash_words, key_length, first_output}
-use Rattle.net_index.specs.CellLaws.{begins_hit, begins_miss}
 use Rattle.net_cell_index.specs.Found.{Links}
 
 -- ---- the hash ----
@@ -33,32 +35,15 @@ hash_end key h i l e = sym (e ∙ ap (hash_words h) (drop_of_length-le key l))
 
 -- ---- the comparison ----
 
-abbrev pub Left : List ℕ → ℕ → List ℕ → ℕ → Type 0
-Left w at key i = begins key (drop at w) ≡ begins (drop i key) (drop (at + i) w)
-
-module _ (w : List ℕ) (at : ℕ) (key : List ℕ) (i : ℕ) (e : Left w at key i) (h : at ≤ length w) (l : i < length key) where
-  pub left_past : length w - at ≤ i → begins key (drop at w) ≡ false
-  unfolding begins
-  left_past q = e ∙ ap₂ begins (drop-cons key i 0 l) (drop_of_length-le w {i = at + i} (omega arith))
-
-  opened : at + i < length w → begins key (drop at w) ≡ begins (get_or key i 0 ∷ drop (suc i) key) (get_or w (at + i) 0 ∷ drop (suc (at + i)) w)
-  opened q = e ∙ ap₂ begins (drop-cons key i 0 l) (drop-cons w (at + i) 0 q)
-
-  pub left_miss : at + i < length w → (get_or key i 0 ≡ get_or w (at + i) 0 → ⊥) → begins key (drop at w) ≡ false
-  left_miss q d = opened q ∙ begins_miss (get_or key i 0) (get_or w (at + i) 0) (drop (suc i) key) (drop (suc (at + i)) w) d
-
-  pub left_turn : at + i < length w → get_or key i 0 ≡ get_or w (at + i) 0 → Left w at key (i + 1)
-  left_turn q d =
-      let a : suc i ≡ i + 1 = omega arith in
-      let b : suc (at + i) ≡ at + (i + 1) = omega arith in
-      opened q ∙ begins_hit (get_or key i 0) (get_or w (at + i) 0) (drop (suc i) key) (drop (suc (at + i)) w) d ∙ λ j. begins (drop (a j) key) (drop (b j) w)
-
-pub left_start : (w : List ℕ) (at : ℕ) (key : List ℕ) → Left w at key 0
-left_start w at key = ap (λ (j : ℕ). begins key (drop j w)) (sym (add-zero at))
-
-pub left_end : (w : List ℕ) (at : ℕ) (key : List ℕ) (i : ℕ) → Left w at key i → length key ≤ i → begins key (drop at w) ≡ true
+pub begins_law : (key w : List ℕ) → starts_with eqb w key ≡ begins key w
 unfolding begins
-left_end w at key i e h = e ∙ ap (λ (k : List ℕ). begins k (drop (at + i) w)) (drop_of_length-le key h)
+begins_law [] w = refl
+begins_law (x ∷ key) [] = refl
+begins_law (x ∷ key) (y ∷ w) = go (eqb x y) (begins_law key w)
+  where
+    go : (t : Bool) → pointwise eqb key (take (length key) w) ≡ begins key w → t && pointwise eqb key (take (length key) w) ≡ elim t [ true ↦ begins key w | false ↦ false ]
+    go true e = e
+    go false e = refl
 
 -- ---- a cell's words ----
 

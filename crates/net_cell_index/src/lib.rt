@@ -8,20 +8,13 @@ ghost use Rattle.net_cell_index.specs.Found.{Finds, Links};
 
 use image_numbers::*;
 
-// The place of a cell's outputs.
-#[derive(Clone, Copy)]
-pub enum Found {
-    At(usize),
-    Nothing,
-}
-
 pub fn hash_key(key: &[u32], n: u32) -> u32
     requires { 0 < n }
     ensures { (result ≡ hash_key n key.now) × (result < n) }
 {
     let mut h: u32 = 0;
-    for i in 0..key.len() {
-        h = net_gate_index::mix(h, key[i]);
+    for x in key {
+        h = net_gate_index::mix(h, *x);
     }
     net_gate_index::bucket(n, h)
 }
@@ -31,15 +24,7 @@ fn begins_with(net: &[u32], at: usize, key: &[u32]) -> bool
     requires { at ≤ length net.now }
     ensures { result ≡ begins key.now (drop at net.now) }
 {
-    for i in 0..key.len() {
-        if net.len() - at <= i {
-            return false;
-        }
-        if key[i] != net[at + i] {
-            return false;
-        }
-    }
-    true
+    net[at..].starts_with(key)
 }
 
 // How many words the key of the cell at a place has.
@@ -65,8 +50,8 @@ fn next_cell(net: &[u32], idx: &[u32], n: u32, at: usize) -> u32
     idx[3 * (n as usize) + o]
 }
 
-// The cell with a key, whose hash is h.
-pub fn find_cell(net: &[u32], idx: &[u32], n: u32, h: u32, key: &[u32]) -> Found
+// The place of the outputs of the cell with a key, whose hash is h.
+pub fn find_cell(net: &[u32], idx: &[u32], n: u32, h: u32, key: &[u32]) -> Option<usize>
     requires { (Held n net.now idx.now) × (Key key.now) × (h ≡ hash_key n key.now) × (h < n) }
     ensures { Finds n key.now net.now result }
 {
@@ -75,11 +60,11 @@ pub fn find_cell(net: &[u32], idx: &[u32], n: u32, h: u32, key: &[u32]) -> Found
     while 0 < p {
         let at = list + (p as usize - 1);
         if begins_with(net, at, key) {
-            return Found::At(at + key.len());
+            return Some(at + key.len());
         }
         p = next_cell(net, idx, n, at);
     }
-    Found::Nothing
+    None
 }
 
 // The cell at list position p, with the first output o, becomes the newest of bucket h.

@@ -1,14 +1,15 @@
 -- An arithmetic cell's key, and the ways to its outputs. Assumes nothing.
 use mathlib.Core.Path.{◌≡◌, refl, sym, ap, ◌∙◌}
-use mathlib.Core.Bool.{Bool, true, false, cond}
-use mathlib.Core.List.{List, [], ◌∷◌, ◌++◌}
+use mathlib.Core.Bool.{Bool}
+use mathlib.Core.List.{List, [], ◌∷◌, ◌++◌, append-nil}
 use mathlib.Core.Option.{Option, none, some}
-use Prim.Native.Nat.{ℕ, ◌+◌, ◌*◌, ◌-◌, ◌≤◌, ◌<◌}
+use Prim.Native.Nat.{ℕ, ◌+◌, ◌*◌, ◌≤◌, ◌<◌}
 use native.Mathlib.Omega.{arith}
-use lib.ListN.{length, get_or, set, take, drop, replicate, length-append, length-set, length-drop, length-replicate}
-use lib.Seq.{sets, sets-eq, length-sets, length-take-le, take_at}
-use lib.Dec.{eqb}
-use borrow.Author.Tests.{eqb-true}
+use lib.ListN.{length, get_or, set, take, drop, drop_of_length-le, length-append, length-set}
+use lib.Seq.{sets, sets-eq, length-sets}
+use Rattle.std.specs.Prelude.{Option as CodeOption, Some, None}
+use Rattle.std.specs.Option.{unwrap_or}
+use Rattle.spec_tests.specs.Options.{option_of}
 use Rattle.spec_model.specs.Words.{absent, Netlist, source, option_word, arithmetic_key, count}
 use Rattle.spec_model.specs.Builder as B
 use Rattle.spec_model.specs.Builder.{refused, done, Made, or_made, from, each, add_constant, add_nodes, add_recorded, push, arithmetic_word, add_arithmetic, fold_constant_arithmetic}
@@ -19,15 +20,13 @@ use Rattle.net_view.specs.View.{netlist_of}
 use Rattle.net_view.specs.Formed.{formed_arithmetic}
 use Rattle.net_index.specs.Index.{is_gate, is_cell, key_length, Held}
 use Rattle.net_index.specs.CellSearch.{outputs, Outputs}
-use Rattle.net_nodes.specs.declared.Added.{Added}
-use Rattle.net_nodes.specs.declared.Added.TheVariants.{Net, TooManyNets, ListFull}
-use Rattle.net_ports.proofs.Laws.{Refusal, nodes_ran}
-use Rattle.net_fold.specs.Values.{carry_of, Fills, refusal_of}
-use Rattle.net_fold.specs.declared.Filled.{Filled}
-use Rattle.net_fold.specs.declared.Filled.TheVariants as F
+use Rattle.net_nodes.specs.declared.Full.{Full}
+use Rattle.net_nodes.specs.declared.Full.TheVariants.{Nets, List as ListFull}
+use Rattle.std.specs.Prelude.{Result, Ok, Err}
+use Rattle.net_ports.proofs.Laws.{nodes_ran}
+use Rattle.net_fold.specs.Values.{Fills}
 use Rattle.net_cells.specs.Cells.{CellKey, GivesRun}
 use Rattle.net_cells.proofs.Laws.{take_sets}
-use Rattle.net_fold.proofs.Laws.{sets_all}
 
 -- ---- the key ----
 
@@ -38,24 +37,20 @@ front_four (a ∷ c ∷ []) x y z u h = absurd (omega arith)
 front_four (a ∷ c ∷ d ∷ []) x y z u h = absurd (omega arith)
 front_four (a ∷ c ∷ d ∷ e ∷ b) x y z u h = refl
 
-carry_word : (c : ℕ) → c ≡ option_word (carry_of c)
-carry_word c = go (eqb c absent) refl
-  where
-    go : (t : Bool) → eqb c absent ≡ t → c ≡ option_word (cond t none (some c))
-    go true e = eqb-true c absent e
-    go false e = refl
+pub carry_word : (c : CodeOption ℕ) → unwrap_or c absent ≡ option_word (option_of c)
+carry_word (Some n) = refl
+carry_word None = refl
 
-pub arithmetic_put : (b : List ℕ) (op carry : ℕ) (lhs rhs : List ℕ) → length rhs ≡ length lhs → 4 + 2 * length lhs ≤ length b
-    → take (4 + 2 * length lhs) (sets (sets (set (set (set (set b 0 3) 1 op) 2 (length lhs)) 3 carry) 4 lhs) (4 + length lhs) rhs) ≡ arithmetic_key op lhs rhs (carry_of carry)
+pub arithmetic_put : (b : List ℕ) (op : ℕ) (carry : Option ℕ) (lhs rhs : List ℕ) → length rhs ≡ length lhs → 4 + 2 * length lhs ≤ length b
+    → take (4 + 2 * length lhs) (sets (sets (set (set (set (set b 0 3) 1 op) 2 (length lhs)) 3 (option_word carry)) 4 lhs) (4 + length lhs) rhs) ≡ arithmetic_key op lhs rhs carry
 arithmetic_put b op carry lhs rhs e h =
-    let b₀ = set (set (set (set b 0 3) 1 op) 2 (length lhs)) 3 carry in
+    let b₀ = set (set (set (set b 0 3) 1 op) 2 (length lhs)) 3 (option_word carry) in
     let l₀ : length b₀ ≡ length b = simp length-set in
     let l₁ : length (sets b₀ 4 lhs) ≡ length b = length-sets b₀ 4 lhs ∙ l₀ in
     let k : 4 + 2 * length lhs ≡ 4 + length lhs + length rhs = omega arith in
     ap (λ (j : ℕ). take j (sets (sets b₀ 4 lhs) (4 + length lhs) rhs)) k
     ∙ take_sets (sets b₀ 4 lhs) rhs (4 + length lhs) (omega arith)
-    ∙ ap (λ (t : List ℕ). t ++ rhs) (take_sets b₀ lhs 4 (omega arith) ∙ ap (λ (t : List ℕ). t ++ lhs) (front_four b 3 op (length lhs) carry (omega arith)))
-    ∙ ap (λ (c : ℕ). 3 ∷ op ∷ length lhs ∷ c ∷ (lhs ++ rhs)) (carry_word carry)
+    ∙ ap (λ (t : List ℕ). t ++ rhs) (take_sets b₀ lhs 4 (omega arith) ∙ ap (λ (t : List ℕ). t ++ lhs) (front_four b 3 op (length lhs) (option_word carry) (omega arith)))
 
 pub arithmetic_key_law : (op : ℕ) (lhs rhs : List ℕ) (carry : Option ℕ) → length rhs ≡ length lhs → 0 < length lhs → length lhs ≤ 1024 → CellKey 10 (length lhs) (arithmetic_key op lhs rhs carry)
 unfolding is_cell key_length outputs is_gate
@@ -72,13 +67,17 @@ arithmetic_key_law op lhs rhs carry e h g =
 
 -- ---- outputs in a buffer ----
 
-pub fills_out : (m : Made (List ℕ)) (n b : ℕ) (x : Added) (r : Filled) (w idx out : List ℕ) → Refusal x → r ≡ refusal_of x → GivesRun m n b x w idx → Fills m n r out w idx
-fills_out m n b (Net k) r w idx out q e g = absurd q
-fills_out m n b TooManyNets r w idx out q e g = rw e (record { says = g.says; held = g.held })
-fills_out m n b ListFull r w idx out q e g = rw e (record { says = g.says; held = g.held })
+pub fills_out : (m : Made (List ℕ)) (n b : ℕ) (e : Full) (w idx out : List ℕ) → GivesRun m n b (Err e) w idx → Fills m n (Err e) out w idx
+fills_out m n b Nets w idx out g = record { says = g.says; held = g.held }
+fills_out m n b ListFull w idx out g = record { says = g.says; held = g.held }
 
-pub fills_run : (m : Made (List ℕ)) (n b first : ℕ) (w idx out : List ℕ) → out ≡ from first b → GivesRun m n b (Net first) w idx → Fills m n F.Done out w idx
+pub fills_run : (m : Made (List ℕ)) (n b first : ℕ) (w idx out : List ℕ) → out ≡ from first b → GivesRun m n b (Ok first) w idx → Fills m n (Ok tt) out w idx
 fills_run m n b first w idx out e g = record { says = g.says ∙ (λ i. done (sym e i, netlist_of n w)); held = g.held }
+
+-- a whole list stored over one of its length
+pub sets_all : (x vs : List ℕ) → length x ≡ length vs → sets x 0 vs ≡ vs
+sets_all x vs e =
+    sets-eq vs x 0 (omega arith) ∙ ap (λ (t : List ℕ). vs ++ t) (drop_of_length-le x {i = 0 + length vs} (omega arith)) ∙ append-nil vs
 
 -- the first output is the next net
 recorded_made : (key : List ℕ) (made : Made (List ℕ)) (ns : List ℕ) (l : Netlist) → add_recorded key made ≡ done (ns, l) → (l₁ : Netlist) × (made ≡ done (ns, l₁))
@@ -105,14 +104,14 @@ first_few n kind owner b first key w w' idx d h e =
 
 module _ (op : B.ArithmeticOp) (lhs rhs : List ℕ) (carry : Option ℕ) (n : ℕ) (w idx : List ℕ) where
   pub shared : (p : ℕ) (out : List ℕ) → Held n w idx → Outputs n (arithmetic_key (arithmetic_word op) lhs rhs carry) w p → out ≡ take (length lhs) (drop p w)
-      → Fills (W.arithmetic op lhs rhs carry (netlist_of n w)) n F.Done out w idx
+      → Fills (W.arithmetic op lhs rhs carry (netlist_of n w)) n (Ok tt) out w idx
   unfolding W.arithmetic outputs
   shared p out d o e = record {
     says = ap (λ (x : Option (List ℕ)). or_made x (netlist_of n w) (add_arithmetic op lhs rhs carry (netlist_of n w))) o.says ∙ (λ i. done (sym e i, netlist_of n w));
     held = d;
   }
 
-  module _ (new : find_cell (arithmetic_key (arithmetic_word op) lhs rhs carry) (netlist_of n w).records ≡ none) (w' idx' out : List ℕ) (r : Filled) where
+  module _ (new : find_cell (arithmetic_key (arithmetic_word op) lhs rhs carry) (netlist_of n w).records ≡ none) (w' idx' out : List ℕ) (r : Result (Unit {0}) Full) where
     pub folds : (vs : List Bool) → fold_constant_arithmetic op lhs rhs carry (netlist_of n w) ≡ some vs → Fills (each add_constant vs (netlist_of n w)) n r out w' idx'
         → Fills (W.arithmetic op lhs rhs carry (netlist_of n w)) n r out w' idx'
     unfolding W.arithmetic add_arithmetic
@@ -123,15 +122,3 @@ module _ (op : B.ArithmeticOp) (lhs rhs : List ℕ) (carry : Option ℕ) (n : �
         → Fills (W.arithmetic op lhs rhs carry (netlist_of n w)) n r out w' idx'
     unfolding W.arithmetic add_arithmetic
     makes f g = record { says = rw (new, f) g.says; held = g.held }
-
-pub copied : (net out : List ℕ) (p : ℕ) → p + length out ≤ length net → sets out 0 (take (p + length out - p) (drop p net)) ≡ take (length out) (drop p net)
-copied net out p h =
-    let j : p + length out - p ≡ length out = omega arith in
-    let len : length (take (length out) (drop p net)) ≡ length out = length-take-le (length out) (drop p net) (rw length-drop (omega arith)) in
-    ap (λ (i : ℕ). sets out 0 (take i (drop p net))) j ∙ sets_all out (take (length out) (drop p net)) (sym len)
-
--- a copy at the front of an array
-pub front : (m : ℕ) (xs : List ℕ) → length xs ≤ m → take (length xs) (sets (replicate m 0) 0 xs) ≡ xs
-front m xs h =
-    let old : List ℕ = replicate m 0 in
-    ap (take (length xs)) (sets-eq xs old 0 (omega (arith, length-replicate {A = ℕ} m 0))) ∙ take_at xs (drop (0 + length xs) old) (length xs) refl

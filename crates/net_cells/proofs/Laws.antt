@@ -1,11 +1,11 @@
 -- A new cell: its record in the buffer, the netlist's invariant after it. Assumes nothing.
 use mathlib.Core.Path.{◌≡◌, refl, sym, ap, subst, ◌∙◌}
 use mathlib.Core.Bool.{true}
-use mathlib.Core.List.{List, [], ◌∷◌, ◌++◌}
-use mathlib.Core.Option.{Option, none, some}
-use Prim.Native.Nat.{ℕ, ◌+◌, ◌*◌, ◌≤◌, ◌<◌}
+use mathlib.Core.List.{List, [], ◌∷◌, ◌++◌, append-nil}
+use mathlib.Core.Option.{Option, none}
+use Prim.Native.Nat.{ℕ, ◌+◌, ◌-◌, ◌*◌, ◌≤◌, ◌<◌}
 use native.Mathlib.Omega.{arith}
-use lib.ListN.{length, get_or, set, take, drop, length-append, length-drop, length-set}
+use lib.ListN.{length, get_or, set, take, drop, length-append, length-drop, length-set, drop_of_length-le}
 use lib.Seq.{sets, sets-eq, take_at, get_or-append-add, length-take-le, length-sets, drop-cons}
 use Rattle.spec_model.specs.Words.{Node, Netlist, used, comparison_key}
 use Rattle.spec_model.specs.Builder.{done, Made, or_made, from, add_recorded}
@@ -17,12 +17,13 @@ use Rattle.net_index.specs.Index.{is_gate, is_cell, key_length, key_of, first_ou
 use Rattle.net_index.specs.CellLaws.{begins_self, key_cell, key_length_law, key_is, Fresh, cells_push, cell_linked}
 use Rattle.net_view.specs.Formed.{formed_comparison}
 use Rattle.net_index.specs.CellSearch.{outputs, Outputs}
-use Rattle.net_nodes.specs.declared.Added.{Added}
-use Rattle.net_nodes.specs.declared.Added.TheVariants.{Net, ListFull}
+use Rattle.net_nodes.specs.declared.Full.{Full}
+use Rattle.net_nodes.specs.declared.Full.TheVariants as F
+use Rattle.std.specs.Prelude.{Result, Ok, Err}
 use Rattle.net_records.specs.Pushes.{Pushes}
-use Rattle.net_records.specs.declared.Pushed.TheVariants as P
+use Rattle.net_records.specs.declared.ListFull.{ListFull}
 use Rattle.net_ports.specs.Runs.{Runs}
-use Rattle.net_ports.proofs.Laws.{Refusal, Ran, refused_run, pushed_run}
+use Rattle.net_ports.proofs.Laws.{Ran, refused_run, pushed_run}
 use Rattle.net_cell_index.specs.Found.{Links}
 use Rattle.net_cells.specs.Cells.{CellRoom, GivesRun, CellKey}
 
@@ -37,14 +38,17 @@ indexed_same m ns idx idx' e h ix = record { heads = λ j l. e j (omega arith) �
 
 -- ---- the record ----
 
-pub buffer_record : (buffer : List ℕ) (k first b : ℕ) → k + b ≤ length buffer → take (k + b) (sets buffer k (from first b)) ≡ take k buffer ++ from first b
-buffer_record buffer k first b h =
+-- a record whose outputs are stored
+pub record_whole : (cell : List ℕ) (first b : ℕ) → b ≤ length cell
+    → sets cell (length cell - b) (from first b) ≡ take (length cell - b) cell ++ from first b
+record_whole cell first b h =
     let len : length (from first b) ≡ b = length_from first b in
-    let tk : length (take k buffer) ≡ k = length-take-le k buffer (omega arith) in
-    ap (take (k + b)) (sets-eq (from first b) buffer k (rw len h))
-    ∙ take_at (take k buffer ++ from first b) (drop (k + length (from first b)) buffer) (k + b) (length-append (take k buffer) (from first b) ∙ omega arith)
+    let k = length cell - b in
+    sets-eq (from first b) cell k (omega arith)
+    ∙ ap (λ (t : List ℕ). take k cell ++ from first b ++ t) (drop_of_length-le cell {i = k + length (from first b)} (omega arith))
+    ∙ append-nil (take k cell ++ from first b)
 
-module _ (n h kind b : ℕ) (key w idx buffer : List ℕ) (r : CellRoom n h kind b key w idx buffer) (first : ℕ) where
+module _ (n h kind b : ℕ) (key w idx : List ℕ) (r : CellRoom n h kind b key w idx) (first : ℕ) where
   starts : begins key (key ++ from first b) ≡ true
   starts = begins_self key (from first b)
 
@@ -63,7 +67,7 @@ module _ (n h kind b : ℕ) (key w idx buffer : List ℕ) (r : CellRoom n h kind
         new = rw (key_is key c r.whole starts) f;
       }
 
-  module _ (w₁ : List ℕ) (made : Made (List ℕ)) (run : Runs made n b (Net first) w w₁) (ran : Ran b (netlist_of n w) (from first b) (netlist_of n w₁)) where
+  module _ (w₁ : List ℕ) (made : Made (List ℕ)) (run : Runs made n b (Ok first) w w₁) (ran : Ran b (netlist_of n w) (from first b) (netlist_of n w₁)) where
     first_is : first ≡ length (netlist_of n w).nodes
     first_is =
         let f = ap (λ (t : List ℕ). get_or t 0 0) ran.nets in
@@ -95,22 +99,22 @@ module _ (n h kind b : ℕ) (key w idx buffer : List ℕ) (r : CellRoom n h kind
               (subst (λ (t : List ℕ). CellsIndexed n k (l₁.records ++ (c ∷ [])) t) words pushed);
         }
 
-    pub cell_made : (w₂ idx₂ : List ℕ) → Pushes (key ++ from first b) n P.Done w₁ w₂ → Links n first h (used (netlist_of n w₁).records) idx idx₂ → length idx₂ ≡ length idx
-        → GivesRun (add_recorded key made) n b (Net first) w₂ idx₂
+    pub cell_made : (w₂ idx₂ : List ℕ) → Pushes (key ++ from first b) n (Ok tt) w₁ w₂ → Links n first h (used (netlist_of n w₁).records) idx idx₂ → length idx₂ ≡ length idx
+        → GivesRun (add_recorded key made) n b (Ok first) w₂ idx₂
     cell_made w₂ idx₂ p lk len = record {
-      says = ap (add_recorded key) run.says ∙ pushed_run key first b P.Done (netlist_of n w₁) (netlist_of n w₂) p.says;
+      says = ap (add_recorded key) run.says ∙ pushed_run key first b (Ok tt) (netlist_of n w₁) (netlist_of n w₂) p.says;
       held = held_cell w₂ idx₂ (p.view refl) p.built lk len;
     }
 
-    pub cell_full : (w₂ : List ℕ) → Pushes (key ++ from first b) n P.ListFull w₁ w₂ → GivesRun (add_recorded key made) n b ListFull w₂ idx
-    cell_full w₂ p = record {
-      says = ap (add_recorded key) run.says ∙ pushed_run key first b P.ListFull (netlist_of n w₁) (netlist_of n w₂) p.says;
+    pub cell_full : (e : ListFull) (w₂ : List ℕ) → Pushes (key ++ from first b) n (Err e) w₁ w₂ → GivesRun (add_recorded key made) n b (Err F.List) w₂ idx
+    cell_full e w₂ p = record {
+      says = ap (add_recorded key) run.says ∙ pushed_run key first b (Err e) (netlist_of n w₁) (netlist_of n w₂) p.says;
       held = subst (λ (u : List ℕ). Held n u idx) (sym (p.kept refl)) (run.held idx r.held);
     }
 
-pub cell_refused : (n b : ℕ) (key w idx w₁ : List ℕ) (made : Made (List ℕ)) (x : Added) → Refusal x → Held n w idx → Runs made n b x w w₁ → GivesRun (add_recorded key made) n b x w₁ idx
-cell_refused n b key w idx w₁ made x q d g = record {
-  says = ap (add_recorded key) g.says ∙ refused_run key x q b (netlist_of n w₁);
+pub cell_refused : (n b : ℕ) (key w idx w₁ : List ℕ) (made : Made (List ℕ)) (e : Full) → Held n w idx → Runs made n b (Err e) w w₁ → GivesRun (add_recorded key made) n b (Err e) w₁ idx
+cell_refused n b key w idx w₁ made e d g = record {
+  says = ap (add_recorded key) g.says ∙ refused_run key e b (netlist_of n w₁);
   held = g.held idx d;
 }
 
@@ -154,25 +158,21 @@ comparison_key_law op lhs rhs e h =
 
 -- ---- shared, or made ----
 
-pub ready : (n h kind b : ℕ) (w idx buffer : List ℕ) (k : ℕ) → Held n w idx → CellKey kind b (take k buffer) → h ≡ hash_key n (take k buffer) → h < n
-    → find_cell (take k buffer) (netlist_of n w).records ≡ none → k + b ≤ length buffer → CellRoom n h kind b (take k buffer) w idx buffer
-ready n h kind b w idx buffer k d c e l f room =
-    let kl : length (take k buffer) ≡ k = length-take-le k buffer (omega arith) in
-    record {
-      held = d;
-      whole = c.whole;
-      hash = e;
-      less = l;
-      new = f;
-      node = c.node;
-      some = c.some;
-      few = c.few;
-      front = ap (λ (j : ℕ). take j buffer) kl;
-      room = omega arith;
-      formed = c.formed;
-    }
+pub ready : (n h kind b : ℕ) (key w idx : List ℕ) → Held n w idx → CellKey kind b key → h ≡ hash_key n key → h < n
+    → find_cell key (netlist_of n w).records ≡ none → CellRoom n h kind b key w idx
+ready n h kind b key w idx d c e l f = record {
+  held = d;
+  whole = c.whole;
+  hash = e;
+  less = l;
+  new = f;
+  node = c.node;
+  some = c.some;
+  few = c.few;
+  formed = c.formed;
+}
 
-pub made_new : (m : Made (List ℕ)) (n b : ℕ) (key w idx : List ℕ) (l : Netlist) (r : Added) → find_cell key l.records ≡ none → GivesRun m n b r w idx
+pub made_new : (m : Made (List ℕ)) (n b : ℕ) (key w idx : List ℕ) (l : Netlist) (r : Result ℕ Full) → find_cell key l.records ≡ none → GivesRun m n b r w idx
     → GivesRun (or_made (find_cell key l.records) l m) n b r w idx
 made_new m n b key w idx l r e g = record { says = ap (λ (o : Option (List ℕ)). or_made o l m) e ∙ g.says; held = g.held }
 
@@ -181,7 +181,7 @@ unfolding from
 one_word w p h = ap (take 1) (drop-cons w p 0 (omega arith))
 
 pub made_shared : (m : Made (List ℕ)) (n : ℕ) (key w idx : List ℕ) (p : ℕ) → Held n w idx → outputs key ≡ 1 → Outputs n key w p
-    → GivesRun (or_made (find_cell key (netlist_of n w).records) (netlist_of n w) m) n 1 (Net (get_or w p 0)) w idx
+    → GivesRun (or_made (find_cell key (netlist_of n w).records) (netlist_of n w) m) n 1 (Ok (get_or w p 0)) w idx
 made_shared m n key w idx p d e o = record {
   says = ap (λ (x : Option (List ℕ)). or_made x (netlist_of n w) m) o.says
       ∙ ap (λ (t : List ℕ). done (t, netlist_of n w)) (ap (λ (j : ℕ). take j (drop p w)) e ∙ one_word w p (omega (arith, o.within)));

@@ -11,17 +11,17 @@ use Rattle.spec_model.specs.Builder.{done, Made, node_for_net, constant_value, i
 use Rattle.net_view.specs.View.{netlist_of}
 use Rattle.net_index.specs.Index.{Held}
 use Rattle.net_nodes.specs.Gives.{Gives}
-use Rattle.net_nodes.specs.declared.Added.{Added}
-use Rattle.net_nodes.specs.declared.Added.TheVariants.{Net}
+use Rattle.net_nodes.specs.declared.Full.{Full}
+use Rattle.std.specs.Prelude.{Result, Ok}
 use Rattle.net_gates.specs.Pairs.{and_or}
 use Rattle.net_gates.specs.Turns.{mux_node}
 
 -- the model says the same of both
-pub gives_by : (m m' : Made ℕ) (n : ℕ) (r : Added) (w idx : List ℕ) → m ≡ m' → Gives m' n r w idx → Gives m n r w idx
+pub gives_by : (m m' : Made ℕ) (n : ℕ) (r : Result ℕ Full) (w idx : List ℕ) → m ≡ m' → Gives m' n r w idx → Gives m n r w idx
 gives_by m m' n r w idx e g = record { says = e ∙ g.says; held = g.held }
 
 -- nothing was added
-pub gives_net : (m : Made ℕ) (n k : ℕ) (w idx : List ℕ) → Held n w idx → m ≡ done (k, netlist_of n w) → Gives m n (Net k) w idx
+pub gives_net : (m : Made ℕ) (n k : ℕ) (w idx : List ℕ) → Held n w idx → m ≡ done (k, netlist_of n w) → Gives m n (Ok k) w idx
 gives_net m n k w idx h e = record { says = e; held = h }
 
 pub is_one : (v : Bool) → is_value v (some true) ≡ v

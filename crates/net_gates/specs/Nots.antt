@@ -1,6 +1,6 @@
 -- No Not has a Not or a constant as its input, and its input is a lower net (`PlainNots`): what `add_mux` asks, so that its loop makes one
 -- turn at most. A call that adds only other nodes keeps it: a constant, a mux, lists of them. Assumes nothing.
-use Rattle.std.specs.Prelude.{◌≡◌, refl, Bool, true, false, cond, List, [], ◌∷◌, eqb, ltb, length}
+use Rattle.std.specs.Prelude.{◌≡◌, refl, Ok, Bool, true, false, cond, List, [], ◌∷◌, eqb, ltb, length}
 use Rattle.std.proofs.Common.{sym, ap, subst, ◌∙◌, ⊎_elim, eq-or-lt_of_le}
 use Rattle.std.proofs.Math.Option.{Option, none, some}
 use Prim.Native.Nat.{ℕ, suc, ◌-◌, ◌≤◌, ◌<◌}
@@ -13,7 +13,6 @@ use Rattle.spec_model.specs.Builder.{refused, done, and_then, Made, add_node, no
 use Rattle.net_view.specs.View.{netlist_of}
 use Rattle.net_view.specs.Laws.{with_node}
 use Rattle.net_nodes.specs.Gives.{Gives}
-use Rattle.net_nodes.specs.declared.Added.TheVariants.{Net}
 
 -- net a as the input of a Not at net i
 pub record PlainNot (l : Netlist) (i a : ℕ) : Type 0 where
@@ -128,8 +127,8 @@ keeps_both f h (x ∷ xs) (y ∷ ys) l p = keeps_bind (f x y l) _ (h x y l p) (�
 pub kept : {A : Type 0} {m o : Made A} → Keeps m → m ≡ o → Left o
 kept h e = subst (λ x. Left x) e h.left
 
-pub kept_constant : (v : Bool) {l : Netlist} {n k : ℕ} {w idx : List ℕ} → PlainNots l → Gives (add_constant v l) n (Net k) w idx → PlainNots (netlist_of n w)
+pub kept_constant : (v : Bool) {l : Netlist} {n k : ℕ} {w idx : List ℕ} → PlainNots l → Gives (add_constant v l) n (Ok k) w idx → PlainNots (netlist_of n w)
 kept_constant v {l} p g = kept (keeps_constant v l p) g.says
 
-pub kept_mux : (c t e : ℕ) {l : Netlist} {n k : ℕ} {w idx : List ℕ} → PlainNots l → Gives (add_mux c t e l) n (Net k) w idx → PlainNots (netlist_of n w)
+pub kept_mux : (c t e : ℕ) {l : Netlist} {n k : ℕ} {w idx : List ℕ} → PlainNots l → Gives (add_mux c t e l) n (Ok k) w idx → PlainNots (netlist_of n w)
 kept_mux c t e {l} p g = kept (keeps_mux c t e l p) g.says

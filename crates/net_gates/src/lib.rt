@@ -13,66 +13,75 @@ ghost use Rattle.net_gates.specs.Turns.{mux_node};
 
 use image_numbers::*;
 use net_gate_index::add_cached;
-use net_nodes::{Added, Constant, constant_value};
+use net_nodes::{Full, constant_value};
 
 // Whether net k is the constant v.
 pub fn is_constant(net: &[u32], k: u32, v: bool) -> bool
     requires { NodesWithin net.now }
     ensures { (n : ℕ) → is_constant v (netlist_of n net.now) k ≡ result }
 {
-    match constant_value(net, k) {
-        Constant::Zero => !v,
-        Constant::One => v,
-        Constant::Other => false,
-    }
+    constant_value(net, k) == Some(v)
 }
 
-pub fn add_constant(net: &mut [u32], idx: &mut [u32], n: u32, v: bool) -> Added
+pub fn add_constant(net: &mut [u32], idx: &mut [u32], n: u32, v: bool) -> Result<u32, Full>
     requires { Held n net.old idx.old }
     ensures { Gives (add_constant v (netlist_of n net.old)) n result net.new idx.new }
 {
-    if v {
-        add_cached(net, idx, n, CONSTANT, 1, ABSENT, ABSENT, ABSENT)
-    } else {
-        add_cached(net, idx, n, CONSTANT, 0, ABSENT, ABSENT, ABSENT)
-    }
+    add_cached(net, idx, n, CONSTANT, v as u32, ABSENT, ABSENT, ABSENT)
 }
 
-pub fn add_not(net: &mut [u32], idx: &mut [u32], n: u32, a: u32) -> Added
+pub fn add_not(net: &mut [u32], idx: &mut [u32], n: u32, a: u32) -> Result<u32, Full>
     requires { Held n net.old idx.old }
     ensures { Gives (add_not a (netlist_of n net.old)) n result net.new idx.new }
 {
-    match constant_value(net, a) {
-        Constant::Zero => add_constant(net, idx, n, true),
-        Constant::One => add_constant(net, idx, n, false),
-        Constant::Other => {
-            if net_nodes::kind_of(net, a) == NOT {
-                return Added::Net(net_nodes::input_of(net, a));
-            }
-            add_cached(net, idx, n, NOT, ABSENT, a, ABSENT, ABSENT)
-        }
+    if let Some(v) = constant_value(net, a) {
+        return add_constant(net, idx, n, !v);
     }
+    if net_nodes::kind_of(net, a) == NOT {
+        return Ok(net_nodes::input_of(net, a));
+    }
+    add_cached(net, idx, n, NOT, ABSENT, a, ABSENT, ABSENT)
 }
 
 // A gate whose pair of inputs is ordered.
-fn add_pair(net: &mut [u32], idx: &mut [u32], n: u32, kind: u32, lhs: u32, rhs: u32) -> Added
+fn add_pair(
+    net: &mut [u32],
+    idx: &mut [u32],
+    n: u32,
+    kind: u32,
+    lhs: u32,
+    rhs: u32,
+) -> Result<u32, Full>
     requires { (Held n net.old idx.old) × (0 < kind) × (kind < 7) }
     ensures { Gives (add_cached (gate kind (min lhs rhs) (max lhs rhs) absent) (netlist_of n net.old)) n result net.new idx.new }
 {
-    if lhs < rhs {
-        add_cached(net, idx, n, kind, ABSENT, lhs, rhs, ABSENT)
-    } else {
-        add_cached(net, idx, n, kind, ABSENT, rhs, lhs, ABSENT)
-    }
+    add_cached(
+        net,
+        idx,
+        n,
+        kind,
+        ABSENT,
+        lhs.min(rhs),
+        lhs.max(rhs),
+        ABSENT,
+    )
 }
 
 // And and Or: the constant v decides the gate.
-fn and_or(net: &mut [u32], idx: &mut [u32], n: u32, kind: u32, v: bool, lhs: u32, rhs: u32) -> Added
+fn and_or(
+    net: &mut [u32],
+    idx: &mut [u32],
+    n: u32,
+    kind: u32,
+    v: bool,
+    lhs: u32,
+    rhs: u32,
+) -> Result<u32, Full>
     requires { (Held n net.old idx.old) × (0 < kind) × (kind < 7) }
     ensures { Gives (and_or kind v lhs rhs (netlist_of n net.old)) n result net.new idx.new }
 {
     if lhs == rhs {
-        return Added::Net(lhs);
+        return Ok(lhs);
     }
     if is_constant(net, lhs, v) {
         return add_constant(net, idx, n, v);
@@ -81,29 +90,29 @@ fn and_or(net: &mut [u32], idx: &mut [u32], n: u32, kind: u32, v: bool, lhs: u32
         return add_constant(net, idx, n, v);
     }
     if is_constant(net, lhs, !v) {
-        return Added::Net(rhs);
+        return Ok(rhs);
     }
     if is_constant(net, rhs, !v) {
-        return Added::Net(lhs);
+        return Ok(lhs);
     }
     add_pair(net, idx, n, kind, lhs, rhs)
 }
 
-pub fn add_and(net: &mut [u32], idx: &mut [u32], n: u32, lhs: u32, rhs: u32) -> Added
+pub fn add_and(net: &mut [u32], idx: &mut [u32], n: u32, lhs: u32, rhs: u32) -> Result<u32, Full>
     requires { Held n net.old idx.old }
     ensures { Gives (add_and lhs rhs (netlist_of n net.old)) n result net.new idx.new }
 {
     and_or(net, idx, n, AND, false, lhs, rhs)
 }
 
-pub fn add_or(net: &mut [u32], idx: &mut [u32], n: u32, lhs: u32, rhs: u32) -> Added
+pub fn add_or(net: &mut [u32], idx: &mut [u32], n: u32, lhs: u32, rhs: u32) -> Result<u32, Full>
     requires { Held n net.old idx.old }
     ensures { Gives (add_or lhs rhs (netlist_of n net.old)) n result net.new idx.new }
 {
     and_or(net, idx, n, OR, true, lhs, rhs)
 }
 
-pub fn add_xor(net: &mut [u32], idx: &mut [u32], n: u32, lhs: u32, rhs: u32) -> Added
+pub fn add_xor(net: &mut [u32], idx: &mut [u32], n: u32, lhs: u32, rhs: u32) -> Result<u32, Full>
     requires { Held n net.old idx.old }
     ensures { Gives (add_xor lhs rhs (netlist_of n net.old)) n result net.new idx.new }
 {
@@ -111,10 +120,10 @@ pub fn add_xor(net: &mut [u32], idx: &mut [u32], n: u32, lhs: u32, rhs: u32) -> 
         return add_constant(net, idx, n, false);
     }
     if is_constant(net, lhs, false) {
-        return Added::Net(rhs);
+        return Ok(rhs);
     }
     if is_constant(net, rhs, false) {
-        return Added::Net(lhs);
+        return Ok(lhs);
     }
     if is_constant(net, lhs, true) {
         return add_not(net, idx, n, rhs);
@@ -168,17 +177,15 @@ pub fn add_mux(
     condition: u32,
     then_net: u32,
     else_net: u32,
-) -> Added
+) -> Result<u32, Full>
     requires { (Held n net.old idx.old) × (PlainNots (netlist_of n net.old)) }
     ensures { Gives (add_mux condition then_net else_net (netlist_of n net.old)) n result net.new idx.new }
 {
     if then_net == else_net {
-        return Added::Net(then_net);
+        return Ok(then_net);
     }
-    match constant_value(net, condition) {
-        Constant::Zero => return Added::Net(else_net),
-        Constant::One => return Added::Net(then_net),
-        Constant::Other => {}
+    if let Some(v) = constant_value(net, condition) {
+        return Ok(if v { then_net } else { else_net });
     }
     let m = plain_mux(net, condition, then_net, else_net);
     add_cached(

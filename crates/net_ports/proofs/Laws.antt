@@ -1,18 +1,13 @@
--- Runs of numbers and of nodes. Assumes nothing.
+-- Runs of stores, of numbers and of nodes. Assumes nothing.
 use mathlib.Core.Path.{◌≡◌, refl, sym, ap, ◌∙◌}
 use mathlib.Core.Bool.{Bool, true, false}
 use mathlib.Core.List.{List, [], ◌∷◌, ◌++◌, append_assoc, append-nil}
 use Prim.Native.Nat.{ℕ, zero, suc, ◌+◌, ◌-◌, ◌≤◌, ◌<◌}
 use native.Mathlib.Omega.{arith}
 use native.Mathlib.Numerals.{add-one}
-use lib.ListN.{length, get_or, set, take, drop, replicate}
-use lib.Seq.{sets, sets-eq, take_at}
+use lib.ListN.{length, get_or, set, take, drop, replicate, length-set}
+use lib.Seq.{paste, paste-zero, paste-suc, sets, sets-eq, take_all, take_at}
 use lib.Dec.{ltb}
-use borrow.Author.Tests.{eqb-false}
-use mathlib.Core.Logic.{⊎_elim}
-use types.Run.{OneOf}
-use denote.Enum.Declared.{tag_of}
-use Rattle.net_nodes.specs.contracts.Added.{the_type}
 use Rattle.spec_model.specs.Words.{absent, Node, node, Netlist}
 use Rattle.spec_model.specs.Builder.{refused, done, and_then, Made, add_node, also, each, both, from, add_nodes, add_recorded, add_output_port, push}
 use Rattle.word_laws.specs.Runs.{from_snoc, length_from}
@@ -20,12 +15,37 @@ use Rattle.net_view.specs.View.{netlist_of, Built}
 use Rattle.net_view.specs.Laws.{count_is, with_node}
 use Rattle.net_index.specs.Index.{is_cell, Held}
 use Rattle.net_records.specs.Pushes.{pushed_of, Pushes}
-use Rattle.net_records.specs.declared.Pushed.{Pushed}
-use Rattle.net_records.specs.declared.Pushed.TheVariants as P
+use Rattle.net_records.specs.declared.ListFull.{ListFull as Pushed}
 use Rattle.net_nodes.specs.Gives.{out_of, Adds}
-use Rattle.net_nodes.specs.declared.Added.{Added}
-use Rattle.net_nodes.specs.declared.Added.TheVariants.{Net, TooManyNets, ListFull}
+use Rattle.net_nodes.specs.declared.Full.{Full}
+use Rattle.net_nodes.specs.declared.Full.TheVariants.{Nets, List as ListFull}
+use Rattle.std.specs.Prelude.{Result, Ok, Err}
 use Rattle.net_ports.specs.Runs.{run_of, Runs, output_node}
+
+-- ---- a run of stores ----
+
+-- what holds at the head of the copy's loop
+pub record Copied (w₀ : List ℕ) (at : ℕ) (r w : List ℕ) (i : ℕ) : Type 0 where
+  pub within : i ≤ length r
+  pub sized : length w ≡ length w₀
+  pub says : w ≡ paste w₀ at r i
+
+pub copied_start : (w₀ : List ℕ) (at : ℕ) (r : List ℕ) → Copied w₀ at r w₀ 0
+copied_start w₀ at r = record { within = omega arith; sized = refl; says = paste-zero w₀ at r }
+
+pub copied_more : (w₀ : List ℕ) (at : ℕ) (r w : List ℕ) (i : ℕ) → Copied w₀ at r w i → i < length r → at + length r ≤ length w₀
+    → Copied w₀ at r (set w (at + i) (get_or r i 0)) (i + 1)
+copied_more w₀ at r w i c h f = record {
+  within = omega arith;
+  sized = length-set w (at + i) (get_or r i 0) ∙ c.sized;
+  says = ap (λ (u : List ℕ). set u (at + i) (get_or r i 0)) c.says ∙ paste-suc w₀ at r i 0 (omega arith) h ∙ ap (paste w₀ at r) (sym (add-one i));
+}
+
+pub copied_end : (w₀ : List ℕ) (at : ℕ) (r w : List ℕ) (i : ℕ) → Copied w₀ at r w i → length r ≤ i → at + length r ≤ length w₀ → w ≡ sets w₀ at r
+copied_end w₀ at r w i c h f =
+    let e : i ≡ length r = omega (arith, c.within) in
+    c.says ∙ ap (λ (k : ℕ). take at w₀ ++ take k r ++ drop (at + k) w₀) e
+    ∙ ap (λ (t : List ℕ). take at w₀ ++ t ++ drop (at + length r) w₀) (take_all (length r) r (omega arith)) ∙ sym (sets-eq r w₀ at f)
 
 -- ---- a run of nodes, one by one ----
 
@@ -66,27 +86,12 @@ added_next x l l' k e = go (ltb (length l.nodes) l.max_nets) refl
         record { net = sym (ap (λ (y : ℕ × Netlist). y.0) p); view = sym (ap (λ (y : ℕ × Netlist). y.1) p) }
     go false q = let f : ◌≡◌ {A = Made ℕ} (refused 9 0 0) (done (k, l')) = rw q at e in let z : ◌≡◌ {A = ℕ} 0 1 = cc in absurd (omega arith)
 
--- an answer that is no net
-abbrev pub Refusal : Added → Type 0
-Refusal (Net k) = ⊥
-Refusal TooManyNets = Unit {0}
-Refusal ListFull = Unit {0}
+out : (ns : List ℕ) (e : Full) (b : ℕ) (l : Netlist) (k : ℕ × Netlist → Made (List ℕ)) → ahead ns (and_then (out_of (Err e) l) k) ≡ run_of (Err e) b l
+out ns Nets b l k = refl
+out ns ListFull b l k = refl
 
-pub never : (r : Added) (k : ℕ) → Refusal r → r ≡ Net k → ⊥
-never (Net j) k q e = q
-never TooManyNets k q e = let z : ◌≡◌ {A = ℕ} 0 1 = cc in omega arith
-never ListFull k q e = let z : ◌≡◌ {A = ℕ} 0 1 = cc in omega arith
-
--- the `else` of `let Added::Net(k) = x else` knows the tag
-pub not_net : (r : Added) → OneOf (1 ∷ 2 ∷ []) (tag_of the_type r) → Refusal r
-not_net (Net k) t = ⊎_elim (eqb-false 0 1 refl) (eqb-false 0 2 refl) t
-not_net TooManyNets t = tt
-not_net ListFull t = tt
-
-out : (ns : List ℕ) (r : Added) → Refusal r → (b : ℕ) (l : Netlist) (k : ℕ × Netlist → Made (List ℕ)) → ahead ns (and_then (out_of r l) k) ≡ run_of r b l
-out ns (Net j) q b l k = absurd q
-out ns TooManyNets q b l k = refl
-out ns ListFull q b l k = refl
+err_ok : (e : Full) (k : ℕ) → ◌≡◌ {A = Result ℕ Full} (Err e) (Ok k) → ⊥
+err_ok e k q = let z : ◌≡◌ {A = ℕ} 0 1 = cc in omega arith
 
 -- a run that was made: the records as they were, w nets more
 pub record Ran (w : ℕ) (l : Netlist) (ns : List ℕ) (l' : Netlist) : Type 0 where
@@ -154,7 +159,7 @@ module _ (x : ℕ → Node) (n b w first : ℕ) (w₀ net : List ℕ) (i : ℕ) 
       let e : w - i ≡ suc (w - suc i) = omega arith in
       ap (λ (j : ℕ). add_nodes x (b + i) j (netlist_of n net)) e ∙ nodes_suc x (b + i) (w - suc i) (netlist_of n net)
 
-  pub going_more : (k : ℕ) (net' : List ℕ) → i < w → length net' ≡ length net → Adds (add_node (x (b + i)) (netlist_of n net)) n (Net k) net net'
+  pub going_more : (k : ℕ) (net' : List ℕ) → i < w → length net' ≡ length net → Adds (add_node (x (b + i)) (netlist_of n net)) n (Ok k) net net'
       → Going x n b w first w₀ net' (i + 1)
   going_more k net' h len a =
       let q = added_next (x (b + i)) (netlist_of n net) (netlist_of n net') k a.says in
@@ -176,7 +181,7 @@ module _ (x : ℕ → Node) (n b w first : ℕ) (w₀ net : List ℕ) (i : ℕ) 
         held = λ idx d. a.held idx (g.held idx d);
       }
 
-  pub going_end : w ≤ i → Runs (add_nodes x b w (netlist_of n w₀)) n w (Net first) w₀ net
+  pub going_end : w ≤ i → Runs (add_nodes x b w (netlist_of n w₀)) n w (Ok first) w₀ net
   going_end h =
       let e : i ≡ w = omega (arith, g.within) in
       let f : w - i ≡ 0 = omega arith in
@@ -188,12 +193,12 @@ module _ (x : ℕ → Node) (n b w first : ℕ) (w₀ net : List ℕ) (i : ℕ) 
         held = g.held;
       }
 
-  pub going_out : (r : Added) (net' : List ℕ) → i < w → Refusal r → Adds (add_node (x (b + i)) (netlist_of n net)) n r net net'
-      → Runs (add_nodes x b w (netlist_of n w₀)) n w r w₀ net'
-  going_out r net' h q a = record {
+  pub going_out : (e : Full) (net' : List ℕ) → i < w → Adds (add_node (x (b + i)) (netlist_of n net)) n (Err e) net net'
+      → Runs (add_nodes x b w (netlist_of n w₀)) n w (Err e) w₀ net'
+  going_out e net' h a = record {
     says = g.says ∙ ap (ahead (from first i)) (step h ∙ ap (λ (o : Made ℕ). and_then o (λ (k, l₁). also k (add_nodes x (suc (b + i)) (w - suc i) l₁))) a.says)
-        ∙ out (from first i) r q w (netlist_of n net') (λ (k, l₁). also k (add_nodes x (suc (b + i)) (w - suc i) l₁));
-    below = λ k e. absurd (never r k q e);
+        ∙ out (from first i) e w (netlist_of n net') (λ (k, l₁). also k (add_nodes x (suc (b + i)) (w - suc i) l₁));
+    below = λ k q. absurd (err_ok e k q);
     built = a.built;
     held = λ idx d. a.held idx (g.held idx d);
   }
@@ -208,32 +213,31 @@ port_words_law s w first h =
 
 -- ---- nodes, and then a record of them ----
 
-abbrev pub answered : Pushed → ℕ → Added
-answered P.Done k = Net k
-answered P.ListFull k = ListFull
+abbrev pub answered : Result (Unit {0}) Pushed → ℕ → Result ℕ Full
+answered (Ok u) k = Ok k
+answered (Err e) k = Err ListFull
 
-pub refused_run : (r : List ℕ) (x : Added) → Refusal x → (b : ℕ) (l : Netlist) → add_recorded r (run_of x b l) ≡ run_of x b l
+pub refused_run : (r : List ℕ) (e : Full) (b : ℕ) (l : Netlist) → add_recorded r (run_of (Err e) b l) ≡ run_of (Err e) b l
 unfolding add_recorded
-refused_run r (Net k) q b l = absurd q
-refused_run r TooManyNets q b l = refl
-refused_run r ListFull q b l = refl
+refused_run r Nets b l = refl
+refused_run r ListFull b l = refl
 
-pub pushed_run : (r : List ℕ) (k b : ℕ) (a : Pushed) (l l' : Netlist) → push (r ++ from k b) l ≡ pushed_of a l'
+pub pushed_run : (r : List ℕ) (k b : ℕ) (a : Result (Unit {0}) Pushed) (l l' : Netlist) → push (r ++ from k b) l ≡ pushed_of a l'
     → add_recorded r (done (from k b, l)) ≡ run_of (answered a k) b l'
 unfolding add_recorded
-pushed_run r k b P.Done l l' e = rw e
-pushed_run r k b P.ListFull l l' e = rw e
+pushed_run r k b (Ok u) l l' e = rw e
+pushed_run r k b (Err x) l l' e = rw e
 
 module _ (made : Made (List ℕ)) (n b : ℕ) (r : List ℕ) (w w₁ : List ℕ) where
-  pub recorded_out : (x : Added) → Refusal x → Runs made n b x w w₁ → Runs (add_recorded r made) n b x w w₁
-  recorded_out x q g = record {
-    says = ap (add_recorded r) g.says ∙ refused_run r x q b (netlist_of n w₁);
+  pub recorded_out : (e : Full) → Runs made n b (Err e) w w₁ → Runs (add_recorded r made) n b (Err e) w w₁
+  recorded_out e g = record {
+    says = ap (add_recorded r) g.says ∙ refused_run r e b (netlist_of n w₁);
     below = g.below;
     built = g.built;
     held = g.held;
   }
 
-  pub recorded : (k : ℕ) (a : Pushed) (w₂ : List ℕ) → Runs made n b (Net k) w w₁ → is_cell (r ++ from k b) ≡ false → Pushes (r ++ from k b) n a w₁ w₂
+  pub recorded : (k : ℕ) (a : Result (Unit {0}) Pushed) (w₂ : List ℕ) → Runs made n b (Ok k) w w₁ → is_cell (r ++ from k b) ≡ false → Pushes (r ++ from k b) n a w₁ w₂
       → Runs (add_recorded r made) n b (answered a k) w w₂
   recorded k a w₂ g c p = record {
     says = ap (add_recorded r) g.says ∙ pushed_run r k b a (netlist_of n w₁) (netlist_of n w₂) p.says;
@@ -242,9 +246,9 @@ module _ (made : Made (List ℕ)) (n b : ℕ) (r : List ℕ) (w w₁ : List ℕ)
     held = λ idx d. p.held c idx (g.held idx d);
   }
     where
-      same_net : (a : Pushed) (k j : ℕ) → answered a k ≡ Net j → Net k ≡ Net j
-      same_net P.Done k j e = e
-      same_net P.ListFull k j e = let z : ◌≡◌ {A = ℕ} 0 1 = cc in absurd (omega arith)
+      same_net : (a : Result (Unit {0}) Pushed) (k j : ℕ) → answered a k ≡ Ok j → ◌≡◌ {A = Result ℕ Full} (Ok k) (Ok j)
+      same_net (Ok u) k j e = e
+      same_net (Err x) k j e = absurd (err_ok ListFull j e)
 
 both_run : (s : ℕ) (g : ℕ → ℕ) (b : ℕ) (ys : List ℕ) (l : Netlist) → ((i : ℕ) → i < length ys → g (b + i) ≡ get_or ys i 0)
     → both (λ j y. add_node (node 8 s j y absent absent)) (from b (length ys)) ys l ≡ add_nodes (λ j. node 8 s j (g j) absent absent) b (length ys) l

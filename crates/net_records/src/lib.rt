@@ -4,15 +4,22 @@
 ghost use Rattle.std.specs.Prelude.{◌≡◌, ◌+◌, ◌≤◌, length};
 ghost use Rattle.std.proofs.lemmas.List.Edits.{sets};
 ghost use Rattle.net_view.specs.View.{Formed, Built};
+ghost use Rattle.net_nodes.specs.declared.Full.TheVariants.{List};
 ghost use Rattle.net_records.specs.Pushes.{Pushes};
 
 use image_numbers::*;
+use net_nodes::Full;
 
-// What pushing gives: refusal 10 if the record would pass the list's limit.
+// The record would pass the list's limit: refusal 10.
 #[derive(Clone, Copy)]
-pub enum Pushed {
-    Done,
-    ListFull,
+pub struct ListFull;
+
+impl From<ListFull> for Full {
+    ghost from_gives = { λ _ e. e ≡ List };
+
+    fn from(_full: ListFull) -> Full {
+        Full::List
+    }
 }
 
 // The words of r from a place on.
@@ -20,13 +27,11 @@ pub fn put_words(net: &mut [u32], at: usize, r: &[u32])
     requires { at + length r.now ≤ length net.old }
     ensures { net.new ≡ sets net.old at r.now }
 {
-    for i in 0..r.len() {
-        net[at + i] = r[i];
-    }
+    net[at..at + r.len()].copy_from_slice(r);
 }
 
 // A record, if there is room for it.
-pub fn push_record(net: &mut [u32], n: u32, r: &[u32]) -> Pushed
+pub fn push_record(net: &mut [u32], n: u32, r: &[u32]) -> Result<(), ListFull>
     requires { (Built n net.old) × (Formed r.now) }
     ensures { Pushes r.now n result net.old net.new }
 {
@@ -38,8 +43,8 @@ pub fn push_record(net: &mut [u32], n: u32, r: &[u32]) -> Pushed
         put_words(net, at + used, r);
         net[LIST_USED] = (used + r.len()) as u32;
         net[RECORD_COUNTS + kind] = count + 1;
-        Pushed::Done
+        Ok(())
     } else {
-        Pushed::ListFull
+        Err(ListFull)
     }
 }

@@ -15,9 +15,9 @@ fn word_buffer() -> [u32; 8192]
 }
 
 fn read_word() -> u32 {
-    let mut bytes = [0u8; 4];
+    let mut bytes = [0; 4];
     io::read_full(0, &mut bytes);
-    image_fields::word(&bytes, 0)
+    u32::from_le_bytes(bytes)
 }
 
 fn read_words(words: &mut [u32]) {
@@ -26,12 +26,14 @@ fn read_words(words: &mut [u32]) {
     }
 }
 
-fn print_answer(number: u32, first: u32, second: u32) {
-    io::print_decimal(1, number as u64);
+// Printed through crate io, over read and write alone: std's printing rests on more of the C library.
+fn print_answer(answer: [u32; 3]) {
+    let [number, first, second] = answer;
+    io::print_decimal(1, u64::from(number));
     io::write_all(1, b" ");
-    io::print_decimal(1, first as u64);
+    io::print_decimal(1, u64::from(first));
     io::write_all(1, b" ");
-    io::print_decimal(1, second as u64);
+    io::print_decimal(1, u64::from(second));
     io::write_all(1, b"\n");
 }
 
@@ -41,10 +43,11 @@ fn check_next(buffer: &mut [u32]) {
     if buffer.len() < words {
         return;
     }
-    read_words(&mut buffer[..words]);
+    let netlist = &mut buffer[..words];
+    read_words(netlist);
     let mut answer = [BEFORE; 3];
-    struo::struo_netlist_check(net_words::stretch(buffer, 0, words), &mut answer);
-    print_answer(answer[0], answer[1], answer[2]);
+    struo::struo_netlist_check(netlist, &mut answer);
+    print_answer(answer);
 }
 
 fn check_all(n: u32, buffer: &mut [u32]) {

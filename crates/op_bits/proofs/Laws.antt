@@ -1,12 +1,8 @@
 -- A list of nets that is made one by one, in place. Assumes nothing.
 use mathlib.Core.Path.{◌≡◌, refl, sym, ap, ◌∙◌}
-use mathlib.Core.Logic.{⊎_elim}
 use mathlib.Core.List.{List, [], ◌∷◌, append-nil}
 use Prim.Native.Nat.{ℕ, zero, suc, ◌+◌, ◌-◌, ◌≤◌, ◌<◌}
 use native.Mathlib.Omega.{arith}
-use borrow.Author.Tests.{eqb-false}
-use denote.Enum.Declared.{tag_of}
-use types.Run.{OneOf}
 use lib.ListN.{length, get_or, set, take, length-set}
 use lib.Seq.{take-suc-set, take-length, get_or-set_other}
 use Rattle.spec_model.specs.Words.{Netlist}
@@ -14,13 +10,11 @@ use Rattle.spec_model.specs.Builder.{done, and_then, Made, also, each, both}
 use Rattle.net_view.specs.View.{netlist_of}
 use Rattle.net_index.specs.Index.{Held}
 use Rattle.net_nodes.specs.Gives.{out_of, Gives}
-use Rattle.net_nodes.specs.declared.Added.{Added}
-use Rattle.net_nodes.specs.declared.Added.TheVariants.{Net, TooManyNets, ListFull}
-use Rattle.net_ports.proofs.Laws.{ahead, ahead_none, ahead_also, Refusal}
-use Rattle.net_fold.specs.Values.{refusal_of, filled_of, Fills}
-use Rattle.net_fold.specs.declared.Filled.{Filled}
-use Rattle.net_fold.specs.contracts.Filled.{the_type}
-use Rattle.net_fold.specs.declared.Filled.TheVariants as F
+use Rattle.net_nodes.specs.declared.Full.{Full}
+use Rattle.net_nodes.specs.declared.Full.TheVariants.{Nets, List as ListFull}
+use Rattle.std.specs.Prelude.{Result, Ok, Err}
+use Rattle.net_ports.proofs.Laws.{ahead, ahead_none, ahead_also}
+use Rattle.net_fold.specs.Values.{filled_of, Fills}
 
 -- nets for b, b + 1, .., w of them
 unfoldable pub nets : (ℕ → Netlist → Made ℕ) → ℕ → ℕ → Netlist → Made (List ℕ)
@@ -47,10 +41,9 @@ both_nets f (x ∷ xs) (y ∷ ys) l e =
     let h : length xs ≡ length ys = omega arith in
     λ j. and_then (f x y l) (λ p. also p.0 ((both_nets f xs ys p.1 h ∙ sym (nets_shift (λ i. f (get_or (x ∷ xs) i 0) (get_or (y ∷ ys) i 0)) 0 (length xs) p.1)) j))
 
-out : (ns : List ℕ) (r : Added) → Refusal r → (ms : List ℕ) (l : Netlist) (k : ℕ × Netlist → Made (List ℕ)) → ahead ns (and_then (out_of r l) k) ≡ filled_of (refusal_of r) ms l
-out ns (Net j) q ms l k = absurd q
-out ns TooManyNets q ms l k = refl
-out ns ListFull q ms l k = refl
+out : (ns : List ℕ) (e : Full) (ms : List ℕ) (l : Netlist) (k : ℕ × Netlist → Made (List ℕ)) → ahead ns (and_then (out_of (Err e) l) k) ≡ filled_of (Err e) ms l
+out ns Nets ms l k = refl
+out ns ListFull ms l k = refl
 
 -- what holds after i of w nets; they stand at the front of xs, the rest of which is as it was
 pub record Going (f : ℕ → Netlist → Made ℕ) (model : Made (List ℕ)) (n w : ℕ) (net₀ xs₀ net idx xs : List ℕ) (i : ℕ) : Type 0 where
@@ -75,7 +68,7 @@ going_start f model n w net idx xs h e =
     }
 
 module _ (f : ℕ → Netlist → Made ℕ) (model : Made (List ℕ)) (n w : ℕ) (net₀ xs₀ net idx xs : List ℕ) (i : ℕ) (g : Going f model n w net₀ xs₀ net idx xs i) where
-  step : (r : Added) (l : Netlist) → i < w → f i (netlist_of n net) ≡ out_of r l
+  step : (r : Result ℕ Full) (l : Netlist) → i < w → f i (netlist_of n net) ≡ out_of r l
       → model ≡ ahead (take i xs) (and_then (out_of r l) (λ (k, l₁). also k (nets f (suc i) (w - suc i) l₁)))
   unfolding nets
   step r l h e =
@@ -83,7 +76,7 @@ module _ (f : ℕ → Netlist → Made ℕ) (model : Made (List ℕ)) (n w : ℕ
       g.says ∙ ap (λ (j : ℕ). ahead (take i xs) (nets f i j (netlist_of n net))) q
       ∙ ap (λ (o : Made ℕ). ahead (take i xs) (and_then o (λ (k, l₁). also k (nets f (suc i) (w - suc i) l₁)))) e
 
-  pub going_more : (k : ℕ) (net' idx' : List ℕ) → i < w → w ≤ length xs₀ → length net' ≡ length net → Gives (f i (netlist_of n net)) n (Net k) net' idx'
+  pub going_more : (k : ℕ) (net' idx' : List ℕ) → i < w → w ≤ length xs₀ → length net' ≡ length net → Gives (f i (netlist_of n net)) n (Ok k) net' idx'
       → Going f model n w net₀ xs₀ net' idx' (set xs i k) (i + 1)
   going_more k net' idx' h fit len a =
       let m = nets f (suc i) (w - suc i) (netlist_of n net') in
@@ -93,20 +86,19 @@ module _ (f : ℕ → Netlist → Made ℕ) (model : Made (List ℕ)) (n w : ℕ
         sized = length-set xs i k ∙ g.sized;
         net_sized = len ∙ g.net_sized;
         rest = λ j q. get_or-set_other xs i j k 0 (λ z. let y : j ≡ i = z in omega arith) ∙ g.rest j (omega arith);
-        says = step (Net k) (netlist_of n net') h a.says ∙ ahead_also (take i xs) k m
+        says = step (Ok k) (netlist_of n net') h a.says ∙ ahead_also (take i xs) k m
             ∙ ap (λ (t : List ℕ). ahead t m) (sym (take-suc-set xs i k (omega (arith, g.sized))))
             ∙ ap (λ (j : ℕ). ahead (take j (set xs i k)) (nets f j (w - j) (netlist_of n net'))) e;
         held = a.held;
       }
 
-  pub going_out : (r : Added) (ns net' idx' : List ℕ) → i < w → Refusal r → Gives (f i (netlist_of n net)) n r net' idx'
-      → Fills model n (refusal_of r) ns net' idx'
-  going_out r ns net' idx' h q a = record {
-    says = step r (netlist_of n net') h a.says ∙ out (take i xs) r q ns (netlist_of n net') (λ (k, l₁). also k (nets f (suc i) (w - suc i) l₁));
+  pub going_out : (e : Full) (ns net' idx' : List ℕ) → i < w → Gives (f i (netlist_of n net)) n (Err e) net' idx' → Fills model n (Err e) ns net' idx'
+  going_out e ns net' idx' h a = record {
+    says = step (Err e) (netlist_of n net') h a.says ∙ out (take i xs) e ns (netlist_of n net') (λ (k, l₁). also k (nets f (suc i) (w - suc i) l₁));
     held = a.held;
   }
 
-  pub going_end : w ≤ i → Fills model n F.Done (take w xs) net idx
+  pub going_end : w ≤ i → Fills model n (Ok tt) (take w xs) net idx
   unfolding nets
   going_end h =
       let e : i ≡ w = omega (arith, g.within) in
@@ -118,7 +110,7 @@ module _ (f : ℕ → Netlist → Made ℕ) (model : Made (List ℕ)) (n w : ℕ
       }
 
   -- the whole list
-  pub going_all : w ≤ i → w ≡ length xs₀ → Fills model n F.Done xs net idx
+  pub going_all : w ≤ i → w ≡ length xs₀ → Fills model n (Ok tt) xs net idx
   going_all h e =
       let z : w ≡ length xs = omega (arith, g.sized) in
       let r = going_end h in
@@ -128,50 +120,31 @@ module _ (f : ℕ → Netlist → Made ℕ) (model : Made (List ℕ)) (n w : ℕ
       }
 
 -- the answer of a first call decides: its refusal, or what follows on its net
-pub then_out : (m : Made ℕ) (k : ℕ × Netlist → Made ℕ) (n : ℕ) (r : Added) (w idx : List ℕ) → Refusal r → Gives m n r w idx → Gives (and_then m k) n r w idx
-then_out m k n r w idx q g = record { says = ap (λ (o : Made ℕ). and_then o k) g.says ∙ stays r q; held = g.held }
+pub then_out : (m : Made ℕ) (k : ℕ × Netlist → Made ℕ) (n : ℕ) (e : Full) (w idx : List ℕ) → Gives m n (Err e) w idx → Gives (and_then m k) n (Err e) w idx
+then_out m k n e w idx g = record { says = ap (λ (o : Made ℕ). and_then o k) g.says ∙ stays e; held = g.held }
   where
-    stays : (r : Added) → Refusal r → and_then (out_of r (netlist_of n w)) k ≡ out_of r (netlist_of n w)
-    stays (Net j) q = absurd q
-    stays TooManyNets q = refl
-    stays ListFull q = refl
+    stays : (e : Full) → and_then (out_of (Err e) (netlist_of n w)) k ≡ out_of (Err e) (netlist_of n w)
+    stays Nets = refl
+    stays ListFull = refl
 
-pub then_net : (m : Made ℕ) (k : ℕ × Netlist → Made ℕ) (n j : ℕ) (r : Added) (w idx w' idx' : List ℕ) → Gives m n (Net j) w idx
+pub then_net : (m : Made ℕ) (k : ℕ × Netlist → Made ℕ) (n j : ℕ) (r : Result ℕ Full) (w idx w' idx' : List ℕ) → Gives m n (Ok j) w idx
     → Gives (k (j, netlist_of n w)) n r w' idx' → Gives (and_then m k) n r w' idx'
 then_net m k n j r w idx w' idx' g g' = record { says = ap (λ (o : Made ℕ). and_then o k) g.says ∙ g'.says; held = g'.held }
 
 -- ---- one call on lists after another ----
 
--- an answer that is a refusal
-abbrev pub NotDone : Filled → Type 0
-NotDone F.Done = ⊥
-NotDone F.TooManyNets = Unit {0}
-NotDone F.ListFull = Unit {0}
-
-pub refusal_not_done : (r : Added) → Refusal r → NotDone (refusal_of r)
-refusal_not_done (Net k) q = absurd q
-refusal_not_done TooManyNets q = tt
-refusal_not_done ListFull q = tt
-
--- the `else` of `let Filled::Done = r else` knows the tag
-pub not_done : (r : Filled) → OneOf (1 ∷ 2 ∷ []) (tag_of the_type r) → NotDone r
-not_done F.Done t = ⊎_elim (eqb-false 0 1 refl) (eqb-false 0 2 refl) t
-not_done F.TooManyNets t = tt
-not_done F.ListFull t = tt
-
 module _ (m : Made (List ℕ)) (k : List ℕ × Netlist → Made (List ℕ)) (n : ℕ) where
-  pub first_out : (r : Filled) (ns ms w idx : List ℕ) → NotDone r → Fills m n r ns w idx → Fills (and_then m k) n r ms w idx
-  first_out r ns ms w idx q g = record { says = ap (λ (o : Made (List ℕ)). and_then o k) g.says ∙ stays r q; held = g.held }
+  pub first_out : (e : Full) (ns ms w idx : List ℕ) → Fills m n (Err e) ns w idx → Fills (and_then m k) n (Err e) ms w idx
+  first_out e ns ms w idx g = record { says = ap (λ (o : Made (List ℕ)). and_then o k) g.says ∙ stays e; held = g.held }
     where
-      stays : (r : Filled) → NotDone r → and_then (filled_of r ns (netlist_of n w)) k ≡ filled_of r ms (netlist_of n w)
-      stays F.Done q = absurd q
-      stays F.TooManyNets q = refl
-      stays F.ListFull q = refl
+      stays : (e : Full) → and_then (filled_of (Err e) ns (netlist_of n w)) k ≡ filled_of (Err e) ms (netlist_of n w)
+      stays Nets = refl
+      stays ListFull = refl
 
-  pub first_then : (r : Filled) (ns ms w idx w' idx' : List ℕ) → Fills m n F.Done ns w idx → Fills (k (ns, netlist_of n w)) n r ms w' idx'
+  pub first_then : (r : Result (Unit {0}) Full) (ns ms w idx w' idx' : List ℕ) → Fills m n (Ok tt) ns w idx → Fills (k (ns, netlist_of n w)) n r ms w' idx'
       → Fills (and_then m k) n r ms w' idx'
   first_then r ns ms w idx w' idx' g g' = record { says = ap (λ (o : Made (List ℕ)). and_then o k) g.says ∙ g'.says; held = g'.held }
 
 -- the model says the same of both
-pub list_by : (m m' : Made (List ℕ)) (n : ℕ) (r : Filled) (ns w idx : List ℕ) → m ≡ m' → Fills m' n r ns w idx → Fills m n r ns w idx
+pub list_by : (m m' : Made (List ℕ)) (n : ℕ) (r : Result (Unit {0}) Full) (ns w idx : List ℕ) → m ≡ m' → Fills m' n r ns w idx → Fills m n r ns w idx
 list_by m m' n r ns w idx e g = record { says = e ∙ g.says; held = g.held }

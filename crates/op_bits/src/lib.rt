@@ -11,8 +11,7 @@ ghost use Rattle.net_gates.specs.Nots.{PlainNots};
 ghost use Rattle.net_fold.specs.Values.{Fills};
 ghost use Rattle.op_bits.specs.Kinds.{gate_of, pair_made};
 
-use net_fold::Filled;
-use net_nodes::Added;
+use net_nodes::Full;
 
 #[derive(Clone, Copy)]
 pub enum Gate {
@@ -28,7 +27,14 @@ pub enum Pair {
     Equal,
 }
 
-pub fn add_gate(net: &mut [u32], idx: &mut [u32], n: u32, g: Gate, lhs: u32, rhs: u32) -> Added
+pub fn add_gate(
+    net: &mut [u32],
+    idx: &mut [u32],
+    n: u32,
+    g: Gate,
+    lhs: u32,
+    rhs: u32,
+) -> Result<u32, Full>
     requires { Held n net.old idx.old }
     ensures { Gives (add_gate (gate_of g) lhs rhs (netlist_of n net.old)) n result net.new idx.new }
 {
@@ -40,32 +46,32 @@ pub fn add_gate(net: &mut [u32], idx: &mut [u32], n: u32, g: Gate, lhs: u32, rhs
 }
 
 // Whether two bits are equal.
-pub fn add_equal(net: &mut [u32], idx: &mut [u32], n: u32, lhs: u32, rhs: u32) -> Added
+pub fn add_equal(net: &mut [u32], idx: &mut [u32], n: u32, lhs: u32, rhs: u32) -> Result<u32, Full>
     requires { Held n net.old idx.old }
     ensures { Gives (add_equal lhs rhs (netlist_of n net.old)) n result net.new idx.new }
 {
-    let x = net_gates::add_xor(net, idx, n, lhs, rhs);
-    let Added::Net(different) = x else {
-        return x;
-    };
+    let different = net_gates::add_xor(net, idx, n, lhs, rhs)?;
     net_gates::add_not(net, idx, n, different)
 }
 
-pub fn not_bits(net: &mut [u32], idx: &mut [u32], n: u32, xs: &mut [u32]) -> Filled
+pub fn not_bits(net: &mut [u32], idx: &mut [u32], n: u32, xs: &mut [u32]) -> Result<(), Full>
     requires { Held n net.old idx.old }
     ensures { Fills (each add_not xs.old (netlist_of n net.old)) n result xs.new net.new idx.new }
 {
-    for i in 0..xs.len() {
-        let x = net_gates::add_not(net, idx, n, xs[i]);
-        let Added::Net(k) = x else {
-            return net_fold::refusal(x);
-        };
-        xs[i] = k;
+    for x in xs.iter_mut() {
+        *x = net_gates::add_not(net, idx, n, *x)?;
     }
-    Filled::Done
+    Ok(())
 }
 
-fn add_pair(net: &mut [u32], idx: &mut [u32], n: u32, p: Pair, lhs: u32, rhs: u32) -> Added
+fn add_pair(
+    net: &mut [u32],
+    idx: &mut [u32],
+    n: u32,
+    p: Pair,
+    lhs: u32,
+    rhs: u32,
+) -> Result<u32, Full>
     requires { Held n net.old idx.old }
     ensures { Gives (pair_made p lhs rhs (netlist_of n net.old)) n result net.new idx.new }
 {
@@ -83,18 +89,14 @@ pub fn pairwise(
     p: Pair,
     xs: &mut [u32],
     ys: &[u32],
-) -> Filled
+) -> Result<(), Full>
     requires { (Held n net.old idx.old) × (length xs.old ≡ length ys.now) }
     ensures { Fills (both (pair_made p) xs.old ys.now (netlist_of n net.old)) n result xs.new net.new idx.new }
 {
     for i in 0..xs.len() {
-        let x = add_pair(net, idx, n, p, xs[i], ys[i]);
-        let Added::Net(k) = x else {
-            return net_fold::refusal(x);
-        };
-        xs[i] = k;
+        xs[i] = add_pair(net, idx, n, p, xs[i], ys[i])?;
     }
-    Filled::Done
+    Ok(())
 }
 
 pub fn mux_bits(
@@ -104,16 +106,12 @@ pub fn mux_bits(
     condition: u32,
     then_bits: &mut [u32],
     else_bits: &[u32],
-) -> Filled
+) -> Result<(), Full>
     requires { (Held n net.old idx.old) × (length then_bits.old ≡ length else_bits.now) × (PlainNots (netlist_of n net.old)) }
     ensures { Fills (both (add_mux condition) then_bits.old else_bits.now (netlist_of n net.old)) n result then_bits.new net.new idx.new }
 {
     for i in 0..then_bits.len() {
-        let x = net_gates::add_mux(net, idx, n, condition, then_bits[i], else_bits[i]);
-        let Added::Net(k) = x else {
-            return net_fold::refusal(x);
-        };
-        then_bits[i] = k;
+        then_bits[i] = net_gates::add_mux(net, idx, n, condition, then_bits[i], else_bits[i])?;
     }
-    Filled::Done
+    Ok(())
 }

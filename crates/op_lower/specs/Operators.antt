@@ -13,7 +13,6 @@ use Rattle.image_records.specs.declared.BinaryOp.{BinaryOp}
 use Rattle.image_records.specs.declared.BinaryOp.TheVariants as B
 use Rattle.net_fold.specs.Values.{op_of}
 use Rattle.net_cells.specs.Cells.{compare_of}
-use Rattle.net_cells.specs.declared.ComparisonOp.TheVariants.{LessThanUnsigned, LessOrEqualUnsigned, LessThanSigned, LessOrEqualSigned}
 use Rattle.op_bits.specs.Kinds.{gate_of}
 use Rattle.op_shifts.specs.Kinds.{shift_of}
 use Rattle.op_makers.specs.Class.{class_of}

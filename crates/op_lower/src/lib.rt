@@ -2,38 +2,35 @@
 #![tactic(auto)]
 
 ghost use Rattle.std.specs.Prelude.{◌≡◌, ◌≤◌, ◌<◌, length, take};
-ghost use Rattle.std.proofs.Math.Option.{none};
 ghost use Rattle.spec_model.specs.Lowering.{lower_unary, lower_binary};
-ghost use Rattle.spec_model.specs.WordCells as W;
 ghost use Rattle.net_view.specs.View.{netlist_of};
 ghost use Rattle.net_index.specs.Index.{Held};
 ghost use Rattle.image_records.specs.Expr.{unary_means, binary_means};
 ghost use Rattle.net_gates.specs.Nots.{PlainNots};
-ghost use Rattle.net_fold.specs.Values.{op_of, Fills};
-ghost use Rattle.net_cells.specs.Cells.{compare_of};
+ghost use Rattle.net_fold.specs.Values.{Fills};
 ghost use Rattle.op_makers.specs.Class.{class_of};
 ghost use Rattle.op_lower.specs.Operators.{unary_width, class_width, OperandsFit, lower_class, logic_not, not_equal};
 
-use image_numbers::ABSENT;
 use image_records::{BinaryOp, UnaryOp};
-use net_cells::ComparisonOp;
-use net_fold::{ArithmeticOp, Filled};
-use net_nodes::Added;
+use net_nodes::Full;
 use op_bits::{Gate, Pair};
 use op_makers::Class;
 
-fn logic_not(net: &mut [u32], idx: &mut [u32], n: u32, xs: &mut [u32]) -> Filled
+fn logic_not(net: &mut [u32], idx: &mut [u32], n: u32, xs: &mut [u32]) -> Result<(), Full>
     requires { (Held n net.old idx.old) × (0 < length xs.old) }
     ensures { Fills (logic_not xs.old (netlist_of n net.old)) n result (take 1 xs.new) net.new idx.new }
 {
-    let r = op_trees::reduce_tree(net, idx, n, Gate::Or, xs);
-    let Filled::Done = r else {
-        return r;
-    };
+    op_trees::reduce_tree(net, idx, n, Gate::Or, xs)?;
     op_trees::not_first(net, idx, n, xs)
 }
 
-pub fn lower_unary(net: &mut [u32], idx: &mut [u32], n: u32, op: UnaryOp, xs: &mut [u32]) -> Filled
+pub fn lower_unary(
+    net: &mut [u32],
+    idx: &mut [u32],
+    n: u32,
+    op: UnaryOp,
+    xs: &mut [u32],
+) -> Result<(), Full>
     requires { (Held n net.old idx.old) × (0 < length xs.old) }
     ensures { Fills (lower_unary (unary_means op) xs.old (netlist_of n net.old)) n result (take (unary_width op (length xs.old)) xs.new) net.new idx.new }
 {
@@ -46,68 +43,18 @@ pub fn lower_unary(net: &mut [u32], idx: &mut [u32], n: u32, op: UnaryOp, xs: &m
     }
 }
 
-fn not_equal_words(net: &mut [u32], idx: &mut [u32], n: u32, xs: &mut [u32], ys: &[u32]) -> Filled
+fn not_equal_words(
+    net: &mut [u32],
+    idx: &mut [u32],
+    n: u32,
+    xs: &mut [u32],
+    ys: &[u32],
+) -> Result<(), Full>
     requires { (Held n net.old idx.old) × (0 < length xs.old) × (length xs.old ≡ length ys.now) }
     ensures { Fills (not_equal xs.old ys.now (netlist_of n net.old)) n result (take 1 xs.new) net.new idx.new }
 {
-    let r = op_trees::equal_words(net, idx, n, xs, ys);
-    let Filled::Done = r else {
-        return r;
-    };
+    op_trees::equal_words(net, idx, n, xs, ys)?;
     op_trees::not_first(net, idx, n, xs)
-}
-
-fn compare(
-    net: &mut [u32],
-    idx: &mut [u32],
-    n: u32,
-    op: ComparisonOp,
-    xs: &mut [u32],
-    ys: &[u32],
-) -> Filled
-    requires { (Held n net.old idx.old) × (0 < length xs.old) × (length xs.old ≡ length ys.now) × (length xs.old ≤ 1024) }
-    ensures { Fills (W.comparison (compare_of op) xs.old ys.now (netlist_of n net.old)) n result (take 1 xs.new) net.new idx.new }
-{
-    let x = net_cells::comparison(net, idx, n, op, xs, ys);
-    let Added::Net(k) = x else {
-        return net_fold::refusal(x);
-    };
-    xs[0] = k;
-    Filled::Done
-}
-
-// The second operand compared with the first.
-fn compare_back(
-    net: &mut [u32],
-    idx: &mut [u32],
-    n: u32,
-    op: ComparisonOp,
-    xs: &mut [u32],
-    ys: &[u32],
-) -> Filled
-    requires { (Held n net.old idx.old) × (0 < length xs.old) × (length xs.old ≡ length ys.now) × (length xs.old ≤ 1024) }
-    ensures { Fills (W.comparison (compare_of op) ys.now xs.old (netlist_of n net.old)) n result (take 1 xs.new) net.new idx.new }
-{
-    let x = net_cells::comparison(net, idx, n, op, ys, xs);
-    let Added::Net(k) = x else {
-        return net_fold::refusal(x);
-    };
-    xs[0] = k;
-    Filled::Done
-}
-
-fn lower_arithmetic(
-    net: &mut [u32],
-    idx: &mut [u32],
-    n: u32,
-    op: ArithmeticOp,
-    xs: &mut [u32],
-    ys: &[u32],
-) -> Filled
-    requires { (Held n net.old idx.old) × (0 < length xs.old) × (length xs.old ≡ length ys.now) × (length xs.old ≤ 1024) }
-    ensures { Fills (W.arithmetic (op_of op) xs.old ys.now none (netlist_of n net.old)) n result xs.new net.new idx.new }
-{
-    net_cells::arithmetic(net, idx, n, op, ABSENT, xs, ys)
 }
 
 fn lower_class(
@@ -117,17 +64,23 @@ fn lower_class(
     class: Class,
     xs: &mut [u32],
     ys: &[u32],
-) -> Filled
+) -> Result<(), Full>
     requires { (Held n net.old idx.old) × (0 < length xs.old) × (length xs.old ≤ 1024) × (OperandsFit class (length xs.old) (length ys.now)) × (PlainNots (netlist_of n net.old)) }
     ensures { Fills (lower_class class xs.old ys.now (netlist_of n net.old)) n result (take (class_width class (length xs.old)) xs.new) net.new idx.new }
 {
     match class {
         Class::Bitwise(g) => op_bits::pairwise(net, idx, n, Pair::Gate(g), xs, ys),
-        Class::Arithmetic(op) => lower_arithmetic(net, idx, n, op, xs, ys),
+        Class::Arithmetic(op) => net_cells::arithmetic(net, idx, n, op, None, xs, ys),
         Class::Equal => op_trees::equal_words(net, idx, n, xs, ys),
         Class::NotEqual => not_equal_words(net, idx, n, xs, ys),
-        Class::Compare(op) => compare(net, idx, n, op, xs, ys),
-        Class::CompareBack(op) => compare_back(net, idx, n, op, xs, ys),
+        Class::Compare(op) => {
+            xs[0] = net_cells::comparison(net, idx, n, op, xs, ys)?;
+            Ok(())
+        }
+        Class::CompareBack(op) => {
+            xs[0] = net_cells::comparison(net, idx, n, op, ys, xs)?;
+            Ok(())
+        }
         Class::Shift(kind) => op_shifts::shift(net, idx, n, kind, xs, ys),
     }
 }
@@ -139,9 +92,9 @@ pub fn lower_binary(
     op: BinaryOp,
     xs: &mut [u32],
     ys: &[u32],
-) -> Filled
+) -> Result<(), Full>
     requires { (Held n net.old idx.old) × (0 < length xs.old) × (length xs.old ≤ 1024) × (OperandsFit (class_of op) (length xs.old) (length ys.now)) × (PlainNots (netlist_of n net.old)) }
     ensures { Fills (lower_binary (binary_means op) xs.old ys.now (netlist_of n net.old)) n result (take (class_width (class_of op) (length xs.old)) xs.new) net.new idx.new }
 {
-    lower_class(net, idx, n, op_makers::class_of(op), xs, ys)
+    lower_class(net, idx, n, Class::from(op), xs, ys)
 }

@@ -7,8 +7,8 @@ use native.Mathlib.Omega.{arith}
 use native.Mathlib.Nat.{zero-add, pow-succ'}
 use borrow.Author.Tests.{lt-ltb, le-ltb}
 use lib.Dec.{ltb}
-use lib.ListN.{length, get_or, take, drop, replicate, length-map, drop_of_length-le}
-use lib.Seq.{sets, sets-eq, take_at, drop-cons}
+use lib.ListN.{length, get_or, drop, length-map, drop_of_length-le}
+use lib.Seq.{drop-cons}
 use Rattle.spec_model.specs.Words.{Netlist}
 use Rattle.spec_model.specs.Builder.{and_then, Made, both, from, add_constant, add_mux}
 use Rattle.spec_model.specs.Lowering.{Shift, LeftS, RightS, ArithmeticS, shifted, stages, shift}
@@ -16,14 +16,12 @@ use Rattle.word_laws.specs.Runs.{length_from}
 use Rattle.net_view.specs.View.{netlist_of}
 use Rattle.net_index.specs.Index.{Held}
 use Rattle.net_nodes.specs.Gives.{Gives}
-use Rattle.net_nodes.specs.declared.Added.{Added}
-use Rattle.net_nodes.specs.declared.Added.TheVariants as A
+use Rattle.net_nodes.specs.declared.Full.{Full}
+use Rattle.net_nodes.specs.declared.Full.TheVariants.{Nets, List as ListFull}
+use Rattle.std.specs.Prelude.{Result, Ok, Err}
 use Rattle.net_gates.specs.Nots.{PlainNots, keeps_mux, keeps_both, kept}
-use Rattle.net_ports.proofs.Laws.{Refusal}
-use Rattle.net_fold.specs.Values.{refusal_of, Fills}
-use Rattle.net_fold.specs.declared.Filled.{Filled}
-use Rattle.net_fold.specs.declared.Filled.TheVariants.{Done}
-use Rattle.op_bits.proofs.Laws.{nets, both_nets, NotDone, first_out, list_by}
+use Rattle.net_fold.specs.Values.{Fills}
+use Rattle.op_bits.proofs.Laws.{nets, both_nets, first_out, list_by}
 
 -- within a list the default does not matter
 get_or_in : (xs : List ℕ) (i d e : ℕ) → i < length xs → get_or xs i d ≡ get_or xs i e
@@ -77,12 +75,6 @@ stage_nets s h z d r l =
     both_nets (add_mux s) (shifted h z d r) r l (length_shifted h z d r)
     ∙ ap (λ (w : ℕ). nets (λ i. add_mux s (get_or (shifted h z d r) i 0) (get_or r i 0)) 0 w l) (length_shifted h z d r)
 
--- a copy at the front of an array
-pub front : (xs : List ℕ) → length xs ≤ 1024 → take (length xs) (sets (replicate 1024 0) 0 xs) ≡ xs
-front xs h =
-    let old : List ℕ = replicate 1024 0 in
-    ap (take (length xs)) (sets-eq xs old 0 (omega arith)) ∙ take_at xs (drop (0 + length xs) old) (length xs) refl
-
 -- ---- stages ----
 
 pub record Staging (model : Made (List ℕ)) (h : Shift) (z n : ℕ) (net₀ xs₀ amount net idx xs : List ℕ) (d k : ℕ) : Type 0 where
@@ -114,7 +106,7 @@ module _ (model : Made (List ℕ)) (h : Shift) (z n : ℕ) (net₀ xs₀ amount 
       ∙ ap (λ (e : ℕ). and_then (both (add_mux (get_or amount k 0)) (shifted h z e xs) xs (netlist_of n net)) (λ (r₁, l₁). stages h z (suc k) (drop (suc k) amount) r₁ l₁)) (sym g.distance)
 
   pub staging_more : (net' idx' xs' : List ℕ) (d' : ℕ) → k < length amount → length net' ≡ length net → length xs' ≡ length xs → d' ≡ min (2 * d) (length xs)
-      → Fills (both (add_mux (get_or amount k 0)) (shifted h z d xs) xs (netlist_of n net)) n Done xs' net' idx'
+      → Fills (both (add_mux (get_or amount k 0)) (shifted h z d xs) xs (netlist_of n net)) n (Ok tt) xs' net' idx'
       → Staging model h z n net₀ xs₀ amount net' idx' xs' d' (k + 1)
   staging_more net' idx' xs' d' q a b e s =
       let p : suc k ≡ k + 1 = omega arith in
@@ -130,11 +122,11 @@ module _ (model : Made (List ℕ)) (h : Shift) (z n : ℕ) (net₀ xs₀ amount 
         nots = kept (keeps_both (add_mux (get_or amount k 0)) (keeps_mux (get_or amount k 0)) (shifted h z d xs) xs (netlist_of n net) g.nots) s.says;
       }
 
-  pub staging_out : (r : Filled) (ns ms net' idx' : List ℕ) → k < length amount → NotDone r
-      → Fills (both (add_mux (get_or amount k 0)) (shifted h z d xs) xs (netlist_of n net)) n r ns net' idx' → Fills model n r ms net' idx'
-  staging_out r ns ms net' idx' q f s = list_by _ _ _ _ _ _ _ (stage q) (first_out _ (λ (r₁, l₁). stages h z (suc k) (drop (suc k) amount) r₁ l₁) n r ns ms net' idx' f s)
+  pub staging_out : (e : Full) (ns ms net' idx' : List ℕ) → k < length amount
+      → Fills (both (add_mux (get_or amount k 0)) (shifted h z d xs) xs (netlist_of n net)) n (Err e) ns net' idx' → Fills model n (Err e) ms net' idx'
+  staging_out e ns ms net' idx' q s = list_by _ _ _ _ _ _ _ (stage q) (first_out _ (λ (r₁, l₁). stages h z (suc k) (drop (suc k) amount) r₁ l₁) n e ns ms net' idx' s)
 
-  pub staging_end : length amount ≤ k → Fills model n Done xs net idx
+  pub staging_end : length amount ≤ k → Fills model n (Ok tt) xs net idx
   unfolding stages
   staging_end q = record {
     says = g.says ∙ ap (λ (ss : List ℕ). stages h z k ss xs (netlist_of n net)) (drop_of_length-le amount {i = k} q);
@@ -144,13 +136,12 @@ module _ (model : Made (List ℕ)) (h : Shift) (z n : ℕ) (net₀ xs₀ amount 
 -- ---- the false constant first ----
 
 module _ (h : Shift) (xs amount : List ℕ) (l : Netlist) (n : ℕ) (w idx : List ℕ) where
-  pub shift_done : (z : ℕ) (r : Filled) (ns w' idx' : List ℕ) → Gives (add_constant false l) n (A.Net z) w idx
+  pub shift_done : (z : ℕ) (r : Result (Unit {0}) Full) (ns w' idx' : List ℕ) → Gives (add_constant false l) n (Ok z) w idx
       → Fills (stages h z 0 amount xs (netlist_of n w)) n r ns w' idx' → Fills (shift h xs amount l) n r ns w' idx'
   unfolding shift
   shift_done z r ns w' idx' a s = record { says = ap (λ (o : Made ℕ). and_then o (λ (z, l₁). stages h z 0 amount xs l₁)) a.says ∙ s.says; held = s.held }
 
-  pub shift_out : (x : Added) (ns : List ℕ) → Refusal x → Gives (add_constant false l) n x w idx → Fills (shift h xs amount l) n (refusal_of x) ns w idx
+  pub shift_out : (e : Full) (ns : List ℕ) → Gives (add_constant false l) n (Err e) w idx → Fills (shift h xs amount l) n (Err e) ns w idx
   unfolding shift
-  shift_out (A.Net k) ns q a = absurd q
-  shift_out A.TooManyNets ns q a = record { says = ap (λ (o : Made ℕ). and_then o (λ (z, l₁). stages h z 0 amount xs l₁)) a.says; held = a.held }
-  shift_out A.ListFull ns q a = record { says = ap (λ (o : Made ℕ). and_then o (λ (z, l₁). stages h z 0 amount xs l₁)) a.says; held = a.held }
+  shift_out Nets ns a = record { says = ap (λ (o : Made ℕ). and_then o (λ (z, l₁). stages h z 0 amount xs l₁)) a.says; held = a.held }
+  shift_out ListFull ns a = record { says = ap (λ (o : Made ℕ). and_then o (λ (z, l₁). stages h z 0 amount xs l₁)) a.says; held = a.held }

@@ -1,7 +1,7 @@
 // Shifts by a word: a stage of muxes for each bit of the amount.
 #![tactic(auto)]
 
-ghost use Rattle.std.specs.Prelude.{◌≡◌, ◌+◌, ◌*◌, ◌≤◌, ◌<◌, min, length, get_or};
+ghost use Rattle.std.specs.Prelude.{◌≡◌, ◌+◌, ◌≤◌, ◌<◌, length, get_or};
 ghost use Rattle.spec_model.specs.Builder.{both, add_mux};
 ghost use Rattle.spec_model.specs.Lowering.{shifted, stages, shift};
 ghost use Rattle.net_view.specs.View.{netlist_of};
@@ -10,8 +10,7 @@ ghost use Rattle.net_gates.specs.Nots.{PlainNots};
 ghost use Rattle.net_fold.specs.Values.{Fills};
 ghost use Rattle.op_shifts.specs.Kinds.{shift_of};
 
-use net_fold::Filled;
-use net_nodes::Added;
+use net_nodes::Full;
 
 #[derive(Clone, Copy)]
 pub enum ShiftKind {
@@ -60,19 +59,15 @@ fn mux_moved(
     select: u32,
     xs: &mut [u32],
     original: &[u32],
-) -> Filled
+) -> Result<(), Full>
     requires { (Held n net.old idx.old) × (length xs.old ≡ length original.now) × (distance ≤ length original.now) × (length original.now ≤ 1024) × (PlainNots (netlist_of n net.old)) }
     ensures { Fills (both (add_mux select) (shifted (shift_of kind) z distance original.now) original.now (netlist_of n net.old)) n result xs.new net.new idx.new }
 {
     for i in 0..xs.len() {
         let shifted = moved_bit(kind, z, distance, original, i);
-        let x = net_gates::add_mux(net, idx, n, select, shifted, original[i]);
-        let Added::Net(k) = x else {
-            return net_fold::refusal(x);
-        };
-        xs[i] = k;
+        xs[i] = net_gates::add_mux(net, idx, n, select, shifted, original[i])?;
     }
-    Filled::Done
+    Ok(())
 }
 
 fn shift_stage(
@@ -84,26 +79,14 @@ fn shift_stage(
     distance: usize,
     select: u32,
     xs: &mut [u32],
-) -> Filled
+) -> Result<(), Full>
     requires { (Held n net.old idx.old) × (distance ≤ length xs.old) × (length xs.old ≤ 1024) × (PlainNots (netlist_of n net.old)) }
     ensures { Fills (both (add_mux select) (shifted (shift_of kind) z distance xs.old) xs.old (netlist_of n net.old)) n result xs.new net.new idx.new }
 {
     let mut original = [0u32; 1024];
     let w = xs.len();
-    net_records::put_words(&mut original, 0, xs);
+    original[..w].copy_from_slice(xs);
     mux_moved(net, idx, n, kind, z, distance, select, xs, &original[..w])
-}
-
-// Twice the distance, at most the width.
-fn shift_distance(distance: usize, width: usize) -> usize
-    requires { (distance ≤ width) × (width ≤ 1024) }
-    ensures { result ≡ min (2 * distance) width }
-{
-    if 2 * distance < width {
-        2 * distance
-    } else {
-        width
-    }
 }
 
 fn shift_stages(
@@ -114,20 +97,16 @@ fn shift_stages(
     z: u32,
     xs: &mut [u32],
     amount: &[u32],
-) -> Filled
+) -> Result<(), Full>
     requires { (Held n net.old idx.old) × (0 < length xs.old) × (length xs.old ≤ 1024) × (PlainNots (netlist_of n net.old)) }
     ensures { Fills (stages (shift_of kind) z 0 amount.now xs.old (netlist_of n net.old)) n result xs.new net.new idx.new }
 {
-    let w = xs.len();
     let mut distance: usize = 1;
-    for k in 0..amount.len() {
-        let r = shift_stage(net, idx, n, kind, z, distance, amount[k], xs);
-        let Filled::Done = r else {
-            return r;
-        };
-        distance = shift_distance(distance, w);
+    for select in amount {
+        shift_stage(net, idx, n, kind, z, distance, *select, xs)?;
+        distance = (2 * distance).min(xs.len());
     }
-    Filled::Done
+    Ok(())
 }
 
 pub fn shift(
@@ -137,13 +116,10 @@ pub fn shift(
     kind: ShiftKind,
     xs: &mut [u32],
     amount: &[u32],
-) -> Filled
+) -> Result<(), Full>
     requires { (Held n net.old idx.old) × (0 < length xs.old) × (length xs.old ≤ 1024) × (PlainNots (netlist_of n net.old)) }
     ensures { Fills (shift (shift_of kind) xs.old amount.now (netlist_of n net.old)) n result xs.new net.new idx.new }
 {
-    let x = net_gates::add_constant(net, idx, n, false);
-    let Added::Net(z) = x else {
-        return net_fold::refusal(x);
-    };
+    let z = net_gates::add_constant(net, idx, n, false)?;
     shift_stages(net, idx, n, kind, z, xs, amount)
 }

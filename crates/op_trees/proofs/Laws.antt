@@ -5,24 +5,21 @@ use mathlib.Core.List.{List, [], ◌∷◌, ◌++◌, append-nil}
 use Prim.Native.Nat.{ℕ, zero, suc, ◌+◌, ◌*◌, ◌/◌, ◌-◌, ◌≤◌, ◌<◌}
 use native.Mathlib.Omega.{arith}
 use borrow.Author.Tests.{lt-ltb, le-ltb}
-use lib.ListN.{length, get_or, set, take, drop, drop_of_length-le}
-use lib.Seq.{take-length, length-take-le, get_or-take, take-suc-set, take-set-le, drop-cons}
+use lib.ListN.{length, get_or, set, take, drop, drop_of_length-le, length-append, length-drop}
+use lib.Seq.{take-length, length-take-le, take-append-le, take-suc-set, take-set-le, drop-cons}
 use Rattle.spec_model.specs.Words.{Netlist}
 use Rattle.spec_model.specs.Builder.{refused, done, and_then, Made, also, each}
 use Rattle.spec_model.specs.Ranges.{Gate}
 use Rattle.spec_model.specs.Lowering.{add_gate, level, levels, reduce_tree}
 use Rattle.net_view.specs.View.{netlist_of}
 use Rattle.net_index.specs.Index.{Held}
-use Rattle.net_nodes.specs.Gives.{out_of, Gives}
-use Rattle.net_nodes.specs.declared.Added.{Added}
-use Rattle.net_nodes.specs.declared.Added.TheVariants as A
-use Rattle.net_nodes.specs.declared.Added.TheVariants.{Net}
+use Rattle.net_nodes.specs.Gives.{Gives}
+use Rattle.net_nodes.specs.declared.Full.{Full}
+use Rattle.net_nodes.specs.declared.Full.TheVariants.{Nets, List as ListFull}
+use Rattle.std.specs.Prelude.{Ok, Err}
 use Rattle.net_gates.proofs.Ways.{gives_by}
-use Rattle.net_ports.proofs.Laws.{Refusal}
-use Rattle.net_fold.specs.Values.{refusal_of, filled_of, Fills}
-use Rattle.net_fold.specs.declared.Filled.{Filled}
-use Rattle.net_fold.specs.declared.Filled.TheVariants.{Done}
-use Rattle.op_bits.proofs.Laws.{nets, nets_shift, Going, going_more, going_out, going_end, NotDone, refusal_not_done, first_out, list_by}
+use Rattle.net_fold.specs.Values.{Fills}
+use Rattle.op_bits.proofs.Laws.{nets, nets_shift, Going, going_more, going_out, going_end, first_out, list_by}
 
 -- ys behind the nets
 abbrev behind : List ℕ → Made (List ℕ) → Made (List ℕ)
@@ -58,53 +55,48 @@ level_nets g (suc h) (x ∷ y ∷ xs) l p q =
     then_behind (refused j a b) k k' ys e = refl
     then_behind (done p) k k' ys e = e p
 
-module _ (g : Gate) (n len h : ℕ) (net₀ xs₀ net idx xs : List ℕ) (i : ℕ) (fit : len ≤ length xs₀) (low : 2 * h ≤ len) (high : len ≤ 2 * h + 1)
-    (go : Going (pair_at g (take len xs₀)) (nets (pair_at g (take len xs₀)) 0 h (netlist_of n net₀)) n h net₀ xs₀ net idx xs i) where
+module _ (g : Gate) (n h : ℕ) (net₀ xs₀ net idx xs : List ℕ) (i : ℕ) (low : 2 * h ≤ length xs₀) (high : length xs₀ ≤ 2 * h + 1)
+    (go : Going (pair_at g xs₀) (nets (pair_at g xs₀) 0 h (netlist_of n net₀)) n h net₀ xs₀ net idx xs i) where
   -- the pair that the code reads, in the list as it was
-  same_pair : (l : Netlist) → i < h → pair_at g (take len xs₀) i l ≡ pair_at g xs i l
-  same_pair l q =
-      let a : get_or (take len xs₀) (2 * i) 0 ≡ get_or xs (2 * i) 0 = get_or-take len xs₀ (2 * i) 0 (omega arith) ∙ sym (go.rest (2 * i) (omega arith)) in
-      let b : get_or (take len xs₀) (2 * i + 1) 0 ≡ get_or xs (2 * i + 1) 0 = get_or-take len xs₀ (2 * i + 1) 0 (omega arith) ∙ sym (go.rest (2 * i + 1) (omega arith)) in
-      λ j. add_gate g (a j) (b j) l
+  same_pair : (l : Netlist) → i < h → pair_at g xs₀ i l ≡ pair_at g xs i l
+  same_pair l q = λ j. add_gate g (sym (go.rest (2 * i) (omega arith)) j) (sym (go.rest (2 * i + 1) (omega arith)) j) l
 
-  level_model : level g (take len xs₀) (netlist_of n net₀) ≡ behind (drop (2 * h) (take len xs₀)) (nets (pair_at g (take len xs₀)) 0 h (netlist_of n net₀))
-  level_model = let e = length-take-le len xs₀ fit in level_nets g h (take len xs₀) (netlist_of n net₀) (omega arith) (omega arith)
+  level_model : level g xs₀ (netlist_of n net₀) ≡ behind (drop (2 * h) xs₀) (nets (pair_at g xs₀) 0 h (netlist_of n net₀))
+  level_model = level_nets g h xs₀ (netlist_of n net₀) low high
 
-  pub level_more : (k : ℕ) (net' idx' : List ℕ) → i < h → length net' ≡ length net → Gives (pair_at g xs i (netlist_of n net)) n (Net k) net' idx'
-      → Going (pair_at g (take len xs₀)) (nets (pair_at g (take len xs₀)) 0 h (netlist_of n net₀)) n h net₀ xs₀ net' idx' (set xs i k) (i + 1)
+  pub level_more : (k : ℕ) (net' idx' : List ℕ) → i < h → length net' ≡ length net → Gives (pair_at g xs i (netlist_of n net)) n (Ok k) net' idx'
+      → Going (pair_at g xs₀) (nets (pair_at g xs₀) 0 h (netlist_of n net₀)) n h net₀ xs₀ net' idx' (set xs i k) (i + 1)
   level_more k net' idx' q e a = going_more _ _ _ _ _ _ _ _ _ _ go k net' idx' q (omega arith) e (gives_by _ _ _ _ _ _ (same_pair (netlist_of n net) q) a)
 
-  pub level_out : (r : Added) (ns net' idx' : List ℕ) → i < h → Refusal r → Gives (pair_at g xs i (netlist_of n net)) n r net' idx'
-      → Fills (level g (take len xs₀) (netlist_of n net₀)) n (refusal_of r) ns net' idx'
-  level_out r ns net' idx' q z a =
+  pub level_out : (e : Full) (ns net' idx' : List ℕ) → i < h → Gives (pair_at g xs i (netlist_of n net)) n (Err e) net' idx'
+      → Fills (level g xs₀ (netlist_of n net₀)) n (Err e) ns net' idx'
+  level_out e ns net' idx' q a =
       list_by _ _ _ _ _ _ _ level_model
-      (first_out _ (λ (ns, l). done (ns ++ drop (2 * h) (take len xs₀), l)) n (refusal_of r) [] ns net' idx' (refusal_not_done r z)
-      (going_out _ _ _ _ _ _ _ _ _ _ go r [] net' idx' q z (gives_by _ _ _ _ _ _ (same_pair (netlist_of n net) q) a)))
+      (first_out _ (λ (ns, l). done (ns ++ drop (2 * h) xs₀, l)) n e [] ns net' idx'
+      (going_out _ _ _ _ _ _ _ _ _ _ go e [] net' idx' q (gives_by _ _ _ _ _ _ (same_pair (netlist_of n net) q) a)))
 
-  halves : h ≤ i → (d : ℕ) → len ≡ 2 * h + d → d ≤ 1
-      → take h xs ++ drop (2 * h) (take len xs₀) ≡ take ((len + 1) / 2) (set xs h (get_or xs (len - 1) 0))
+  halves : h ≤ i → (d : ℕ) → length xs₀ ≡ 2 * h + d → d ≤ 1
+      → take h xs ++ drop (2 * h) xs₀ ≡ take ((length xs₀ + 1) / 2) (set xs h (get_or xs (length xs₀ - 1) 0))
   halves q zero e r =
-      let k : (len + 1) / 2 ≡ h = omega arith in
-      let t = length-take-le len xs₀ fit in
-      ap (λ (ys : List ℕ). take h xs ++ ys) (drop_of_length-le (take len xs₀) {i = 2 * h} (omega arith)) ∙ append-nil (take h xs)
-      ∙ sym (ap (λ (a : ℕ). take a (set xs h (get_or xs (len - 1) 0))) k ∙ take-set-le h xs h (get_or xs (len - 1) 0) (omega arith))
+      let k : (length xs₀ + 1) / 2 ≡ h = omega arith in
+      ap (λ (ys : List ℕ). take h xs ++ ys) (drop_of_length-le xs₀ {i = 2 * h} (omega arith)) ∙ append-nil (take h xs)
+      ∙ sym (ap (λ (a : ℕ). take a (set xs h (get_or xs (length xs₀ - 1) 0))) k ∙ take-set-le h xs h (get_or xs (length xs₀ - 1) 0) (omega arith))
   halves q (suc zero) e r =
-      let k : (len + 1) / 2 ≡ suc h = omega arith in
-      let t = length-take-le len xs₀ fit in
-      let p : 2 * h ≡ len - 1 = omega arith in
-      let v : get_or (take len xs₀) (2 * h) 0 ≡ get_or xs (len - 1) 0 =
-      get_or-take len xs₀ (2 * h) 0 (omega arith) ∙ sym (go.rest (2 * h) (omega (arith, go.within))) ∙ ap (λ (a : ℕ). get_or xs a 0) p in
-      ap (λ (ys : List ℕ). take h xs ++ ys) (drop-cons (take len xs₀) (2 * h) 0 (omega arith)
-      ∙ λ j. v j ∷ drop_of_length-le (take len xs₀) {i = suc (2 * h)} (omega arith) j)
-      ∙ sym (ap (λ (a : ℕ). take a (set xs h (get_or xs (len - 1) 0))) k ∙ take-suc-set xs h (get_or xs (len - 1) 0) (omega (arith, go.sized)))
+      let k : (length xs₀ + 1) / 2 ≡ suc h = omega arith in
+      let p : 2 * h ≡ length xs₀ - 1 = omega arith in
+      let v : get_or xs₀ (2 * h) 0 ≡ get_or xs (length xs₀ - 1) 0 =
+      sym (go.rest (2 * h) (omega (arith, go.within))) ∙ ap (λ (a : ℕ). get_or xs a 0) p in
+      ap (λ (ys : List ℕ). take h xs ++ ys) (drop-cons xs₀ (2 * h) 0 (omega arith)
+      ∙ λ j. v j ∷ drop_of_length-le xs₀ {i = suc (2 * h)} (omega arith) j)
+      ∙ sym (ap (λ (a : ℕ). take a (set xs h (get_or xs (length xs₀ - 1) 0))) k ∙ take-suc-set xs h (get_or xs (length xs₀ - 1) 0) (omega (arith, go.sized)))
   halves q (suc (suc d)) e r = absurd (omega arith)
 
-  pub level_done : h ≤ i → Fills (level g (take len xs₀) (netlist_of n net₀)) n Done (take ((len + 1) / 2) (set xs h (get_or xs (len - 1) 0))) net idx
+  pub level_done : h ≤ i → Fills (level g xs₀ (netlist_of n net₀)) n (Ok tt) (take ((length xs₀ + 1) / 2) (set xs h (get_or xs (length xs₀ - 1) 0))) net idx
   level_done q =
       let e = going_end _ _ _ _ _ _ _ _ _ _ go q in
       record {
-        says = level_model ∙ ap (behind (drop (2 * h) (take len xs₀))) e.says
-            ∙ λ j. done (halves q (len - 2 * h) (omega arith) (omega arith) j, netlist_of n net);
+        says = level_model ∙ ap (behind (drop (2 * h) xs₀)) e.says
+            ∙ λ j. done (halves q (length xs₀ - 2 * h) (omega arith) (omega arith) j, netlist_of n net);
         held = e.held;
       }
 
@@ -154,28 +146,31 @@ module _ (model : Made (List ℕ)) (g : Gate) (n : ℕ) (net₀ xs₀ net idx xs
       let t = length-take-le len xs r.within in
       r.says ∙ ap (λ (a : ℕ). levels a g (take len xs) (netlist_of n net)) e ∙ more_levels f g (take len xs) (netlist_of n net) (omega arith)
 
-  pub reducing_more : (net' idx' xs' : List ℕ) → 1 < len → length net' ≡ length net → length xs' ≡ length xs
-      → Fills (level g (take len xs) (netlist_of n net)) n Done (take ((len + 1) / 2) xs') net' idx'
-      → Reducing model g n net₀ xs₀ net' idx' xs' ((len + 1) / 2)
-  reducing_more net' idx' xs' h a b q =
+  -- the first len nets are lent, and hold ys then
+  pub reducing_more : (net' idx' ys : List ℕ) → 1 < len → length net' ≡ length net → length ys ≡ len
+      → Fills (level g (take len xs) (netlist_of n net)) n (Ok tt) (take ((len + 1) / 2) ys) net' idx'
+      → Reducing model g n net₀ xs₀ net' idx' (ys ++ drop len xs) ((len + 1) / 2)
+  reducing_more net' idx' ys h a b q =
       let f = r.fuel - 1 in
+      let l : length (ys ++ drop len xs) ≡ length xs = length-append ys (drop len xs) ∙ omega (arith, length-drop len xs, r.within) in
       record {
         fuel = f;
         enough = omega (arith, r.enough);
         some = omega arith;
         within = omega (arith, r.within);
-        sized = b ∙ r.sized;
+        sized = l ∙ r.sized;
         net_sized = a ∙ r.net_sized;
-        says = next h f (omega (arith, r.enough)) ∙ ap (λ (o : Made (List ℕ)). and_then o (λ (ys, l₁). levels f g ys l₁)) q.says;
+        says = next h f (omega (arith, r.enough)) ∙ ap (λ (o : Made (List ℕ)). and_then o (λ (zs, l₁). levels f g zs l₁)) q.says
+            ∙ ap (λ (zs : List ℕ). levels f g zs (netlist_of n net')) (sym (take-append-le ((len + 1) / 2) ys (drop len xs) (omega arith)));
         held = q.held;
       }
 
-  pub reducing_out : (d : Filled) (ns ms net' idx' : List ℕ) → 1 < len → NotDone d → Fills (level g (take len xs) (netlist_of n net)) n d ns net' idx'
-      → Fills model n d ms net' idx'
-  reducing_out d ns ms net' idx' h q a =
-      list_by _ _ _ _ _ _ _ (next h (r.fuel - 1) (omega (arith, r.enough))) (first_out _ (λ (ys, l₁). levels (r.fuel - 1) g ys l₁) n d ns ms net' idx' q a)
+  pub reducing_out : (e : Full) (ns ms net' idx' : List ℕ) → 1 < len → Fills (level g (take len xs) (netlist_of n net)) n (Err e) ns net' idx'
+      → Fills model n (Err e) ms net' idx'
+  reducing_out e ns ms net' idx' h a =
+      list_by _ _ _ _ _ _ _ (next h (r.fuel - 1) (omega (arith, r.enough))) (first_out _ (λ (ys, l₁). levels (r.fuel - 1) g ys l₁) n e ns ms net' idx' a)
 
-  pub reducing_end : len ≤ 1 → Fills model n Done (take 1 xs) net idx
+  pub reducing_end : len ≤ 1 → Fills model n (Ok tt) (take 1 xs) net idx
   reducing_end h =
       let e : len ≡ 1 = omega (arith, r.some) in
       let t = length-take-le len xs r.within in
@@ -186,22 +181,20 @@ module _ (model : Made (List ℕ)) (g : Gate) (n : ℕ) (net₀ xs₀ net idx xs
 
 -- ---- the first net alone ----
 
-one : (f : ℕ → Netlist → Made ℕ) (xs : List ℕ) (l l' : Netlist) (r : Added) (ns : List ℕ) → 0 < length xs → f (get_or xs 0 0) l ≡ out_of r l'
-    → ((k : ℕ) → r ≡ Net k → ns ≡ take 1 (set xs 0 k)) → each f (take 1 xs) l ≡ filled_of (refusal_of r) ns l'
-unfolding each
-one f [] l l' r ns h e z = absurd (omega arith)
-one f (x ∷ xs) l l' (Net k) ns h e z = ap (λ (o : Made ℕ). and_then o (λ (k, l₁). also k (done ([], l₁)))) e ∙ λ j. done (sym (z k refl) j, l')
-one f (x ∷ xs) l l' A.TooManyNets ns h e z = ap (λ (o : Made ℕ). and_then o (λ (k, l₁). also k (done ([], l₁)))) e
-one f (x ∷ xs) l l' A.ListFull ns h e z = ap (λ (o : Made ℕ). and_then o (λ (k, l₁). also k (done ([], l₁)))) e
+module _ (f : ℕ → Netlist → Made ℕ) where
+  one : (xs : List ℕ) (l : Netlist) (o : Made ℕ) → 0 < length xs → f (get_or xs 0 0) l ≡ o → each f (take 1 xs) l ≡ and_then o (λ (k, l₁). also k (done ([], l₁)))
+  unfolding each
+  one [] l o h e = absurd (omega arith)
+  one (x ∷ xs) l o h e = ap (λ (o : Made ℕ). and_then o (λ (k, l₁). also k (done ([], l₁)))) e
 
-module _ (f : ℕ → Netlist → Made ℕ) (xs : List ℕ) (l : Netlist) (n : ℕ) (w idx : List ℕ) (h : 0 < length xs) where
-  pub one_done : (k : ℕ) → Gives (f (get_or xs 0 0) l) n (Net k) w idx → Fills (each f (take 1 xs) l) n Done (take 1 (set xs 0 k)) w idx
-  one_done k g = record { says = one f xs l (netlist_of n w) (Net k) _ h g.says (λ j e. let z : k ≡ j = cc in ap (λ (i : ℕ). take 1 (set xs 0 i)) z); held = g.held }
+  first_set : (xs : List ℕ) (k : ℕ) → 0 < length xs → k ∷ [] ≡ take 1 (set xs 0 k)
+  first_set [] k h = absurd (omega arith)
+  first_set (x ∷ xs) k h = refl
 
-  pub one_out : (r : Added) (ns : List ℕ) → Refusal r → Gives (f (get_or xs 0 0) l) n r w idx → Fills (each f (take 1 xs) l) n (refusal_of r) ns w idx
-  one_out r ns q g = record { says = one f xs l (netlist_of n w) r ns h g.says (λ k e. absurd (never r k q e)); held = g.held }
-    where
-      never : (r : Added) (k : ℕ) → Refusal r → r ≡ Net k → ⊥
-      never (Net j) k q e = q
-      never A.TooManyNets k q e = let z : ◌≡◌ {A = ℕ} 0 1 = cc in omega arith
-      never A.ListFull k q e = let z : ◌≡◌ {A = ℕ} 0 1 = cc in omega arith
+  module _ (xs : List ℕ) (l : Netlist) (n : ℕ) (w idx : List ℕ) (h : 0 < length xs) where
+    pub one_done : (k : ℕ) → Gives (f (get_or xs 0 0) l) n (Ok k) w idx → Fills (each f (take 1 xs) l) n (Ok tt) (take 1 (set xs 0 k)) w idx
+    one_done k g = record { says = one xs l _ h g.says ∙ λ j. done (first_set xs k h j, netlist_of n w); held = g.held }
+
+    pub one_out : (e : Full) (ns : List ℕ) → Gives (f (get_or xs 0 0) l) n (Err e) w idx → Fills (each f (take 1 xs) l) n (Err e) ns w idx
+    one_out Nets ns g = record { says = one xs l _ h g.says; held = g.held }
+    one_out ListFull ns g = record { says = one xs l _ h g.says; held = g.held }

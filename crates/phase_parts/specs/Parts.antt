@@ -1,4 +1,5 @@
 -- Controls of an image: when they are there, and the words that they become. Assumes nothing.
+use Rattle.std.specs.Prelude as code
 use Rattle.std.specs.Prelude.{◌≡◌, refl, Bool, true, false, List, [], ◌∷◌, ℕ, ◌+◌, ◌<◌}
 use Rattle.std.proofs.Common.{sym, ap, ◌∙◌, true≢false}
 use Rattle.std.proofs.Math.Option.{Option, none, some}
@@ -12,8 +13,6 @@ use Rattle.spec_model.specs.Lowering.{Whole, option_control, bit_step, control_s
 use Rattle.scratch_view.specs.View.{limit_of, is_whole, state_of}
 use Rattle.scratch_view.specs.Laws.{read_whole, whole_none}
 use Rattle.image_records.specs.declared.Control as C
-use Rattle.image_records.specs.declared.Enable.{Enable}
-use Rattle.image_records.specs.declared.Enable.TheVariants as E
 use Rattle.image_records.specs.Others.{control_means, enable_means}
 use Rattle.walk_view.specs.Met.{met}
 use Rattle.walk_view.specs.View.{walk_state}
@@ -38,16 +37,16 @@ control_there s k r f g = go (field s k r f ≡? absent) (λ h. g.some (no_eq _ 
     go false h = (h refl).bit
 
 -- the code's control
-module _ (e : Enable) where
-  pub there_present : (s : List ℕ) (c : C.Control) → e ≡ E.Present c → ThereControl s (enable_means e) → GoodBit s c.signal
+module _ (e : code.Option C.Control) where
+  pub there_present : (s : List ℕ) (c : C.Control) → e ≡ code.Some c → ThereControl s (enable_means e) → GoodBit s c.signal
   unfolding enable_means control_means
   there_present s c q h = rw q at h
 
-  pub steps_absent : e ≡ E.Absent → control_steps (enable_means e) ≡ []
+  pub steps_absent : e ≡ code.None → control_steps (enable_means e) ≡ []
   unfolding enable_means
   steps_absent q = rw q
 
-  pub steps_present : (c : C.Control) → e ≡ E.Present c → control_steps (enable_means e) ≡ bit_step c.signal
+  pub steps_present : (c : C.Control) → e ≡ code.Some c → control_steps (enable_means e) ≡ bit_step c.signal
   unfolding enable_means control_means
   steps_present c q = rw q
 

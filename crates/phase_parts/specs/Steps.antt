@@ -1,5 +1,5 @@
 -- Lists of steps, each lowered by a call, one after the other. Assumes nothing.
-use Rattle.std.specs.Prelude.{◌≡◌, refl, false, List, [], ◌++◌, ℕ}
+use Rattle.std.specs.Prelude.{◌≡◌, refl, false, List, [], ◌++◌, ℕ, Ok}
 use Rattle.std.proofs.Common.{ap, ◌∙◌, subst}
 use Rattle.spec_rtl.specs.Rtl.{Module}
 use Rattle.spec_rules.specs.Image.{decode}
@@ -13,8 +13,7 @@ use Rattle.law_walk.proofs.Walk.{all_walk}
 use Rattle.law_phases.specs.Supply.{supply}
 use Rattle.walk_view.specs.Met.{all_grow}
 use Rattle.walk_view.specs.View.{walk_state, Ready, Sure, out_of}
-use Rattle.walk_view.specs.declared.Lowered.{Lowered}
-use Rattle.walk_view.specs.declared.Lowered.TheVariants.{Done}
+use Rattle.walk_view.specs.Refusals.{Lowered}
 use Rattle.walk_view.specs.Stores.{kept_same}
 use Rattle.walk_view.specs.Answers.{Refused, not_done}
 use Rattle.walk_invariant.specs.Steps.{all_append, met_append, GivesAll}
@@ -23,12 +22,12 @@ use Rattle.phase_parts.specs.Ran.{Ran, ran_as, ran_then, ran_out}
 pub all_ran : {s net w net₁ w₁ : List ℕ} {ss : List Step} {x : Lowered} → GivesAll s net w ss x net₁ w₁ → Ran (lower_all (decode s) false ss (walk_state s net w)) s net w x net₁ w₁
 all_ran g = record { says = g.says; ready = g.ready; kept = g.kept; sure = g.sure }
 
-pub gives_none : (s net w : List ℕ) → Ready s net w → Sure s net w → GivesAll s net w [] Done net w
+pub gives_none : (s net w : List ℕ) → Ready s net w → Sure s net w → GivesAll s net w [] (Ok tt) net w
 unfolding lower_all lower_steps
 gives_none s net w r i = record { says = refl; ready = r; sure = λ d. i; kept = kept_same s net w; grows = λ n m. m; meets = λ d. tt }
 
 module _ {s net w net₁ w₁ : List ℕ} {ss : List Step} {x : Lowered} (ts : List Step) (a : GivesAll s net w ss x net₁ w₁) where
-  pub gives_then : {r : Lowered} {net₂ w₂ : List ℕ} → x ≡ Done → GivesAll s net₁ w₁ ts r net₂ w₂ → GivesAll s net w (ss ++ ts) r net₂ w₂
+  pub gives_then : {r : Lowered} {net₂ w₂ : List ℕ} → x ≡ Ok tt → GivesAll s net₁ w₁ ts r net₂ w₂ → GivesAll s net w (ss ++ ts) r net₂ w₂
   gives_then e b =
       let r = ran_as (all_append s ss ts (walk_state s net w)) (ran_then (λ st₁. lower_all (decode s) false ts st₁) (all_ran a) e (all_ran b)) in
       record {
@@ -46,7 +45,7 @@ module _ {s net w net₁ w₁ : List ℕ} {ss : List Step} {x : Lowered} (ts : L
       record { says = r.says; ready = a.ready; sure = a.sure; kept = a.kept; grows = a.grows; meets = λ d. not_done x q d }
 
 -- what is there then
-pub gives_after : {s net w net₁ w₁ : List ℕ} {ss : List Step} {x : Lowered} → Accepted s → Sure s net w → AllAsked (decode s) ss → GivesAll s net w ss x net₁ w₁ → x ≡ Done
+pub gives_after : {s net w net₁ w₁ : List ℕ} {ss : List Step} {x : Lowered} → Accepted s → Sure s net w → AllAsked (decode s) ss → GivesAll s net w ss x net₁ w₁ → x ≡ Ok tt
     → AllAfter false (walk_state s net₁ w₁) ss
 gives_after {s} {net} {w} {net₁} {w₁} {ss} a i h g e =
     (kept (g.says ∙ ap (λ (y : Lowered). out_of y (walk_state s net₁ w₁)) e) (all_walk supply (decode s) (good s a) false ss (walk_state s net w) i h)).post

@@ -3,7 +3,7 @@
 
 ghost use Rattle.std.specs.Prelude.{◌≡◌, ◌<◌, get_or};
 ghost use Rattle.spec_rules.specs.Image.{count_at_of, signal_width};
-ghost use Rattle.spec_model.specs.Words.{Netlist, low_word, bit_word};
+ghost use Rattle.spec_model.specs.Words.{Netlist, low_word};
 ghost use Rattle.spec_model.specs.Lowering.{signal_net, push_record};
 ghost use Rattle.net_view.specs.View.{Formed};
 ghost use Rattle.scratch_view.specs.View.{state_of, Laid};
@@ -13,10 +13,8 @@ ghost use Rattle.phase_parts.specs.Ran.{Ran};
 ghost use Rattle.phase_parts.specs.Parts.{ThereControl, IsControl};
 
 use image_numbers::ABSENT;
-use image_records::Enable;
-use net_records::Pushed;
-use scratch_tables::Known;
-use walk_view::Lowered;
+use image_records::Control;
+use walk_view::Refusal;
 
 // A control in a record: its net and its level.
 #[derive(Clone, Copy)]
@@ -29,13 +27,7 @@ pub struct ControlWords {
 pub fn low_word(b: bool) -> u32
     ensures { result ≡ low_word b }
 {
-    if b { 0 } else { 1 }
-}
-
-pub fn bit_word(b: bool) -> u32
-    ensures { result ≡ bit_word b }
-{
-    if b { 1 } else { 0 }
+    u32::from(!b)
 }
 
 // The net of bit b of signal p, absent where it has none.
@@ -43,22 +35,19 @@ pub fn bit_net(image: &[u8], scr: &[u32], p: u32, b: u32) -> u32
     requires { (Laid image.now scr.now) × (p < count_at_of image.now 0) × (b < signal_width image.now p) }
     ensures { (l : Netlist) → result ≡ signal_net (state_of image.now l scr.now) p b }
 {
-    match scratch_tables::signal_net(image, scr, p, b) {
-        Known::Net(n) => n,
-        Known::Absent => ABSENT,
-    }
+    scratch_tables::signal_net(image, scr, p, b).unwrap_or(ABSENT)
 }
 
-pub fn control_words(image: &[u8], scr: &[u32], e: Enable) -> ControlWords
+pub fn control_words(image: &[u8], scr: &[u32], e: Option<Control>) -> ControlWords
     requires { (Laid image.now scr.now) × (ThereControl image.now (enable_means e)) }
     ensures { IsControl image.now scr.now (enable_means e) result }
 {
     match e {
-        Enable::Absent => ControlWords {
+        None => ControlWords {
             net: ABSENT,
             level: 0,
         },
-        Enable::Present(c) => ControlWords {
+        Some(c) => ControlWords {
             net: bit_net(image, scr, c.signal, 0),
             level: low_word(c.level),
         },
@@ -66,12 +55,9 @@ pub fn control_words(image: &[u8], scr: &[u32], e: Enable) -> ControlWords
 }
 
 // A register's or a memory's record, if there is room for it.
-pub fn push(image: &[u8], net: &mut [u32], scr: &[u32], r: &[u32]) -> Lowered
+pub fn push(image: &[u8], net: &mut [u32], scr: &[u32], r: &[u32]) -> Result<(), Refusal>
     requires { (Ready image.now net.old scr.now) × (Sure image.now net.old scr.now) × (Formed r.now) × (0 < get_or r.now 0 0) × (get_or r.now 0 0 < 3) }
     ensures { Ran (push_record r.now (walk_state image.now net.old scr.now)) image.now net.old scr.now result net.new scr.now }
 {
-    match net_records::push_record(net, scr[scratch_view::LIMIT], r) {
-        Pushed::Done => Lowered::Done,
-        Pushed::ListFull => Lowered::ListFull,
-    }
+    net_records::push_record(net, scr[scratch_view::LIMIT], r).or(Err(Refusal::ListFull))
 }

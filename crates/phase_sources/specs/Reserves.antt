@@ -1,35 +1,13 @@
--- Nets added and kept as a signal's (`Keeps`), and the phases of the sources: what each record reserves, in turn. Assumes nothing.
+-- The phases of the sources: what each record reserves, in turn. Assumes nothing.
 use Rattle.std.specs.Prelude.{◌≡◌, List}
 use Rattle.std.proofs.Math.Path.{refl, sym, ap}
 use Rattle.std.proofs.Common.{◌∙◌}
 use Prim.Native.Nat.{ℕ, zero, suc}
 use Rattle.spec_tests.specs.Rules.{each, list_of}
 use Rattle.spec_rules.specs.Image.{count_at_of, signal_at, register_at, memory_at, decode}
-use Rattle.spec_model.specs.Builder.{Out, refused, done, and_then, from}
-use Rattle.spec_model.specs.Lowering.{State, set_signal, signal_width, reserve_input, reserve_inputs, reserve_bits, reserve_registers, reserve_second, reserve_memories}
-use Rattle.scratch_view.specs.View.{Writes}
-use Rattle.net_nodes.specs.declared.Added.{Added}
-use Rattle.net_nodes.specs.declared.Added.TheVariants as A
-use Rattle.walk_view.specs.declared.Lowered.{Lowered}
-use Rattle.walk_view.specs.declared.Lowered.TheVariants.{Done, TooManyNets, ListFull}
+use Rattle.spec_model.specs.Builder.{Out, refused, done, and_then}
+use Rattle.spec_model.specs.Lowering.{State, signal_width, reserve_input, reserve_inputs, reserve_bits, reserve_registers, reserve_second, reserve_memories}
 use Rattle.walk_view.specs.Turns.{in_turn}
-
--- ---- nets kept ----
-
-abbrev pub answer_of : Added → Lowered
-answer_of (A.Net k) = Done
-answer_of A.TooManyNets = TooManyNets
-answer_of A.ListFull = ListFull
-
--- the n nets that were added are signal p's
-abbrev pub with_added : Added → ℕ → ℕ → State → State
-with_added (A.Net k) p n st = set_signal st p (from k n)
-with_added A.TooManyNets p n st = st
-with_added A.ListFull p n st = st
-
-pub record Keeps (x : Added) (p n : ℕ) (s w : List ℕ) (r : Lowered) (w' : List ℕ) : Type 0 where
-  pub same : r ≡ answer_of x
-  pub writes : Writes (with_added x p n) s w w'
 
 -- ---- what a record reserves ----
 

@@ -9,14 +9,12 @@ ghost use Rattle.spec_model.specs.Builder.{from};
 ghost use Rattle.spec_model.specs.Lowering.{set_signal, reserve_bits, reserve_input, reserve_inputs, reserve_registers, reserve_second, reserve_memories, reserve_sources};
 ghost use Rattle.net_index.specs.Index.{is_gate};
 ghost use Rattle.scratch_view.specs.View.{Laid, Writes};
-ghost use Rattle.net_nodes.specs.declared.Added.TheVariants.{Net};
 ghost use Rattle.walk_view.specs.View.{walk_state, Ready, Phase};
-ghost use Rattle.phase_sources.specs.Reserves.{Keeps, input_at, outputs_at, data_at};
+ghost use Rattle.phase_sources.specs.Reserves.{input_at, outputs_at, data_at};
 
 use image_numbers::*;
 use image_records::Direction;
-use net_nodes::Added;
-use walk_view::Lowered;
+use walk_view::Refusal;
 
 // ---- nets for one signal ----
 
@@ -27,31 +25,23 @@ fn keep_run(image: &[u8], scr: &mut [u32], p: u32, first: u32, n: u32)
 {
     let mut nets = [0u32; 1024];
     net_ports::put_run(&mut nets, 0, first, n);
-    scratch_tables::keep_signals(image, scr, p, &nets, n);
-}
-
-// What adding n nets answered: they are signal p's, or it was refused.
-fn keep_added(image: &[u8], scr: &mut [u32], p: u32, n: u32, x: Added) -> Lowered
-    requires { (Laid image.now scr.old) × (p < count_at_of image.now 0) × (n ≡ signal_width image.now p) × ((k : ℕ) → x ≡ Net k → k + n ≤ 65535) }
-    ensures { Keeps x p n image.now scr.old result scr.new }
-{
-    match x {
-        Added::Net(first) => {
-            keep_run(image, scr, p, first, n);
-            Lowered::Done
-        }
-        Added::TooManyNets => Lowered::TooManyNets,
-        Added::ListFull => Lowered::ListFull,
-    }
+    scratch_tables::keep_signals(image, scr, p, &nets[..n as usize]);
 }
 
 // An input port for signal p, n bits wide.
-fn reserve_port(image: &[u8], net: &mut [u32], scr: &mut [u32], p: u32, n: u32) -> Lowered
+fn reserve_port(
+    image: &[u8],
+    net: &mut [u32],
+    scr: &mut [u32],
+    p: u32,
+    n: u32,
+) -> Result<(), Refusal>
     requires { (Ready image.now net.old scr.old) × (p < count_at_of image.now 0) × (n ≡ signal_width image.now p) }
     ensures { Phase (reserve_input R.Input p n (walk_state image.now net.old scr.old)) image.now net.old scr.old result net.new scr.new }
 {
-    let x = net_ports::add_input_port(net, scr[scratch_view::LIMIT], p, n);
-    keep_added(image, scr, p, n, x)
+    let first = net_ports::add_input_port(net, scr[scratch_view::LIMIT], p, n)?;
+    keep_run(image, scr, p, first, n);
+    Ok(())
 }
 
 // Nodes of a kind for the bits of signal p, numbered from b on.
@@ -63,49 +53,46 @@ fn reserve_bits(
     owner: u32,
     b: u32,
     p: u32,
-) -> Lowered
+) -> Result<(), Refusal>
     requires { (Ready image.now net.old scr.old) × (p < count_at_of image.now 0) × (is_gate (source kind owner 0) ≡ false) × (b ≤ 1024) }
     ensures { Phase (reserve_bits (decode image.now) kind owner b p (walk_state image.now net.old scr.old)) image.now net.old scr.old result net.new scr.new }
 {
     let n = image_fields::signal_width(image, p);
-    let x = net_ports::add_nodes(net, scr[scratch_view::LIMIT], kind, owner, b, n);
-    keep_added(image, scr, p, n, x)
+    let first = net_ports::add_nodes(net, scr[scratch_view::LIMIT], kind, owner, b, n)?;
+    keep_run(image, scr, p, first, n);
+    Ok(())
 }
 
 // ---- inputs ----
 
 // Signal p, if it is an input.
-fn reserve_input(image: &[u8], net: &mut [u32], scr: &mut [u32], p: u32) -> Lowered
+fn reserve_input(image: &[u8], net: &mut [u32], scr: &mut [u32], p: u32) -> Result<(), Refusal>
     requires { (Ready image.now net.old scr.old) × (p < count_at_of image.now 0) }
     ensures { Phase (input_at image.now p (walk_state image.now net.old scr.old)) image.now net.old scr.old result net.new scr.new }
 {
     let x = image_records::signal_at(image, p);
-    let d = x.direction;
-    match d {
-        Direction::Internal => Lowered::Done,
+    match x.direction {
         Direction::Input => reserve_port(image, net, scr, p, x.width),
-        Direction::Output => Lowered::Done,
+        Direction::Internal | Direction::Output => Ok(()),
     }
 }
 
-fn reserve_inputs(image: &[u8], net: &mut [u32], scr: &mut [u32]) -> Lowered
+fn reserve_inputs(image: &[u8], net: &mut [u32], scr: &mut [u32]) -> Result<(), Refusal>
     requires { Ready image.now net.old scr.old }
     ensures { Phase (reserve_inputs 0 (decode image.now).signals (walk_state image.now net.old scr.old)) image.now net.old scr.old result net.new scr.new }
 {
     let count = image_fields::count(image, image_fields::SIGNALS);
+    // Three lines; one loop over any step needs a longer contract, over all that a step may be lent.
     for p in 0..count {
-        let x = reserve_input(image, net, scr, p);
-        let Lowered::Done = x else {
-            return x;
-        };
+        reserve_input(image, net, scr, p)?;
     }
-    Lowered::Done
+    Ok(())
 }
 
 // ---- registers ----
 
 // The output nodes of register k.
-fn reserve_register(image: &[u8], net: &mut [u32], scr: &mut [u32], k: u32) -> Lowered
+fn reserve_register(image: &[u8], net: &mut [u32], scr: &mut [u32], k: u32) -> Result<(), Refusal>
     requires { (Ready image.now net.old scr.old) × (k < count_at_of image.now 4) }
     ensures { Phase (outputs_at image.now k (walk_state image.now net.old scr.old)) image.now net.old scr.old result net.new scr.new }
 {
@@ -113,75 +100,68 @@ fn reserve_register(image: &[u8], net: &mut [u32], scr: &mut [u32], k: u32) -> L
     reserve_bits(image, net, scr, REGISTER_OUTPUT, k, 0, target)
 }
 
-fn reserve_registers(image: &[u8], net: &mut [u32], scr: &mut [u32]) -> Lowered
+fn reserve_registers(image: &[u8], net: &mut [u32], scr: &mut [u32]) -> Result<(), Refusal>
     requires { Ready image.now net.old scr.old }
     ensures { Phase (reserve_registers (decode image.now) 0 (decode image.now).registers (walk_state image.now net.old scr.old)) image.now net.old scr.old result net.new scr.new }
 {
     let count = image_fields::count(image, image_fields::REGISTERS);
+    // Three lines; one loop over any step needs a longer contract, over all that a step may be lent.
     for k in 0..count {
-        let x = reserve_register(image, net, scr, k);
-        let Lowered::Done = x else {
-            return x;
-        };
+        reserve_register(image, net, scr, k)?;
     }
-    Lowered::Done
+    Ok(())
 }
 
 // ---- memories ----
 
 // The output nodes of memory k's second port, if it has one, numbered from b on.
-fn reserve_second(image: &[u8], net: &mut [u32], scr: &mut [u32], k: u32, b: u32) -> Lowered
+fn reserve_second(
+    image: &[u8],
+    net: &mut [u32],
+    scr: &mut [u32],
+    k: u32,
+    b: u32,
+) -> Result<(), Refusal>
     requires { (Ready image.now net.old scr.old) × (k < count_at_of image.now 5) × (b ≤ 1024) }
     ensures { Phase (reserve_second (decode image.now) k b (memory_at image.now k).second (walk_state image.now net.old scr.old)) image.now net.old scr.old result net.new scr.new }
 {
     if image_fields::record_field(image, image_fields::MEMORIES, k, image_fields::HAS_SECOND) == 0 {
-        return Lowered::Done;
+        return Ok(());
     }
     let q = image_fields::record_field(image, image_fields::MEMORIES, k, image_fields::SECOND_DATA);
     reserve_bits(image, net, scr, MEMORY_OUTPUT, k, b, q)
 }
 
 // The output nodes of memory k: first port, then second.
-fn reserve_memory(image: &[u8], net: &mut [u32], scr: &mut [u32], k: u32) -> Lowered
+fn reserve_memory(image: &[u8], net: &mut [u32], scr: &mut [u32], k: u32) -> Result<(), Refusal>
     requires { (Ready image.now net.old scr.old) × (k < count_at_of image.now 5) }
     ensures { Phase (data_at image.now k (walk_state image.now net.old scr.old)) image.now net.old scr.old result net.new scr.new }
 {
     let p = image_fields::record_field(image, image_fields::MEMORIES, k, image_fields::FIRST_DATA);
-    let x = reserve_bits(image, net, scr, MEMORY_OUTPUT, k, 0, p);
-    let Lowered::Done = x else {
-        return x;
-    };
+    reserve_bits(image, net, scr, MEMORY_OUTPUT, k, 0, p)?;
     let b = image_fields::signal_width(image, p);
     reserve_second(image, net, scr, k, b)
 }
 
-fn reserve_memories(image: &[u8], net: &mut [u32], scr: &mut [u32]) -> Lowered
+fn reserve_memories(image: &[u8], net: &mut [u32], scr: &mut [u32]) -> Result<(), Refusal>
     requires { Ready image.now net.old scr.old }
     ensures { Phase (reserve_memories (decode image.now) 0 (decode image.now).memories (walk_state image.now net.old scr.old)) image.now net.old scr.old result net.new scr.new }
 {
     let count = image_fields::count(image, image_fields::MEMORIES);
+    // Three lines; one loop over any step needs a longer contract, over all that a step may be lent.
     for k in 0..count {
-        let x = reserve_memory(image, net, scr, k);
-        let Lowered::Done = x else {
-            return x;
-        };
+        reserve_memory(image, net, scr, k)?;
     }
-    Lowered::Done
+    Ok(())
 }
 
 // ---- all sources ----
 
-pub fn reserve_sources(image: &[u8], net: &mut [u32], scr: &mut [u32]) -> Lowered
+pub fn reserve_sources(image: &[u8], net: &mut [u32], scr: &mut [u32]) -> Result<(), Refusal>
     requires { Ready image.now net.old scr.old }
     ensures { Phase (reserve_sources (decode image.now) (walk_state image.now net.old scr.old)) image.now net.old scr.old result net.new scr.new }
 {
-    let x = reserve_inputs(image, net, scr);
-    let Lowered::Done = x else {
-        return x;
-    };
-    let y = reserve_registers(image, net, scr);
-    let Lowered::Done = y else {
-        return y;
-    };
+    reserve_inputs(image, net, scr)?;
+    reserve_registers(image, net, scr)?;
     reserve_memories(image, net, scr)
 }

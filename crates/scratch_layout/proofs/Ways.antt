@@ -1,13 +1,17 @@
 -- The steps in which the scratch is laid out: their loops, and what they come to. Assumes nothing.
 use mathlib.Core.Path.{◌≡◌, refl, sym, ap, ◌∙◌, subst}
 use mathlib.Core.Bool.{Bool, true, false, cond, true≢false}
-use mathlib.Core.List.{List, [], ◌∷◌, map}
-use mathlib.Core.Logic.{⊎_elim, ◌⊎◌}
+use mathlib.Core.List.{List, [], ◌∷◌, map, ◌++◌}
+use mathlib.Core.Logic.{⊎_elim}
 use mathlib.Core.Option.{Option, none}
 use Prim.Native.Nat.{ℕ, zero, suc, ◌+◌, ◌*◌, ◌-◌, ◌≤◌, ◌<◌}
 use native.Mathlib.Nat.{sub_self, sub-zero, eq-or-lt_of_le}
 use native.Mathlib.Omega.{arith}
-use lib.ListN.{length, get_or, set, replicate, length-set, length-replicate}
+use lib.ListN.{take, drop, length, get_or, set, replicate, length-set, length-replicate, length-drop}
+use Rattle.std.proofs.Common.{length-take-le}
+use Rattle.std.proofs.Math.Decide.{dec_lt}
+use borrow.Author.Rules.{rules}
+use Rattle.std.proofs.slice.Indexed.{places}
 use lib.Seq.{get_or-set_same, get_or-set_other, paste}
 use Rattle.spec_tests.specs.Rules.{each, list_of, sum_to}
 use Rattle.spec_rtl.specs.Rtl as R
@@ -124,15 +128,37 @@ starts_end s n w w' e st u = record {
   other = λ j o. st.other j (λ e' v y. o e' (omega (arith, st.below)) y);
 }
 
-pub firsts_end : (s : List ℕ) (w w' : List ℕ) (at at' : ℕ) → at + count_at_of s 0 ≤ length w → at ≡ at' → w' ≡ paste w at (list_of (count_at_of s 0) (sum_to (signal_width s))) (count_at_of s 0)
-    → Stored at' (count_at_of s 0) (sum_to (signal_width s)) w w'
-firsts_end s w w' at at' fits p e =
-    let n = count_at_of s 0 in
-    let vs = list_of n (sum_to (signal_width s)) in
-    let st = stored_paste w at n vs fits (omega (arith, length_list_of n (sum_to (signal_width s)))) in
-    subst (λ (j : ℕ). Stored j n (sum_to (signal_width s)) w w') p
-    (subst (λ (x : List ℕ). Stored at n (sum_to (signal_width s)) w x) (sym e)
-    (record { long = st.long; inside = λ i u. st.inside i u ∙ at_list_of n (sum_to (signal_width s)) i 0 u; other = st.other }))
+abbrev put : ℕ → ℕ → List ℕ → List ℕ → List ℕ
+put at n w xs = take at w ++ (xs ++ drop n (drop at w))
+
+put_long : (at n : ℕ) (w xs : List ℕ) → at + n ≤ length w → length xs ≡ n → length (put at n w xs) ≡ length w
+put_long at n w xs h l = search (rules, places)
+
+put_low : (at n j : ℕ) (w xs : List ℕ) → at + n ≤ length w → length xs ≡ n → j < at → get_or (put at n w xs) j 0 ≡ get_or w j 0
+put_low at n j w xs h l u = search (rules, places)
+
+put_inside : (at n i : ℕ) (w xs : List ℕ) → at + n ≤ length w → length xs ≡ n → i < n → get_or (put at n w xs) (at + i) 0 ≡ get_or xs i 0
+put_inside at n i w xs h l u = search (rules, places)
+
+put_high : (at n j : ℕ) (w xs : List ℕ) → at + n ≤ length w → length xs ≡ n → at + n ≤ j → get_or (put at n w xs) j 0 ≡ get_or w j 0
+put_high at n j w xs h l u = search (rules, places)
+
+-- the n words from at on are replaced
+pub stored_put : (at n : ℕ) (v : ℕ → ℕ) (w xs : List ℕ) → at + n ≤ length w → length xs ≡ n → ((i : ℕ) → i < n → get_or xs i 0 ≡ v i) → Stored at n v w (put at n w xs)
+stored_put at n v w xs h l e = record {
+  long = put_long at n w xs h l;
+  inside = λ i u. put_inside at n i w xs h l u ∙ e i u;
+  other = λ j o. elim (dec_lt j at) [
+    | yes u ↦ put_low at n j w xs h l u
+    | no u ↦ elim (dec_lt j (at + n)) [ yes z ↦ absurd (o (j - at) (omega arith) (omega arith)) | no z ↦ put_high at n j w xs h l (omega arith) ]
+  ];
+}
+
+pub stored_put_at : (at at' n k : ℕ) (v : ℕ → ℕ) (w xs : List ℕ) → at + n ≤ length w → at ≡ at' → k ≡ n → length xs ≡ length (take k (drop at w)) → ((i : ℕ) → i < n → get_or xs i 0 ≡ v i)
+    → Stored at' n v w (take at w ++ (xs ++ drop k (drop at w)))
+stored_put_at at at' n k v w xs h p q l e =
+    let long : length xs ≡ n = l ∙ ap (λ (m : ℕ). length (take m (drop at w))) q ∙ length-take-le n (drop at w) (omega (arith, length-drop at w)) in
+    rw q (subst (λ (j : ℕ). Stored j n v w (put at n w xs)) p (stored_put at n v w xs h long e))
 
 -- ---- drivers ----
 

@@ -1,5 +1,5 @@
 -- The steps in which the scratch is laid out, and the layout at the start of the walk.
-use Rattle.std.specs.Prelude.{◌≡◌, Bool, List, [], ℕ, ◌+◌, ◌*◌, ◌≤◌, ◌<◌, length, get_or}
+use Rattle.std.specs.Prelude.{◌≡◌, Bool, List, [], ℕ, ◌+◌, ◌≤◌, ◌<◌, length, get_or}
 use Rattle.spec_tests.specs.Rules.{sum_to}
 use Rattle.spec_rules.specs.Image.{count_at_of, signal_width, expr_width, decode}
 use Rattle.spec_rules.specs.Checks.{signal_bits, expr_bits}

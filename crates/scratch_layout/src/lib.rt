@@ -10,25 +10,12 @@ ghost use Rattle.scratch_view.specs.View.{limit_of, signal_column, first_at, dri
 ghost use Rattle.scratch_view.specs.Laws.{Stored};
 ghost use Rattle.scratch_layout.specs.Stages.{HeadedAt, Fixed, FirstsAt, Starts, Indexed, Started};
 
-// The bits of all signals.
-fn signal_bits(image: &[u8]) -> u32
-    requires { Sized image.now }
-    ensures { result ≡ signal_bits image.now }
-{
-    let count = image_fields::count(image, image_fields::SIGNALS);
-    let mut sum = 0;
-    for p in 0..count {
-        sum += image_fields::signal_width(image, p);
-    }
-    sum
-}
-
 // The fixed words, in a scratch that is 0 elsewhere.
 fn lay_fixed(image: &[u8], n: u32, ob: bool, scr: &mut [u32])
     requires { (Sized image.now) × (n ≤ 65535) × (length scr.old ≡ scratch_need image.now n) × (scr.old ≡ replicate (length scr.old) 0) }
     ensures { Fixed image.now n ob scr.new }
 {
-    let bits = signal_bits(image);
+    let bits = check_header::signal_bits(image) as u32;
     let exprs = 64 + 4 * n + 4 * bits;
     let nets = exprs + 8 * image_fields::count(image, image_fields::EXPRESSIONS);
     scr[scratch_view::LIMIT] = n;
@@ -49,11 +36,7 @@ fn lay_firsts(image: &[u8], scr: &mut [u32])
     let at = scratch_view::FIXED
         + 4 * (scr[scratch_view::LIMIT] as usize)
         + 3 * (scr[scratch_view::SIGNAL_BITS] as usize);
-    let mut sum = 0;
-    for p in 0..count {
-        scr[at + p as usize] = sum;
-        sum += image_fields::signal_width(image, p);
-    }
+    check_drivers::lay_firsts(image, &mut scr[at..at + count as usize]);
 }
 
 // The first bit of each expression.
@@ -105,9 +88,8 @@ fn index_assignments(image: &[u8], scr: &mut [u32])
     requires { (FirstsAt image.now (limit_of scr.old) scr.old) × ((i : ℕ) → i < signal_bits image.now → get_or scr.old (signal_column (limit_of scr.old) + signal_bits image.now + i) 0 ≡ 0) }
     ensures { Indexed image.now (limit_of scr.old) scr.old scr.new }
 {
-    let mut a = image_fields::count(image, image_fields::ASSIGNMENTS);
-    while 0 < a {
-        a -= 1;
+    let count = image_fields::count(image, image_fields::ASSIGNMENTS);
+    for a in (0..count).rev() {
         index_assignment(image, scr, a);
     }
 }
@@ -117,7 +99,7 @@ pub fn lay(image: &[u8], n: u32, ob: bool, scr: &mut [u32])
     requires { (Sized image.now) × (n ≤ 65535) × (length scr.old ≡ scratch_need image.now n) }
     ensures { Started image.now n ob scr.new }
 {
-    net_nodes::clear(scr);
+    scr.fill(0);
     lay_fixed(image, n, ob, scr);
     lay_firsts(image, scr);
     lay_starts(image, scr);

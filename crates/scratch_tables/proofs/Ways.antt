@@ -2,7 +2,7 @@
 use mathlib.Core.Path.{◌≡◌, refl, sym, ap, ◌∙◌, subst}
 use mathlib.Core.Bool.{Bool, true, false, not}
 use mathlib.Core.List.{List, [], ◌∷◌, ◌++◌, map, append_assoc, append-nil}
-use mathlib.Core.Option.{Option, some}
+use mathlib.Core.Option.{Option, none, some}
 use Prim.Native.Nat.{ℕ, zero, suc, ◌+◌, ◌*◌, ◌-◌, ◌/◌, ◌%◌, ◌≤◌, ◌<◌}
 use native.Mathlib.Nat.{sub-zero, zero-add}
 use native.Mathlib.Numerals.{add-one}
@@ -12,19 +12,21 @@ use lib.ListN.{length, get_or, set, take, drop, length-drop, drop_of_length-le}
 use lib.Seq.{take_all, drop-drop, paste}
 use borrow.Rule.Slice.PartMut.{put_mid}
 use borrow.Author.Tests.{eqb-true, eqb-false}
+use Rattle.std.specs.Prelude as Code
+use Rattle.std.specs.Prelude.{SomeIff, Some, None}
+use Rattle.spec_tests.specs.Options.{option_of}
 use Rattle.spec_tests.specs.Rules.{each, list_of, sum_to}
 use Rattle.spec_rules.specs.Image.{count_at_of, signal_width, expr_width, decode}
 use Rattle.spec_model.specs.Words.{Netlist, absent}
 use Rattle.spec_model.specs.Lowering as M
 use Rattle.spec_model.specs.Lowering.{cell, driver_of}
-use Rattle.scratch_view.specs.View.{limit_of, signal_bit, net_at, driver_at, mark_at, first_at, expr_at, bit_at, known, net_word, is_set, is_whole, state_of, driver_word, Laid, Writes, Marks}
+use Rattle.scratch_view.specs.View.{limit_of, net_at, driver_at, mark_at, first_at, expr_at, bit_at, known, net_word, is_set, is_whole, state_of, driver_word, Laid, Writes, Marks}
 use Rattle.scratch_view.specs.Laws.{known_some, known_none, is_set_yes, is_set_no, Stored, stored_one, stored_paste, store_net, store_mark, store_signal, store_whole, store_range}
 use Rattle.scratch_view.specs.Reads.{read_signal, read_mark, read_signals, read_range, whole_net_law, known_range}
 use Rattle.scratch_view.specs.Rows.{at_list_of}
 use Rattle.scratch_view.specs.Copies.{PastedAt, paste_turn}
 use Rattle.scratch_view.specs.Drivers.{driver_inside, inside_low, word_none, word_some}
-use Rattle.scratch_tables.specs.Answers.{SignalPlace, ExprPlace, ExprNet, Small, driven_by}
-use Rattle.scratch_tables.specs.declared.Driver.TheVariants.{Nothing}
+use Rattle.scratch_tables.specs.Answers.{SignalPlace, ExprPlace, ExprNet, Small}
 
 -- the code's test of a word
 pub test : (x : ℕ) → not (eqb x 0) ≡ is_set x
@@ -33,6 +35,11 @@ test x = go (eqb x 0) refl
     go : (t : Bool) → eqb x 0 ≡ t → not t ≡ is_set x
     go true e = sym (is_set_no x (eqb-true x 0 e))
     go false e = sym (is_set_yes x (eqb-false x 0 e))
+
+-- a word less one, where there is one less, is the net that it says
+pub known_is : (x : ℕ) (o : Code.Option ℕ) → SomeIff o (1 ≤ x) (x - 1) → option_of o ≡ known x
+known_is x (Some n) h = ap (λ (k : ℕ). some k) h.1 ∙ sym (known_some x h.0)
+known_is x None h = sym (known_none x (omega arith))
 
 -- ---- places ----
 
@@ -79,7 +86,7 @@ module _ (s w : List ℕ) (p b r : ℕ) (h : Laid s w) (u : p < count_at_of s 0)
       let m : r + get_or w 1 0 ≡ driver_at s (limit_of w) p b = omega (arith, h.bits, a.at) in
       ap (λ (j : ℕ). get_or w j 0) m ∙ h.drivers p b u v
 
-  pub undriven_way : get_or w (r + get_or w 1 0) 0 ≡ 0 → driven_by Nothing ≡ driver_of (decode s) p b
+  pub undriven_way : get_or w (r + get_or w 1 0) 0 ≡ 0 → none ≡ driver_of (decode s) p b
   undriven_way e = sym (word_none (driver_of (decode s) p b) (sym driver_word_law ∙ e))
 
   pub driven_way : (get_or w (r + get_or w 1 0) 0 ≡ 0 → ⊥)
@@ -200,32 +207,36 @@ filled w nets r n m fits long e =
     subst (λ (x : List ℕ). Stored r n (λ i. suc (get_or nets i 0)) w x) (sym is)
     (record { long = st.long; inside = λ i u. st.inside i u ∙ sym (sucs_at nets i (omega arith)); other = st.other })
 
-module _ (s w nets m : List ℕ) (n : ℕ) (h : Laid s w) (long : n ≤ length nets) (small : Small n nets) where
-  pub keep_signals_way : (p r : ℕ) → p < count_at_of s 0 → n ≡ signal_width s p → SignalPlace s w p 0 r → m ≡ paste (take (length w - r) (drop r w)) 0 (map suc nets) n
-      → Writes (λ st. M.set_signal st p (take n nets)) s w (put_mid r (length w - r) w m)
+module _ (s w nets m : List ℕ) (h : Laid s w) (small : Small (length nets) nets) where
+  pub keep_signals_way : (p r : ℕ) → p < count_at_of s 0 → length nets ≡ signal_width s p → SignalPlace s w p 0 r → m ≡ paste (take (length w - r) (drop r w)) 0 (map suc nets) (length nets)
+      → Writes (λ st. M.set_signal st p nets) s w (put_mid r (length w - r) w m)
   keep_signals_way p r u q a e =
-      let st = filled w nets r n m (omega (arith, h.long, a.at, a.ends)) long e in
-      let st' : Stored (net_at s (limit_of w) p 0) (signal_width s p) (λ i. suc (get_or nets i 0)) w (put_mid r (length w - r) w m) =
-      subst (λ (k : ℕ). Stored (net_at s (limit_of w) p 0) k (λ i. suc (get_or nets i 0)) w (put_mid r (length w - r) w m)) q
-      (subst (λ (j : ℕ). Stored j n (λ i. suc (get_or nets i 0)) w (put_mid r (length w - r) w m)) a.at st) in
-      subst (λ (k : ℕ). Writes (λ st. M.set_signal st p (take k nets)) s w (put_mid r (length w - r) w m)) (sym q)
-      (store_signal s w (put_mid r (length w - r) w m) nets p h u (omega arith) (λ i v. small i (omega arith)) st')
+      let w' = put_mid r (length w - r) w m in
+      let st = filled w nets r (length nets) m (omega (arith, h.long, a.at, a.ends)) (omega arith) e in
+      let st' : Stored (net_at s (limit_of w) p 0) (signal_width s p) (λ i. suc (get_or nets i 0)) w w' =
+      subst (λ (k : ℕ). Stored (net_at s (limit_of w) p 0) k (λ i. suc (get_or nets i 0)) w w') q
+      (subst (λ (j : ℕ). Stored j (length nets) (λ i. suc (get_or nets i 0)) w w') a.at st) in
+      subst (λ (ns : List ℕ). Writes (λ st. M.set_signal st p ns) s w w') (take_all (signal_width s p) nets (omega arith))
+      (store_signal s w w' nets p h u (omega arith) (λ i v. small i (omega arith)) st')
 
-  pub keep_whole_way : (e r : ℕ) → e < count_at_of s 1 → n ≡ expr_width s e → ExprPlace s w e 0 r → m ≡ paste (take (length w - r) (drop r w)) 0 (map suc nets) n
-      → Writes (λ st. M.set_whole st e (take n nets)) s w (set (put_mid r (length w - r) w m) (get_or w 2 0 + 8 * e + 1) 1)
+  pub keep_whole_way : (e r : ℕ) → e < count_at_of s 1 → length nets ≡ expr_width s e → ExprPlace s w e 0 r → m ≡ paste (take (length w - r) (drop r w)) 0 (map suc nets) (length nets)
+      → Writes (λ st. M.set_whole st e nets) s w (set (put_mid r (length w - r) w m) (get_or w 2 0 + 8 * e + 1) 1)
   keep_whole_way e r u q a x =
       let w₁ = put_mid r (length w - r) w m in
       let flag = expr_at s (limit_of w) e 1 in
       let f : get_or w 2 0 + 8 * e + 1 ≡ flag = omega (arith, h.exprs) in
-      let st = filled w nets r n m (omega (arith, h.long, a.at, a.ends)) long x in
+      let st = filled w nets r (length nets) m (omega (arith, h.long, a.at, a.ends)) (omega arith) x in
       let st' : Stored (bit_at s (limit_of w) e 0) (expr_width s e) (λ i. suc (get_or nets i 0)) w w₁ =
-      subst (λ (k : ℕ). Stored (bit_at s (limit_of w) e 0) k (λ i. suc (get_or nets i 0)) w w₁) q (subst (λ (j : ℕ). Stored j n (λ i. suc (get_or nets i 0)) w w₁) a.at st) in
-      subst (λ (k : ℕ). Writes (λ st. M.set_whole st e (take k nets)) s w (set w₁ (get_or w 2 0 + 8 * e + 1) 1)) (sym q)
+      subst (λ (k : ℕ). Stored (bit_at s (limit_of w) e 0) k (λ i. suc (get_or nets i 0)) w w₁) q
+      (subst (λ (j : ℕ). Stored j (length nets) (λ i. suc (get_or nets i 0)) w w₁) a.at st) in
+      subst (λ (ns : List ℕ). Writes (λ st. M.set_whole st e ns) s w (set w₁ (get_or w 2 0 + 8 * e + 1) 1)) (take_all (expr_width s e) nets (omega arith))
       (subst (λ (j : ℕ). Writes (λ st. M.set_whole st e (take (expr_width s e) nets)) s w (set w₁ j 1)) (sym f)
       (store_whole s w w₁ (set w₁ flag 1) nets e h u (omega arith) (λ i v. small i (omega arith)) st' (stored_one flag 1 w₁ (omega (arith, h.long, st.long)))))
 
-  pub keep_range_way : (e lsb r : ℕ) → e < count_at_of s 1 → lsb + n ≤ expr_width s e → is_whole s (limit_of w) w e ≡ false → ExprPlace s w e lsb r
-      → m ≡ paste (take (length w - r) (drop r w)) 0 (map suc nets) n → Writes (λ st. M.set_range st e lsb (take n nets)) s w (put_mid r (length w - r) w m)
+  pub keep_range_way : (e lsb r : ℕ) → e < count_at_of s 1 → lsb + length nets ≤ expr_width s e → is_whole s (limit_of w) w e ≡ false → ExprPlace s w e lsb r
+      → m ≡ paste (take (length w - r) (drop r w)) 0 (map suc nets) (length nets) → Writes (λ st. M.set_range st e lsb nets) s w (put_mid r (length w - r) w m)
   keep_range_way e lsb r u v z a x =
-      store_range s w (put_mid r (length w - r) w m) nets e lsb n h u v long small z
-      (subst (λ (j : ℕ). Stored j n (λ i. suc (get_or nets i 0)) w (put_mid r (length w - r) w m)) a.at (filled w nets r n m (omega (arith, h.long, a.at, a.ends)) long x))
+      let w' = put_mid r (length w - r) w m in
+      subst (λ (ns : List ℕ). Writes (λ st. M.set_range st e lsb ns) s w w') (take_all (length nets) nets (omega arith))
+      (store_range s w w' nets e lsb (length nets) h u v (omega arith) small z
+      (subst (λ (j : ℕ). Stored j (length nets) (λ i. suc (get_or nets i 0)) w w') a.at (filled w nets r (length nets) m (omega (arith, h.long, a.at, a.ends)) (omega arith) x)))

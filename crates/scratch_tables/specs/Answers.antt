@@ -1,23 +1,10 @@
--- What the answers of the tables stand for, and what reading a net of an expression gives.
+-- Where the tables have their nets, and what reading a net of an expression gives.
 use Rattle.std.specs.Prelude.{ℕ, ◌≤◌, ◌<◌, true, List, ◌≡◌, get_or}
-use Rattle.std.proofs.Math.Option.{Option, none, some}
 use Rattle.spec_model.specs.Words.{Netlist, absent}
 use Rattle.spec_model.specs.Lowering.{whole_net, range_nets}
 use Rattle.spec_rules.specs.Image.{signal_width, expr_width}
 use Rattle.spec_rules.specs.Checks.{signal_bits, expr_bits}
 use Rattle.scratch_view.specs.View.{limit_of, signal_bit, expr_bit, net_at, bit_at, is_whole, state_of}
-use Rattle.scratch_tables.specs.declared.Known.{Known}
-use Rattle.scratch_tables.specs.declared.Known.TheVariants.{Net, Absent}
-use Rattle.scratch_tables.specs.declared.Driver.{Driver}
-use Rattle.scratch_tables.specs.declared.Driver.TheVariants.{Expr, Nothing}
-
-abbrev pub known_of : Known → Option ℕ
-known_of (Net n) = some n
-known_of Absent = none
-
-abbrev pub driven_by : Driver → Option (ℕ × ℕ)
-driven_by (Expr e b) = some (e, b)
-driven_by Nothing = none
 
 -- where bit b of signal p, and of expression e, has its net; its stretch ends within the table
 pub record SignalPlace (s w : List ℕ) (p b r : ℕ) : Type 0 where

@@ -4,39 +4,23 @@
 
 ghost use Rattle.std.specs.Prelude.{◌≡◌, false, map, suc, ◌+◌, ◌≤◌, ◌<◌, length, get_or, set, take};
 ghost use Rattle.std.proofs.Math.Seq.{paste};
+ghost use Rattle.spec_tests.specs.Options.{option_of};
 ghost use Rattle.spec_tests.specs.Rules.{list_of};
 ghost use Rattle.spec_rules.specs.Image.{count_at_of, signal_width, expr_width, decode};
 ghost use Rattle.spec_model.specs.Words.{Netlist};
 ghost use Rattle.spec_model.specs.Lowering.{cell, signal_bit, signal_nets, range_nets, range_known, all_some, set_signal_bit, set_signal, set_whole, set_range, driver_of};
 ghost use Rattle.scratch_view.specs.View.{limit_of, known, net_word, is_whole, state_of, Laid, Writes, Marks};
-ghost use Rattle.scratch_tables.specs.Answers.{known_of, driven_by, SignalPlace, ExprPlace, ExprNet, Small};
+ghost use Rattle.scratch_tables.specs.Answers.{SignalPlace, ExprPlace, ExprNet, Small};
 
 use image_numbers::ABSENT;
 
-// A net that may not be there yet.
-#[derive(Clone, Copy)]
-pub enum Known {
-    Net(u32),
-    Absent,
-}
-
-// What drives a signal's bit: a bit of an expression, or no assignment.
-#[derive(Clone, Copy)]
-pub enum Driver {
-    Expr(u32, u32),
-    Nothing,
-}
-
 // ---- words and places ----
 
-fn as_known(x: u32) -> Known
-    ensures { known_of result ≡ known x }
+// The net that a word says, if it is there yet.
+fn as_known(x: u32) -> Option<u32>
+    ensures { option_of result ≡ known x }
 {
-    if x == 0 {
-        Known::Absent
-    } else {
-        Known::Net(x - 1)
-    }
+    x.checked_sub(1)
 }
 
 fn net_word(x: u32) -> u32
@@ -68,9 +52,9 @@ fn expr_place(image: &[u8], scr: &[u32], e: u32, b: u32) -> usize
 
 // ---- signal bits ----
 
-pub fn signal_net(image: &[u8], scr: &[u32], p: u32, b: u32) -> Known
+pub fn signal_net(image: &[u8], scr: &[u32], p: u32, b: u32) -> Option<u32>
     requires { (Laid image.now scr.now) × (p < count_at_of image.now 0) × (b < signal_width image.now p) }
-    ensures { (l : Netlist) → known_of result ≡ signal_bit (state_of image.now l scr.now) p b }
+    ensures { (l : Netlist) → option_of result ≡ signal_bit (state_of image.now l scr.now) p b }
 {
     let at = signal_place(image, scr, p, b);
     as_known(scr[at])
@@ -101,16 +85,17 @@ pub fn mark_signal(image: &[u8], scr: &mut [u32], p: u32, b: u32)
     scr[at] = 1;
 }
 
-pub fn driver_of(image: &[u8], scr: &[u32], p: u32, b: u32) -> Driver
+// The expression and its bit that drive a signal's bit, if an assignment does.
+pub fn driver_of(image: &[u8], scr: &[u32], p: u32, b: u32) -> Option<(u32, u32)>
     requires { (Laid image.now scr.now) × (p < count_at_of image.now 0) × (b < signal_width image.now p) }
-    ensures { driven_by result ≡ driver_of (decode image.now) p b }
+    ensures { option_of result ≡ driver_of (decode image.now) p b }
 {
     let at = signal_place(image, scr, p, b) + scr[scratch_view::SIGNAL_BITS] as usize;
     let x = scr[at];
     if x == 0 {
-        return Driver::Nothing;
+        return None;
     }
-    Driver::Expr(x / 1024 - 1, x % 1024)
+    Some((x / 1024 - 1, x % 1024))
 }
 
 // ---- expression bits ----
@@ -188,54 +173,46 @@ pub fn copy_range(image: &[u8], scr: &[u32], e: u32, lsb: u32, n: u32, out: &mut
 
 // ---- stretches ----
 
-// A net of the stretch that part begins with.
-fn put_bit(part: &mut [u32], i: u32, x: u32)
-    requires { (i < length part.old) × (x < 65535) }
-    ensures { part.new ≡ set part.old i (suc x) }
+// The nets, into the stretch that part begins with.
+fn fill(part: &mut [u32], nets: &[u32])
+    requires { (length nets.now ≤ length part.old) × Small (length nets.now) nets.now }
+    ensures { part.new ≡ paste part.old 0 (map suc nets.now) (length nets.now) }
 {
-    part[i as usize] = x + 1;
-}
-
-// The first n nets, into the stretch that part begins with.
-fn fill(part: &mut [u32], nets: &[u32], n: u32)
-    requires { (n ≤ length part.old) × (n ≤ length nets.now) × Small n nets.now }
-    ensures { part.new ≡ paste part.old 0 (map suc nets.now) n }
-{
-    for i in 0..n {
-        put_bit(part, i, nets[i as usize]);
+    for (i, x) in nets.iter().enumerate() {
+        part[i] = *x + 1;
     }
 }
 
-// All nets of a signal, n of them.
-pub fn keep_signals(image: &[u8], scr: &mut [u32], p: u32, nets: &[u32], n: u32)
-    requires { (Laid image.now scr.old) × (p < count_at_of image.now 0) × (n ≡ signal_width image.now p) × (n ≤ length nets.now) × Small n nets.now }
-    ensures { Writes (λ st. set_signal st p (take n nets.now)) image.now scr.old scr.new }
+// All nets of a signal.
+pub fn keep_signals(image: &[u8], scr: &mut [u32], p: u32, nets: &[u32])
+    requires { (Laid image.now scr.old) × (p < count_at_of image.now 0) × (length nets.now ≡ signal_width image.now p) × Small (length nets.now) nets.now }
+    ensures { Writes (λ st. set_signal st p nets.now) image.now scr.old scr.new }
 {
     let at = signal_place(image, scr, p, 0);
-    fill(&mut scr[at..], nets, n);
+    fill(&mut scr[at..], nets);
 }
 
-// All nets of an expression, n of them: it is whole.
-pub fn keep_whole(image: &[u8], scr: &mut [u32], e: u32, nets: &[u32], n: u32)
-    requires { (Laid image.now scr.old) × (e < count_at_of image.now 1) × (n ≡ expr_width image.now e) × (n ≤ length nets.now) × Small n nets.now }
-    ensures { Writes (λ st. set_whole st e (take n nets.now)) image.now scr.old scr.new }
+// All nets of an expression: it is whole.
+pub fn keep_whole(image: &[u8], scr: &mut [u32], e: u32, nets: &[u32])
+    requires { (Laid image.now scr.old) × (e < count_at_of image.now 1) × (length nets.now ≡ expr_width image.now e) × Small (length nets.now) nets.now }
+    ensures { Writes (λ st. set_whole st e nets.now) image.now scr.old scr.new }
 {
     let flag = scr[scratch_view::ROWS] as usize
         + scratch_view::ROW * (e as usize)
         + scratch_view::WHOLE;
     let at = expr_place(image, scr, e, 0);
-    fill(&mut scr[at..], nets, n);
+    fill(&mut scr[at..], nets);
     scr[flag] = 1;
 }
 
-// The nets of a range of an expression, n of them; a whole one has them already.
-pub fn keep_range(image: &[u8], scr: &mut [u32], e: u32, lsb: u32, nets: &[u32], n: u32)
-    requires { (Laid image.now scr.old) × (e < count_at_of image.now 1) × (lsb + n ≤ expr_width image.now e) × (n ≤ length nets.now) × Small n nets.now }
-    ensures { Writes (λ st. set_range st e lsb (take n nets.now)) image.now scr.old scr.new }
+// The nets of a range of an expression, from bit lsb on; a whole one has them already.
+pub fn keep_range(image: &[u8], scr: &mut [u32], e: u32, lsb: u32, nets: &[u32])
+    requires { (Laid image.now scr.old) × (e < count_at_of image.now 1) × (lsb + length nets.now ≤ expr_width image.now e) × Small (length nets.now) nets.now }
+    ensures { Writes (λ st. set_range st e lsb nets.now) image.now scr.old scr.new }
 {
     if is_whole(image, scr, e) {
         return;
     }
     let at = expr_place(image, scr, e, lsb);
-    fill(&mut scr[at..], nets, n);
+    fill(&mut scr[at..], nets);
 }

@@ -1,12 +1,13 @@
 -- The tests of `is_record` one after the other, and that a record given ends with the list words used. Assumes nothing.
-use Rattle.std.specs.Prelude.{ℕ, ◌+◌, ◌-◌, ◌<◌, ◌≤◌, Bool, true, false, ◌≡◌, length, take, drop}
+use Rattle.std.specs.Prelude.{ℕ, ◌+◌, ◌-◌, ◌<◌, ◌≤◌, Bool, true, false, ◌≡◌, length, take, drop, Option, Some, None, unwrap_or}
+use Rattle.std.specs.Option.{is_some}
 use Rattle.std.proofs.Math.Bool.{not}
 use Rattle.std.proofs.Common.{true≢false, sym, ◌∙◌}
 use Rattle.std.proofs.Math.Path.{refl, ap}
 use mathlib.Core.List.{List, [], ◌∷◌}
 use native.Mathlib.Omega.{arith}
 use Rattle.std.proofs.Math.ListN.{get_or, length-take}
-use Rattle.spec_tests.specs.Rules.{◌<?◌}
+use Rattle.spec_tests.specs.Rules.{◌<?◌, pick}
 use Rattle.spec_tests.specs.Laws.{and_miss, and_skip, and_yes, pick_hit, pick_skip, lt_yes, lt_no, yes_lt, no_lt}
 use Rattle.spec_rules.specs.NetlistImage.{node_word, record_length}
 use Rattle.spec_netlist.specs.Accept.{used, list_at_of}
@@ -70,3 +71,14 @@ not_told_true {b = false} e q = sym e
 pub not_told_false : {b a : Bool} → b ≡ a → not b ≡ false → a ≡ true
 not_told_false {b = true} e q = sym e
 not_told_false {b = false} e q = absurd (true≢false q)
+
+-- what is given or, where nothing is, as many zeros; whether something is given
+pub given_or : {b : Bool} {xs zeros : List ℕ} {o : Option (List ℕ)} → o ≡ pick b (Some xs) None → (b ≡ false → zeros ≡ xs) → unwrap_or o zeros ≡ xs
+unfolding pick
+given_or {b = true} {xs} {zeros} e f = ap (λ (x : Option (List ℕ)). unwrap_or x zeros) e
+given_or {b = false} {xs} {zeros} e f = ap (λ (x : Option (List ℕ)). unwrap_or x zeros) e ∙ f refl
+
+pub given_told : {b : Bool} (xs : List ℕ) {o : Option (List ℕ)} → o ≡ pick b (Some xs) None → is_some o ≡ b
+unfolding pick
+given_told {b = true} xs e = ap is_some e
+given_told {b = false} xs e = ap is_some e

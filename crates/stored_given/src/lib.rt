@@ -14,21 +14,21 @@ pub fn is_node(net: &[u32], n: u32) -> bool
     n < net_words::word_at(net, NET_COUNT)
 }
 
-// Its six words: kind, owner or constant value, bit, three inputs; all 0 where there is none.
-pub fn node(net: &[u32], n: u32) -> [u32; 6]
-    ensures { result ≡ node_given net.now n }
+// Its six words, if there is one: kind, owner or constant value, bit, three inputs.
+pub fn node(net: &[u32], n: u32) -> Option<[u32; 6]>
+    ensures { result ≡ pick (is_node net.now n) (Some (node_given net.now n)) None }
 {
     if !is_node(net, n) {
-        return [0; 6];
+        return None;
     }
-    [
+    Some([
         net_words::node_word(net, n, 0),
         net_words::node_word(net, n, 1),
         net_words::node_word(net, n, 2),
         net_words::node_word(net, n, 3),
         net_words::node_word(net, n, 4),
         net_words::node_word(net, n, 5),
-    ]
+    ])
 }
 
 // The list words used from list word p on.
@@ -37,7 +37,7 @@ fn list_from(net: &[u32], p: u32) -> &[u32]
 {
     let used = net_words::word_at(net, LIST_USED);
     if used <= p {
-        return net_words::stretch(net, 0, 0);
+        return &[];
     }
     net_words::stretch(
         net,
@@ -60,24 +60,21 @@ pub fn is_record(net: &[u32], p: u32) -> bool
     !(l.len() < net_words::record_length(l))
 }
 
-// Its sort, its length and the list word after it; all 0 where they cannot.
-pub fn record(net: &[u32], p: u32) -> [u32; 3]
-    ensures { result ≡ record_given net.now p }
+// Its sort, its length and the list word after it, where they can.
+pub fn record(net: &[u32], p: u32) -> Option<[u32; 3]>
+    ensures { result ≡ pick (is_record net.now p) (Some (record_given net.now p)) None }
 {
     if !is_record(net, p) {
-        return [0; 3];
+        return None;
     }
     let l = list_from(net, p);
     let length = net_words::record_length(l) as u32;
-    [net_words::word_at(l, 0), length, p + length]
+    Some([net_words::word_at(l, 0), length, p + length])
 }
 
 // 1 where something is given, 0 where it is not.
 pub fn flag(given: bool) -> u32
     ensures { result ≡ pick given 1 0 }
 {
-    if given {
-        return 1;
-    }
-    0
+    u32::from(given)
 }

@@ -2,7 +2,7 @@
 #![tactic(auto)]
 
 ghost use Rattle.std.specs.Prelude.{◌≡◌, min, length};
-ghost use Rattle.spec_tests.specs.Rules.{first};
+ghost use Rattle.spec_tests.specs.Options.{first_of};
 ghost use Rattle.spec_netlist.specs.Accept.{wrong_header};
 ghost use Rattle.stored_header.specs.Header.{too_short, wrong_offset};
 
@@ -33,49 +33,35 @@ fn wrong_word(net: &[u32], i: usize) -> bool
     ensures { result ≡ wrong_header net.now i }
 {
     let w = net_words::word_at(net, i);
-    if i == 0 {
-        return w != 1;
+    match i {
+        0 => w != 1,
+        1 => 65535 < w,
+        2 => w != NODES_START,
+        3 => 65535 < w,
+        4 => wrong_offset(net_words::word_at(net, NET_COUNT), w),
+        5..=9 => false,
+        _ => w != 0,
     }
-    if i == 1 {
-        return 65535 < w;
-    }
-    if i == 2 {
-        return w != NODES_START;
-    }
-    if i == 3 {
-        return 65535 < w;
-    }
-    if i == 4 {
-        return wrong_offset(net_words::word_at(net, NET_COUNT), w);
-    }
-    if i < 10 {
-        return false;
-    }
-    w != 0
 }
 
 // The header words that are there.
 pub fn header_words(net: &[u32]) -> usize
     ensures { result ≡ min 16 (length net.now) }
 {
-    if net.len() < HEADER_LENGTH {
-        net.len()
-    } else {
-        HEADER_LENGTH
-    }
+    net.len().min(HEADER_LENGTH)
 }
 
-// The first header word that is wrong; the number of those that are there where none is.
-pub fn first_word(net: &[u32]) -> usize
-    ensures { result ≡ first (wrong_header net.now) (min 16 (length net.now)) }
+// The first header word that is wrong, of those that are there.
+pub fn first_word(net: &[u32]) -> Option<usize>
+    ensures { result ≡ first_of (wrong_header net.now) (min 16 (length net.now)) }
 {
     let n = header_words(net);
     for i in 0..n {
         if wrong_word(net, i) {
-            return i;
+            return Some(i);
         }
     }
-    n
+    None
 }
 
 // The slice ends too early.

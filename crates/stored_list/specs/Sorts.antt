@@ -1,13 +1,15 @@
 -- A record's words after its first, by its sort: the test of a word, and the record's length. Assumes nothing.
-use Rattle.std.specs.Prelude.{ℕ, ◌+◌, ◌*◌, ◌<◌, ◌≤◌, Bool, true, false, not, ◌≡◌, List, length, get_or}
-use Rattle.std.proofs.Common.{true≢false, ap, ◌∙◌, arith}
+use Rattle.std.specs.Prelude.{ℕ, ◌+◌, ◌*◌, ◌<◌, ◌≤◌, Bool, true, false, not, ◌≡◌, List, length, get_or, Option, Some}
+use Rattle.std.proofs.Common.{true≢false, ap, ap₂, ◌∙◌, arith}
 use Rattle.std.proofs.Math.Path.{refl, sym}
 use Rattle.spec_tests.specs.Rules.{◌<?◌, ◌or◌, first}
 use Rattle.spec_tests.specs.Laws.{from, begins, here, passed, or_no, pick_hit, pick_skip, eq_yes, eq_no, no_lt}
 use Rattle.spec_rules.specs.NetlistImage.{record_length}
 use Rattle.spec_netlist.specs.Accept.{extent, wrong_port, wrong_register, wrong_memory, wrong_arithmetic, wrong_comparison, wrong_word}
 use Rattle.law_told.specs.Told.{other_extent, length_some}
+use Rattle.spec_tests.specs.Options.{first_of, first_some}
 use Rattle.stored_view.specs.Scan.{from_ext}
+use Rattle.stored_view.specs.Found.{below, first_of_below}
 
 -- what the first word's test tells
 pub fits_no : {a : Bool} → not a ≡ true → a ≡ false
@@ -110,3 +112,27 @@ module _ (ws : List ℕ) (earlier : List (List ℕ)) (l : List ℕ) where
     comparison_first e =
         by (wrong_comparison ws earlier l) _ (comparison_length l e)
         (λ i h. sym (pick_skip _ (eq_no i 0 (λ z. omega arith)) (pick_skip _ (eq_no _ 0 (λ z. omega arith)) (pick_skip _ (eq_no _ 1 (λ z. omega arith)) (pick_skip _ (eq_no _ 2 (λ z. omega arith)) (pick_skip _ (eq_no _ 3 (λ z. omega arith)) refl))))))
+
+    -- ---- the place of the first wrong word, if there is one ----
+
+    told_by : {k m : ℕ} {r : Option ℕ} → k ≡ record_length l → m ≡ first (wrong_word ws earlier l) (record_length l) → r ≡ below k m → r ≡ first_of (wrong_word ws earlier l) (record_length l)
+    told_by e f q = q ∙ (ap₂ below e (f ∙ begins (wrong_word ws earlier l) (record_length l)) ∙ sym (first_of_below (wrong_word ws earlier l) (record_length l)))
+
+    pub port_found : get_or l 0 0 ≡ 0 → {r : Option ℕ} → r ≡ below (3 + get_or l 2 0) (from (wrong_port ws earlier l) (3 + get_or l 2 0) 1) → r ≡ first_of (wrong_word ws earlier l) (record_length l)
+    port_found e q = told_by (port_length_law l e) (port_first e refl) q
+
+    pub register_found : get_or l 0 0 ≡ 1 → {r : Option ℕ} → r ≡ below 13 (from (wrong_register ws earlier l) 13 1) → r ≡ first_of (wrong_word ws earlier l) (record_length l)
+    register_found e q = told_by (register_length l e) (register_first e refl) q
+
+    pub memory_found : get_or l 0 0 ≡ 2 → {r : Option ℕ} → r ≡ below (record_length l) (from (wrong_memory ws earlier l) (record_length l) 1) → r ≡ first_of (wrong_word ws earlier l) (record_length l)
+    memory_found e q = told_by refl (memory_first e refl) q
+
+    pub arithmetic_found : get_or l 0 0 ≡ 3 → {r : Option ℕ} → r ≡ below (4 + 3 * get_or l 2 0) (from (wrong_arithmetic ws earlier l) (4 + 3 * get_or l 2 0) 1) → r ≡ first_of (wrong_word ws earlier l) (record_length l)
+    arithmetic_found e q = told_by (arithmetic_length l e) (arithmetic_first e refl) q
+
+    pub comparison_found : get_or l 0 0 ≡ 4 → {r : Option ℕ} → r ≡ below (4 + 2 * get_or l 2 0) (from (wrong_comparison ws earlier l) (4 + 2 * get_or l 2 0) 1) → r ≡ first_of (wrong_word ws earlier l) (record_length l)
+    comparison_found e q = told_by (comparison_length l e) (comparison_first e refl) q
+
+  -- its first word is wrong
+  pub first_word_found : not ((4 <? get_or l 0 0) or (length l <? extent l)) ≡ false → Some 0 ≡ first_of (wrong_word ws earlier l) (record_length l)
+  first_word_found e = sym (first_some (wrong_word ws earlier l) (record_length l) 0 (length_some l) (sym (first_wrong_law e)))

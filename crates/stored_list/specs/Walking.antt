@@ -1,9 +1,9 @@
 -- The list's records up to list word p are judged: what is known of the answer, of the records so far, of marks and counts. Assumes nothing.
-use Rattle.std.specs.Prelude.{ℕ, zero, suc, ◌+◌, ◌-◌, ◌<◌, ◌≤◌, Bool, true, false, ◌≡◌, refl, List, [], ◌∷◌, ◌++◌, length, take, drop, get_or}
+use Rattle.std.specs.Prelude.{ℕ, zero, suc, ◌+◌, ◌-◌, ◌<◌, ◌≤◌, Bool, true, false, ◌≡◌, refl, List, [], ◌∷◌, ◌++◌, length, take, drop, get_or, Option, Some, None}
 use Rattle.std.proofs.Common.{true≢false, sym, ◌∙◌, subst, append-nil, append_assoc, length-append, length-take, length-drop, eq-or-lt_of_le, ⊎_elim, drop-drop, get_or-take}
 use Rattle.std.proofs.Math.Path.{ap, ap₂}
 use native.Mathlib.Omega.{arith}
-use Rattle.spec_tests.specs.Rules.{◌<?◌, ◌≡?◌, ◌≢?◌, pick, first, up_to, only, Fine, Refused}
+use Rattle.spec_tests.specs.Rules.{◌<?◌, ◌≡?◌, ◌≢?◌, pick, first, up_to, only, Answer, Fine, Refused}
 use Rattle.spec_tests.specs.Laws.{none, first_most, pick_hit, pick_skip, lt_yes, lt_no, eq_yes, ne_no, no_lt, yes_eq, no_eq, or_no}
 use Rattle.spec_rules.specs.NetlistImage.{record_length, split, records_of}
 use Rattle.spec_netlist.specs.Accept.{nets, used, list_at_of, ports_length, extent, count_of, taken, wrong_word, judged, list_answer}
@@ -11,6 +11,8 @@ use Rattle.law_told.specs.Walked.{drop_take}
 use Rattle.law_told.specs.Told.{length_some, other_extent, memory_length_law}
 use Rattle.law_told.proofs.Told.{right_extent, fits}
 use Rattle.stored_list.specs.Sorts.{word_first}
+use Rattle.spec_tests.specs.Options.{first_of}
+use Rattle.stored_view.specs.Found.{some_first, none_first}
 use Rattle.stored_view.specs.Opened.{Opened, Marked, Counted}
 
 -- the list words used from list word p on
@@ -295,3 +297,26 @@ counts_room w o t h =
     let v = w.within in
     let u = o.few_words_of in
     omega arith
+
+-- ---- the place found ----
+
+-- the list's answer for the list word that is wrong, if there is one
+abbrev pub told_at : List ℕ → Option ℕ → Answer
+told_at ws (Some i) = Refused 11 (list_at_of ws + i) 0
+told_at ws None = Fine
+
+module _ {ws : List ℕ} {p : ℕ} {marks counts : List ℕ} (w : Walking ws p marks counts) (o : Opened ws) where
+  module _ (h : p < used ws) {l : List ℕ} (e : l ≡ list_from ws p) where
+    pub met_found : {i : ℕ} → Some i ≡ first_of (wrong_word ws w.earlier l) (record_length l) → list_answer ws ≡ told_at ws (Some (p + i))
+    met_found t =
+        let s = some_first _ t in
+        met_wrong w o h e refl s.1 s.0 ∙ sym (pick_hit _ (lt_yes _ _ (met_inside w o h e refl s.1 s.0)) refl)
+
+    pub met_room : {i : ℕ} → Some i ≡ first_of (wrong_word ws w.earlier l) (record_length l) → p + i < used ws
+    met_room t = let s = some_first _ t in met_inside w o h e refl s.1 s.0
+
+    pub met_clean : {k : ℕ} → k ≡ record_length l → None ≡ first_of (wrong_word ws w.earlier l) (record_length l) → k ≤ first (wrong_word ws w.earlier l) (record_length l)
+    met_clean q t = omega (arith, q, none_first _ t)
+
+  pub last_told : used ws ≤ p → list_answer ws ≡ told_at ws None
+  last_told h = last_answer w o h ∙ sym (pick_skip _ (lt_no (used ws) (used ws) (omega arith)) refl)

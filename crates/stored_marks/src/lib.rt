@@ -20,7 +20,7 @@ fn ports_fit(l: &[u32]) -> bool
     }
     let ports = l[5];
     let mut at: usize = 6;
-    for i in 0..ports {
+    for _port in 0..ports {
         at += net_words::port_length(net_words::part(l, at));
         if l.len() < at {
             return false;
@@ -73,11 +73,8 @@ fn own(r: &[u32]) -> &[u32]
 fn second_own(r: &[u32]) -> &[u32]
     ensures { result.now ≡ second_own r.now }
 {
-    if net_words::word_at(r, 0) != MEMORY_RECORD {
-        return net_words::stretch(r, 0, 0);
-    }
-    if net_words::word_at(r, 5) != 2 {
-        return net_words::stretch(r, 0, 0);
+    if net_words::word_at(r, 0) != MEMORY_RECORD || net_words::word_at(r, 5) != 2 {
+        return &[];
     }
     let first = net_words::port_length(net_words::part(r, 6));
     port_own(net_words::part(r, 6 + first))
@@ -88,28 +85,27 @@ fn mark_one(marks: &mut [u16], x: u32)
     ensures { (y : ℕ) → y < length marks.old → (get_or marks.new y 0 ≢? 0) ≡ (get_or marks.old y 0 ≢? 0 or y ≡? x) }
 {
     let at = x as usize;
-    if marks.len() <= at {
-        return;
+    if at < marks.len() {
+        marks[at] = 1;
     }
-    marks[at] = 1;
 }
 
 // Marks these nets.
 fn mark(marks: &mut [u16], own: &[u32])
     ensures { (x : ℕ) → x < length marks.old → (get_or marks.new x 0 ≢? 0) ≡ (get_or marks.old x 0 ≢? 0 or member x own.now) }
 {
-    for i in 0..own.len() {
-        mark_one(marks, own[i]);
+    for x in own {
+        mark_one(marks, *x);
     }
 }
 
 // Marks the own nets of record r and counts it.
-pub fn keep(marks: &mut [u16], counts: &mut [u32], r: &[u32])
-    requires { (get_or r.now 0 0 < 5) × (length counts.old ≡ 5) × ((t : ℕ) → t < 5 → get_or counts.old t 0 < 4294967295) }
+pub fn keep(marks: &mut [u16], counts: &mut [u32; 5], r: &[u32])
+    requires { (get_or r.now 0 0 < 5) × ((t : ℕ) → t < 5 → get_or counts.old t 0 < 4294967295) }
     ensures { (ws : List ℕ) (earlier : List (List ℕ)) → nets ws ≤ length marks.old → Marked ws earlier marks.old → Counted earlier counts.old → (Marked ws (earlier ++ (r.now ∷ [])) marks.new) × (Counted (earlier ++ (r.now ∷ [])) counts.new) }
 {
     mark(marks, own(r));
     mark(marks, second_own(r));
     let sort = net_words::word_at(r, 0) as usize;
-    counts[sort] = counts[sort] + 1;
+    counts[sort] += 1;
 }

@@ -1,11 +1,13 @@
 -- A memory's record: its first words, where its ports lie in it, and its length as the port count says it. Assumes nothing.
-use Rattle.std.specs.Prelude.{ℕ, ◌+◌, ◌≤◌, ◌<◌, Bool, true, false, ◌≡◌, List, ltb, length, drop, get_or}
+use Rattle.std.specs.Prelude.{ℕ, ◌+◌, ◌≤◌, ◌<◌, Bool, true, false, ◌≡◌, List, ltb, length, drop, get_or, Option, Some, None}
 use Rattle.std.proofs.Math.Path.{refl, sym}
 use Rattle.std.proofs.Common.{ap, ap₂, ◌∙◌, subst, arith, ltb-true, length-drop, drop-drop}
 use Rattle.spec_tests.specs.Rules.{◌<?◌, ◌≡?◌, ◌≢?◌, pick, outside, first}
 use Rattle.spec_tests.specs.Laws.{from, begins, pick_hit, pick_skip, lt_yes, lt_no, eq_yes, eq_no, yes_eq, no_eq}
 use Rattle.spec_rules.specs.NetlistImage.{port_length, record_length}
 use Rattle.spec_netlist.specs.Accept.{ports_length, extent, wrong_memory_port, wrong_memory}
+use Rattle.spec_tests.specs.Options.{first_of}
+use Rattle.stored_view.specs.Found.{below, below_hit, below_end, some_first, none_first, join_hit, join_skip}
 use Rattle.stored_view.specs.Scan.{from_moved, stretch_hit, stretch_skip, at_hit, at_skip, at_end_law}
 use Rattle.stored_memories.specs.Ports.{lists_end, port_long}
 
@@ -182,3 +184,53 @@ module _ (ws : List ℕ) (earlier : List (List ℕ)) (l : List ℕ) where
           let v = from_moved two wrong (6 + port_length (drop 6 l)) (port_length (drop (6 + port_length (drop 6 l)) l)) 0 (omega arith) second_port_is in
           let z : 6 + port_length (drop 6 l) + 0 ≡ 6 + port_length (drop 6 l) = omega arith in
           first_right b (ap₂ (λ (i j : ℕ). i + j) ends u ∙ (v ∙ ap₂ (from wrong) (sym n) z))
+
+  -- ---- the place of the first wrong word ----
+
+  module _ (sort : get_or l 0 0 ≡ 2) where
+    abbrev whole : ℕ → Option ℕ
+    whole i = below (record_length l) (from (wrong_memory ws earlier l) (record_length l) i)
+
+    pub fields_found : {i : ℕ} → Some i ≡ below 6 (from (wrong_memory ws earlier l) 6 1) → Some i ≡ whole 1
+    fields_found t = join_hit wrong (record_length l) 1 6 (omega arith) (omega (arith, record_least l sort)) t
+
+    pub fields_clean : None ≡ below 6 (from (wrong_memory ws earlier l) 6 1) → {r : Option ℕ} → r ≡ whole 6 → r ≡ whole 1
+    fields_clean t u = join_skip wrong (record_length l) 1 6 (omega arith) (omega (arith, record_least l sort)) t u
+
+    module _ {p : List ℕ} (part : p ≡ drop 6 l) where
+      abbrev one_of : ℕ → Bool
+      one_of = wrong_memory_port ws earlier (get_or l 1 0) (get_or l 7 0) 0 p
+
+      port_end : 6 + port_length p ≡ 6 + port_length (drop 6 l)
+      port_end = ap (λ (x : List ℕ). 6 + port_length x) part
+
+      pub first_found : {i : ℕ} → Some i ≡ first_of one_of (port_length p) → Some (6 + i) ≡ whole 6
+      first_found {i} t =
+          let s = some_first one_of t in
+          below_hit (omega (arith, s.0, port_end, record_least l sort)) (first_wrong_law sort part refl s.1 (omega (arith, s.0)))
+
+      module _ (t : None ≡ first_of one_of (port_length p)) where
+        pub alone_clean : get_or l 5 0 ≡ 1 → None ≡ whole 6
+        alone_clean e =
+            let f = first_alone sort part refl refl (omega (arith, none_first one_of t)) e in
+            below_end (omega (arith, f, port_end, record_one l sort e))
+
+        module _ {k : ℕ} (long : k ≡ port_length p) {p' : List ℕ} (other : p' ≡ drop (6 + k) l) (e : get_or l 5 0 ≡ 2) where
+          abbrev two_of : ℕ → Bool
+          two_of = wrong_memory_port ws earlier (get_or l 1 0) (get_or l 7 0) (get_or l 7 0) p'
+
+          second_at : {s : ℕ} → s ≡ first two_of (port_length p') → 6 + k + s ≡ from (wrong_memory ws earlier l) (record_length l) 6
+          second_at u = second_answers sort part long refl other (omega (arith, long, none_first one_of t)) e u
+
+          second_end : record_length l ≡ 6 + k + port_length p'
+          second_end =
+              let z : 6 + port_length (drop 6 l) ≡ 6 + k = omega (arith, port_end, long) in
+              record_two l sort e ∙ ap₂ (λ (n : ℕ) (x : List ℕ). n + port_length x) z (ap (λ (n : ℕ). drop n l) z ∙ sym other)
+
+          pub second_found : {i : ℕ} → Some i ≡ first_of two_of (port_length p') → Some (6 + k + i) ≡ whole 6
+          second_found u =
+              let s = some_first two_of u in
+              below_hit (omega (arith, s.0, second_end)) (second_at s.1)
+
+          pub second_clean : None ≡ first_of two_of (port_length p') → None ≡ whole 6
+          second_clean u = below_end (omega (arith, none_first two_of u, second_end, second_at refl))

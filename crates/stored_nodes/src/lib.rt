@@ -1,12 +1,14 @@
 // The nodes' words. A node with an earlier one's kind, owner and bit is found in a tree in a lent table, in at most 48 steps.
 #![tactic(auto)]
 
-ghost use Rattle.std.specs.Prelude.{◌≡◌, false, ◌+◌, ◌*◌, ◌-◌, ◌%◌, ◌≤◌, ◌<◌, length};
-ghost use Rattle.spec_tests.specs.Rules.{first, any};
+ghost use Rattle.std.specs.Prelude.{◌≡◌, ◌==◌, false, not, ◌+◌, ◌*◌, ◌-◌, ◌%◌, ◌≤◌, ◌<◌, length, position, IsNone};
+ghost use Rattle.spec_tests.specs.Rules.{any};
 ghost use Rattle.spec_tests.specs.Laws.{from};
+ghost use Rattle.spec_tests.specs.Options.{first_of};
 ghost use Rattle.spec_rules.specs.NetlistImage.{node_word};
 ghost use Rattle.spec_netlist.specs.Accept.{nets, limit, belongs, wrong_owner, wrong_bit, wrong_input, same_node, wrong_node_word};
 ghost use Rattle.stored_view.specs.Opened.{Opened};
+ghost use Rattle.stored_view.specs.Found.{below};
 ghost use Rattle.stored_nodes.specs.Tree.{key_of, key_at, root_of, slots, Fits, Tree, Ends};
 ghost use Rattle.stored_nodes.specs.Words.{wrong_node};
 
@@ -53,23 +55,23 @@ fn wrong_input(n: u32, k: u32, i: u32, x: u32) -> bool
     x != ABSENT
 }
 
-// The first wrong input of node n, as a word of the node, 6 where there is none.
-fn first_input(net: &[u32], n: u32) -> u32
+// The first wrong input of node n, as a word of the node.
+fn first_input(net: &[u32], n: u32) -> Option<usize>
     requires { (Opened net.now) × (n < nets net.now) × (node_word net.now n 0 < 12) }
-    ensures { result ≡ from (wrong_node_word net.now n) 6 3 }
+    ensures { result ≡ below 6 (from (wrong_node_word net.now n) 6 3) }
 {
     let at = HEADER_LENGTH + NODE_LENGTH * (n as usize);
     let k = net[at];
     if wrong_input(n, k, 0, net[at + INPUT_0]) {
-        return 3;
+        return Some(3);
     }
     if wrong_input(n, k, 1, net[at + INPUT_1]) {
-        return 4;
+        return Some(4);
     }
     if wrong_input(n, k, 2, net[at + INPUT_2]) {
-        return 5;
+        return Some(5);
     }
-    6
+    None
 }
 
 // Kind, owner and bit as one number.
@@ -106,13 +108,7 @@ fn is_same(net: &[u32], j: u32, n: u32) -> bool
 {
     let a = HEADER_LENGTH + NODE_LENGTH * (j as usize);
     let b = HEADER_LENGTH + NODE_LENGTH * (n as usize);
-    if net[a] != net[b] {
-        return false;
-    }
-    if net[a + OWNER] != net[b + OWNER] {
-        return false;
-    }
-    net[a + BIT] == net[b + BIT]
+    net[a..a + INPUT_0] == net[b..b + INPUT_0]
 }
 
 // Of the two slots of a node, whose number and 1 is c, the one for a key with this rest.
@@ -132,7 +128,7 @@ fn find(net: &[u32], n: u32, table: &[u16]) -> usize
     let count = net[NET_COUNT];
     let mut rest = key(net, n);
     let mut at = root(rest, count) as usize;
-    for depth in 0..48 {
+    for _depth in 0..48u32 {
         let c = table[at];
         if c == 0 {
             return at;
@@ -173,55 +169,46 @@ fn wrong_bit(net: &[u32], n: u32, k: u32, b: u32, table: &mut [u16]) -> bool
     b != ABSENT
 }
 
-// The first wrong word of node n, 6 where there is none; then it is in the tree, if it belongs to a record.
-fn first_in_node(net: &[u32], n: u32, table: &mut [u16]) -> u32
+// The first wrong word of node n; where there is none, it is now in the tree, if it belongs to a record.
+fn first_in_node(net: &[u32], n: u32, table: &mut [u16]) -> Option<usize>
     requires { (Opened net.now) × (n < nets net.now) × (3 * nets net.now ≤ length table.old) × (Tree net.now n (slots net.now table.old)) }
-    ensures { (result ≡ first (wrong_node_word net.now n) 6) × (6 ≤ result → Tree net.now (n + 1) (slots net.now table.new)) }
+    ensures { (result ≡ first_of (wrong_node_word net.now n) 6) × (IsNone result → Tree net.now (n + 1) (slots net.now table.new)) }
 {
     let at = HEADER_LENGTH + NODE_LENGTH * (n as usize);
     let k = net[at];
     if COMPARISON_OUTPUT < k {
-        return 0;
+        return Some(0);
     }
     if wrong_owner(k, net[at + OWNER]) {
-        return 1;
+        return Some(1);
     }
     if wrong_bit(net, n, k, net[at + BIT], table) {
-        return 2;
+        return Some(2);
     }
     first_input(net, n)
 }
 
-// The first of the words a to e - 1 from the nodes' start on that is not 0; e where there is none.
-fn first_unused(net: &[u32], a: usize, e: usize) -> usize
-    requires { (Opened net.now) × (a ≡ 6 * nets net.now) × (e ≡ 6 * limit net.now) }
-    ensures { result ≡ from (wrong_node net.now) e a }
+// The first of these words that is not 0.
+fn first_not_zero(words: &[u32]) -> Option<usize>
+    ensures { result ≡ position (λ x. not (x == 0)) words.now }
 {
-    for i in a..e {
-        if net[HEADER_LENGTH + i] != 0 {
-            return i;
-        }
-    }
-    e
+    words.iter().position(|x| *x != 0)
 }
 
-// The first wrong word of the nodes, counted from the nodes' start; where there is none, the number of their words. The lent table is for the
-// tree: a root for each net, then two slots for each.
-pub fn first_word(net: &[u32], table: &mut [u16]) -> usize
+// The first wrong word of the nodes, counted from the nodes' start. The lent table is for the tree: a root for each net, then two slots
+// for each.
+pub fn first_word(net: &[u32], table: &mut [u16]) -> Option<usize>
     requires { (Opened net.now) × (3 * nets net.now ≤ length table.old) }
-    ensures { result ≡ first (wrong_node net.now) (6 * limit net.now) }
+    ensures { result ≡ first_of (wrong_node net.now) (6 * limit net.now) }
 {
     let count = net[NET_COUNT];
-    stored_view::clear(table, 3 * (count as usize));
+    table[..3 * count as usize].fill(0);
     for n in 0..count {
-        let f = first_in_node(net, n, table);
-        if f < 6 {
-            return NODE_LENGTH * (n as usize) + f as usize;
+        if let Some(f) = first_in_node(net, n, table) {
+            return Some(NODE_LENGTH * (n as usize) + f);
         }
     }
-    first_unused(
-        net,
-        NODE_LENGTH * (count as usize),
-        net[LIST_AT] as usize - HEADER_LENGTH,
-    )
+    let used = NODE_LENGTH * (count as usize);
+    let i = first_not_zero(&net[HEADER_LENGTH + used..net[LIST_AT] as usize])?;
+    Some(used + i)
 }

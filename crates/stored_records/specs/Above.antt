@@ -1,5 +1,5 @@
 -- The least net above all of a list: a net is not above them all exactly if it is below that one. Assumes nothing.
-use Rattle.std.specs.Prelude.{ℕ, ◌+◌, suc, ◌-◌, ◌≤◌, ◌<◌, max, Bool, true, false, not, ◌≡◌, refl, List, [], ◌∷◌, length, take, drop, get_or}
+use Rattle.std.specs.Prelude.{ℕ, ◌+◌, suc, ◌-◌, ◌≤◌, ◌<◌, max, Bool, true, false, not, ◌≡◌, refl, List, [], ◌∷◌, length, take, drop, get_or, fold}
 use Rattle.std.proofs.Common.{sym, ap, ◌∙◌, arith, add-one, drop-cons}
 use Rattle.spec_tests.specs.Rules.{◌<?◌, ◌≡?◌, ◌≢?◌, ◌or◌, ◌and◌, pick}
 use Rattle.spec_tests.specs.Laws.{lt_yes, lt_no, yes_lt, no_lt}
@@ -71,3 +71,9 @@ above_more l m n i e h f g =
     let z : e - i ≡ suc (e - suc i) = omega arith in
     let y : i + 1 ≡ suc i = add-one i in
     rw (z, drop-cons l i 0 (omega arith), g, y)
+
+-- the same by a fold
+pub fold_above : (m : ℕ) (ys : List ℕ) → fold (λ n y. max n (y + 1)) m ys ≡ above_all m ys
+unfolding above_all
+fold_above m [] = refl
+fold_above m (y ∷ ys) = fold_above (max m (y + 1)) ys

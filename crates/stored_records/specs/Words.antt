@@ -1,5 +1,5 @@
 -- The test of each word of a port's, a register bit's and a cell's record, and the words of one test searched at once. Assumes nothing.
-use Rattle.std.specs.Prelude.{ℕ, ◌+◌, ◌*◌, ◌-◌, ◌≤◌, ◌<◌, Bool, true, false, ◌≡◌, List, ltb, take, drop}
+use Rattle.std.specs.Prelude.{ℕ, ◌+◌, ◌*◌, ◌-◌, ◌≤◌, ◌<◌, Bool, true, false, ◌≡◌, List, length, ltb, take, drop, position, Option, Some, None}
 use Rattle.std.proofs.Math.Path.{refl, sym}
 use Rattle.std.proofs.Common.{ap, ap₂, ◌∙◌, subst, arith, ltb-true}
 use Rattle.std.proofs.Math.ListN.{get_or}
@@ -8,6 +8,8 @@ use Rattle.spec_tests.specs.Laws.{from, pick_hit, pick_skip, or_hit, or_skip, an
 use Rattle.spec_rules.specs.NetlistImage.{node_word}
 use Rattle.spec_netlist.specs.Accept.{no_net, no_optional, wrong_level, not_own_of, wrong_port, wrong_register, wrong_arithmetic, wrong_comparison, count_of}
 use Rattle.stored_view.specs.Own.{not_own_at}
+use Rattle.spec_tests.specs.Options.{first_of}
+use Rattle.stored_view.specs.Found.{below, below_at, one_hit, one_skip, nothing_left, part_word, stretch_found, stretch_clean, words_found, words_clean, own_found, own_clean}
 use Rattle.stored_view.specs.Scan.{from_ext, stretch_hit, stretch_skip, at_hit, at_skip, at_end_law}
 use Rattle.stored_records.specs.Above.{above_all, above_carry, not_above_law, not_above_carry}
 
@@ -19,6 +21,10 @@ kind_input e = subst (λ (k : ℕ). (k ≢? 0 and k ≢? 8) ≡ false) (sym e) r
 pub kind_output : {k : ℕ} → k ≡ 8 → (k ≢? 0 and k ≢? 8) ≡ false
 unfolding ◌≢?◌ ◌and◌
 kind_output e = subst (λ (k : ℕ). (k ≢? 0 and k ≢? 8) ≡ false) (sym e) refl
+
+-- word j of a cell's outputs is not its output of this number with bit j, or is below the least net that its inputs allow
+abbrev pub wrong_in : List ℕ → List (List ℕ) → List ℕ → ℕ → ℕ → ℕ → Bool
+wrong_in ws earlier outputs number least j = not_own_of ws earlier (get_or outputs j 0) 10 number j or get_or outputs j 0 <? least
 
 module _ (ws : List ℕ) (earlier : List (List ℕ)) (l : List ℕ) where
   -- ---- a port ----
@@ -54,6 +60,21 @@ module _ (ws : List ℕ) (earlier : List (List ℕ)) (l : List ℕ) where
   pub port_nets_law : {k r : ℕ} → k ≡ node_word ws (get_or l 3 0) 0 → (k ≢? 0 and k ≢? 8) ≡ false → r ≡ from (not_own_at ws earlier l k (get_or l 1 0) 0 3) (3 + get_or l 2 0) 3
       → r ≡ from (wrong_port ws earlier l) (3 + get_or l 2 0) 3
   port_nets_law {k} {r} e a q = q ∙ from_ext _ _ _ _ (omega arith) (λ j h b. sym (port_net k j e a h))
+
+  -- the place of that answer
+  module _ (long : 3 + get_or l 2 0 ≤ length l) {k : ℕ} (kind : k ≡ node_word ws (get_or l 3 0) 0) (good : (k ≢? 0 and k ≢? 8) ≡ false) (e : (511 <? get_or l 1 0) ≡ false) (f : outside (get_or l 2 0) 1 1024 ≡ false) where
+    abbrev own : ℕ → Bool
+    own j = not_own_of ws earlier (get_or (take (3 + get_or l 2 0 - 3) (drop 3 l)) j 0) k (get_or l 1 0) (0 + j)
+
+    pub port_found : {i : ℕ} → Some i ≡ first_of own (length (take (3 + get_or l 2 0 - 3) (drop 3 l))) → Some (3 + i) ≡ below (3 + get_or l 2 0) (from (wrong_port ws earlier l) (3 + get_or l 2 0) 1)
+    port_found t =
+        below_at _ (port_head e f refl)
+        (own_found (wrong_port ws earlier l) _ l 3 _ (omega arith) (omega arith) long ws earlier k (get_or l 1 0) 0 (λ j h b. port_net k j kind good h) t)
+
+    pub port_clean : None ≡ first_of own (length (take (3 + get_or l 2 0 - 3) (drop 3 l))) → None ≡ below (3 + get_or l 2 0) (from (wrong_port ws earlier l) (3 + get_or l 2 0) 1)
+    port_clean t =
+        below_at _ (port_head e f refl)
+        (own_clean (wrong_port ws earlier l) _ l 3 _ (omega arith) (omega arith) long ws earlier k (get_or l 1 0) 0 (λ j h b. port_net k j kind good h) t (nothing_left _ _))
 
   -- ---- a register bit ----
 
@@ -178,6 +199,44 @@ module _ (ws : List ℕ) (earlier : List (List ℕ)) (l : List ℕ) where
       ∙ (from_ext _ (wrong_arithmetic ws earlier l) _ _ (omega arith) (λ j h k. sym (arithmetic_output number least j e d h))
       ∙ ap (λ (n : ℕ). from (wrong_arithmetic ws earlier l) n (4 + 2 * get_or l 2 0)) y))
 
+  -- the place of the first that is no net; all are nets, and the place of the first wrong output
+  module _ (long : 4 + 3 * get_or l 2 0 ≤ length l) (e : (2 <? get_or l 1 0) ≡ false) (f : (outside (get_or l 2 0) 1 1024) ≡ false) (g : (no_optional ws (get_or l 3 0)) ≡ false) where
+    abbrev inputs : List ℕ
+    inputs = take (4 + 2 * get_or l 2 0 - 4) (drop 4 l)
+
+    abbrev outputs : List ℕ
+    outputs = take (4 + 2 * get_or l 2 0 + get_or l 2 0 - (4 + 2 * get_or l 2 0)) (drop (4 + 2 * get_or l 2 0) l)
+
+    pub arithmetic_input_found : {i : ℕ} → Some i ≡ position (no_net ws) inputs → Some (4 + i) ≡ below (4 + 3 * get_or l 2 0) (from (wrong_arithmetic ws earlier l) (4 + 3 * get_or l 2 0) 1)
+    arithmetic_input_found t =
+        below_at _ (arithmetic_head e f g refl) (words_found (wrong_arithmetic ws earlier l) _ l 4 _ (omega arith) (omega arith) (omega arith) (no_net ws) arithmetic_input t)
+
+    module _ (clean : None ≡ position (no_net ws) inputs) {number m least : ℕ} (numbered : number ≡ count_of 3 earlier) (carry : m ≡ above_carry (get_or l 3 0)) (low : least ≡ above_all m inputs) where
+      each : (j : ℕ) → j < 4 + 2 * get_or l 2 0 + get_or l 2 0 - (4 + 2 * get_or l 2 0) → wrong_arithmetic ws earlier l (4 + 2 * get_or l 2 0 + j) ≡ wrong_in ws earlier outputs number least j
+      each j h =
+          let z : 4 + 2 * get_or l 2 0 - 4 ≡ 2 * get_or l 2 0 = omega arith in
+          let d : least ≡ arithmetic_least = low ∙ ap₂ (λ (n k : ℕ). above_all n (take k (drop 4 l))) carry z in
+          let y : 4 + 2 * get_or l 2 0 + j - (4 + 2 * get_or l 2 0) ≡ j = omega arith in
+          arithmetic_output number least (4 + 2 * get_or l 2 0 + j) numbered d (omega arith)
+          ∙ ap₂ (λ (x b : ℕ). not_own_of ws earlier x 10 number b or x <? least) (sym (part_word l (4 + 2 * get_or l 2 0) (4 + 2 * get_or l 2 0 + get_or l 2 0) j h)) y
+
+      goes : {r : Option ℕ} → r ≡ below (4 + 3 * get_or l 2 0) (from (wrong_arithmetic ws earlier l) (4 + 3 * get_or l 2 0) (4 + 2 * get_or l 2 0)) → r ≡ below (4 + 3 * get_or l 2 0) (from (wrong_arithmetic ws earlier l) (4 + 3 * get_or l 2 0) 1)
+      goes t =
+          below_at _ (arithmetic_head e f g refl) (words_clean (wrong_arithmetic ws earlier l) _ l 4 _ (omega arith) (omega arith) (omega arith) (no_net ws) arithmetic_input clean t)
+
+      pub arithmetic_output_found : {i : ℕ} → Some i ≡ first_of (wrong_in ws earlier outputs number least) (length outputs)
+          → Some (4 + 2 * get_or l 2 0 + i) ≡ below (4 + 3 * get_or l 2 0) (from (wrong_arithmetic ws earlier l) (4 + 3 * get_or l 2 0) 1)
+      arithmetic_output_found t =
+          goes (stretch_found (wrong_arithmetic ws earlier l) _ l _ _ (omega arith) (omega arith) (omega arith) (wrong_in ws earlier outputs number least) each t)
+
+      pub arithmetic_output_clean : None ≡ first_of (wrong_in ws earlier outputs number least) (length outputs)
+          → None ≡ below (4 + 3 * get_or l 2 0) (from (wrong_arithmetic ws earlier l) (4 + 3 * get_or l 2 0) 1)
+      arithmetic_output_clean t =
+          let y : 4 + 2 * get_or l 2 0 + get_or l 2 0 ≡ 4 + 3 * get_or l 2 0 = omega arith in
+          goes
+          (stretch_clean (wrong_arithmetic ws earlier l) _ l _ _ (omega arith) (omega arith) (omega arith) (wrong_in ws earlier outputs number least) each t
+          (nothing_left (wrong_arithmetic ws earlier l) _ ∙ ap (λ (k : ℕ). below (4 + 3 * get_or l 2 0) (from (wrong_arithmetic ws earlier l) (4 + 3 * get_or l 2 0) k)) (sym y)))
+
   -- ---- a comparison ----
 
   pub comparison_operation : wrong_comparison ws earlier l 1 ≡ (3 <? get_or l 1 0)
@@ -238,3 +297,31 @@ module _ (ws : List ℕ) (earlier : List (List ℕ)) (l : List ℕ) where
           let z : 4 + 2 * get_or l 2 0 ≡ 3 + 2 * get_or l 2 0 + 1 = omega arith in
           over_inputs
           (at_skip _ _ _ (omega arith) (is_low ∙ lt_no _ _ h) (at_end_law (wrong_comparison ws earlier l) _ ∙ ap (λ (n : ℕ). from (wrong_comparison ws earlier l) n (3 + 2 * get_or l 2 0 + 1)) (sym z)))
+
+  -- the place of the first input that is no net; all are nets, and the output answers
+  module _ (long : 4 + 2 * get_or l 2 0 ≤ length l) (e : (3 <? get_or l 1 0) ≡ false) (f : (outside (get_or l 2 0) 1 1024) ≡ false) where
+    pub comparison_input_found : {i : ℕ} → Some i ≡ position (no_net ws) (take (3 + 2 * get_or l 2 0 - 3) (drop 3 l)) → Some (3 + i) ≡ below (4 + 2 * get_or l 2 0) (from (wrong_comparison ws earlier l) (4 + 2 * get_or l 2 0) 1)
+    comparison_input_found t =
+        below_at _ (comparison_head e f refl) (words_found (wrong_comparison ws earlier l) _ l 3 _ (omega arith) (omega arith) (omega arith) (no_net ws) comparison_input t)
+
+    module _ (clean : None ≡ position (no_net ws) (take (3 + 2 * get_or l 2 0 - 3) (drop 3 l))) {number least : ℕ} (numbered : number ≡ count_of 4 earlier) (low : least ≡ above_all 0 (take (3 + 2 * get_or l 2 0 - 3) (drop 3 l))) where
+      past_inputs : {r : Option ℕ} → r ≡ below (4 + 2 * get_or l 2 0) (from (wrong_comparison ws earlier l) (4 + 2 * get_or l 2 0) (3 + 2 * get_or l 2 0)) → r ≡ below (4 + 2 * get_or l 2 0) (from (wrong_comparison ws earlier l) (4 + 2 * get_or l 2 0) 1)
+      past_inputs t =
+          below_at _ (comparison_head e f refl) (words_clean (wrong_comparison ws earlier l) _ l 3 _ (omega arith) (omega arith) (omega arith) (no_net ws) comparison_input clean t)
+
+      the_output : {own : Bool} → own ≡ not_own_of ws earlier (get_or l (3 + 2 * get_or l 2 0) 0) 11 number 0 → wrong_comparison ws earlier l (3 + 2 * get_or l 2 0) ≡ (own or get_or l (3 + 2 * get_or l 2 0) 0 <? least)
+      the_output {own} o =
+          let z : 3 + 2 * get_or l 2 0 - 3 ≡ 2 * get_or l 2 0 = omega arith in
+          comparison_output_law number least numbered (low ∙ ap (λ (k : ℕ). above_all 0 (take k (drop 3 l))) z) ∙ ap (λ (b : Bool). b or get_or l (3 + 2 * get_or l 2 0) 0 <? least) (sym o)
+
+      pub comparison_output_wrong : {own : Bool} → own ≡ not_own_of ws earlier (get_or l (3 + 2 * get_or l 2 0) 0) 11 number 0 → (own or get_or l (3 + 2 * get_or l 2 0) 0 <? least) ≡ true
+          → Some (3 + 2 * get_or l 2 0) ≡ below (4 + 2 * get_or l 2 0) (from (wrong_comparison ws earlier l) (4 + 2 * get_or l 2 0) 1)
+      comparison_output_wrong o t = past_inputs (one_hit (wrong_comparison ws earlier l) _ _ (omega arith) (the_output o ∙ t))
+
+      pub comparison_clean : {own : Bool} → own ≡ not_own_of ws earlier (get_or l (3 + 2 * get_or l 2 0) 0) 11 number 0 → (own or get_or l (3 + 2 * get_or l 2 0) 0 <? least) ≡ false
+          → None ≡ below (4 + 2 * get_or l 2 0) (from (wrong_comparison ws earlier l) (4 + 2 * get_or l 2 0) 1)
+      comparison_clean o t =
+          let z : 4 + 2 * get_or l 2 0 ≡ 3 + 2 * get_or l 2 0 + 1 = omega arith in
+          past_inputs
+          (one_skip (wrong_comparison ws earlier l) _ _ (omega arith) (the_output o ∙ t)
+          (nothing_left (wrong_comparison ws earlier l) _ ∙ ap (λ (k : ℕ). below (4 + 2 * get_or l 2 0) (from (wrong_comparison ws earlier l) (4 + 2 * get_or l 2 0) k)) z))

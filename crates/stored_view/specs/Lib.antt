@@ -2,4 +2,5 @@
 pub mod Opened
 pub mod Own
 pub mod Scan
+pub mod Found
 pub mod Clear

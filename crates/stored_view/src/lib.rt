@@ -2,11 +2,13 @@
 // cleared.
 #![tactic(auto)]
 
-ghost use Rattle.std.specs.Prelude.{◌≡◌, List, ℕ, ◌≤◌, ◌<◌, length, get_or};
+ghost use Rattle.std.specs.Prelude.{◌≡◌, List, ℕ, ◌≤◌, ◌<◌, length, get_or, ◌+◌, position, Bool, IfSome};
+ghost use Rattle.spec_tests.specs.Rules.{◌<?◌};
 ghost use Rattle.spec_tests.specs.Laws.{from};
+ghost use Rattle.spec_tests.specs.Options.{first_of};
 ghost use Rattle.spec_netlist.specs.Accept.{nets, no_net, no_optional, wrong_level, not_own_of};
 ghost use Rattle.stored_view.specs.Opened.{Opened, Marked};
-ghost use Rattle.stored_view.specs.Own.{not_own_at};
+ghost use Rattle.stored_view.specs.Found.{below};
 
 use image_numbers::*;
 
@@ -60,48 +62,58 @@ pub fn not_own(net: &[u32], marks: &[u16], x: u32, k: u32, owner: u32, bit: u32)
     marks[x as usize] != 0
 }
 
-// The first of the words a to e - 1 of l that names no net; e where there is none.
-pub fn first_no_net(net: &[u32], l: &[u32], a: usize, e: usize) -> usize
-    requires { (Opened net.now) × (a ≤ e) × (e ≤ length l.now) }
-    ensures { result ≡ from (λ j. no_net net.now (get_or l.now j 0)) e a }
+// The first of these words that names no net.
+pub fn first_no_net(net: &[u32], words: &[u32]) -> Option<usize>
+    requires { Opened net.now }
+    ensures { result ≡ position (no_net net.now) words.now }
 {
-    for i in a..e {
-        if no_net(net, l[i]) {
-            return i;
-        }
-    }
-    e
+    words.iter().position(|x| no_net(net, *x))
 }
 
-// The first of the words a to e - 1 of l that is not a net of this kind and owner with the bits from base on, or that a record so far
-// lists; e where there is none.
+// The first of these words that is not a net of this kind and owner with the bits from base on, or that a record so far lists.
 pub fn first_not_own(
     net: &[u32],
     marks: &[u16],
-    l: &[u32],
+    own: &[u32],
     kind: u32,
     owner: u32,
     base: u32,
-    a: usize,
-    e: usize,
-) -> usize
-    requires { (Opened net.now) × (nets net.now ≤ length marks.now) × (a ≤ e) × (e ≤ length l.now) × (base ≤ 65535) × (length l.now ≤ 65535) }
-    ensures { (earlier : List (List ℕ)) → Marked net.now earlier marks.now → result ≡ from (not_own_at net.now earlier l.now kind owner base a) e a }
+) -> Option<usize>
+    requires { (Opened net.now) × (nets net.now ≤ length marks.now) × (base ≤ 65535) × (length own.now ≤ 65535) }
+    ensures { ((earlier : List (List ℕ)) → Marked net.now earlier marks.now → result ≡ first_of (λ j. not_own_of net.now earlier (get_or own.now j 0) kind owner (base + j)) (length own.now)) × IfSome result (λ i. i < length own.now) }
 {
-    for i in a..e {
-        if not_own(net, marks, l[i], kind, owner, base + (i - a) as u32) {
-            return i;
+    for (i, x) in own.iter().enumerate() {
+        if not_own(net, marks, *x, kind, owner, base + i as u32) {
+            return Some(i);
         }
     }
-    e
+    None
 }
 
-// The first n words of the table are 0.
-pub fn clear(table: &mut [u16], n: usize)
-    requires { n ≤ length table.old }
-    ensures { (x : ℕ) → x < n → get_or table.new x 0 ≡ 0 }
+// The first wrong word of a control: its net, or absent, at word `at` of l, and its level beside it.
+pub fn first_in_control(net: &[u32], l: &[u32], at: usize) -> Option<usize>
+    requires { (Opened net.now) × (at + 2 ≤ length l.now) }
+    ensures { (wrong : ℕ → Bool) → wrong at ≡ no_optional net.now (get_or l.now at 0) → wrong (at + 1) ≡ wrong_level (get_or l.now at 0) (get_or l.now (at + 1) 0) → result ≡ below (at + 2) (from wrong (at + 2) at) }
 {
-    for i in 0..n {
-        table[i] = 0;
+    if no_optional(net, l[at]) {
+        return Some(at);
     }
+    if wrong_level(l[at], l[at + 1]) {
+        return Some(at + 1);
+    }
+    None
+}
+
+// The first wrong word of a net at word `at` of l and the word beside it, an edge or a level, which is 0 or 1.
+pub fn first_in_clock(net: &[u32], l: &[u32], at: usize) -> Option<usize>
+    requires { (Opened net.now) × (at + 2 ≤ length l.now) }
+    ensures { (wrong : ℕ → Bool) → wrong at ≡ no_net net.now (get_or l.now at 0) → wrong (at + 1) ≡ (1 <? get_or l.now (at + 1) 0) → result ≡ below (at + 2) (from wrong (at + 2) at) }
+{
+    if no_net(net, l[at]) {
+        return Some(at);
+    }
+    if 1 < l[at + 1] {
+        return Some(at + 1);
+    }
+    None
 }

@@ -8,7 +8,7 @@ use Prim.Native.Nat.{ℕ, ◌+◌, ◌*◌, ◌-◌, ◌≤◌, ◌<◌}
 use native.Mathlib.Omega.{arith}
 use borrow.Rule.Slice.PartMut.{put_mid}
 use lib.ListN.{length, get_or, take, drop}
-use lib.Seq.{length-take-le, get_or-take}
+use lib.Seq.{length-take-le}
 use Rattle.spec_rtl.specs.Rtl.{Valuation}
 use Rattle.spec_rules.specs.Image.{count_at_of, expr_width}
 use Rattle.spec_rules.specs.NetlistImage as N
@@ -29,8 +29,9 @@ use Rattle.net_gates.specs.Nots.{PlainNots, not_there}
 use Rattle.net_view.specs.View.{netlist_of}
 use Rattle.net_index.specs.Index.{Held}
 use Rattle.net_fold.specs.Values.{filled_of, Fills}
-use Rattle.net_fold.specs.declared.Filled.{Filled}
-use Rattle.net_fold.specs.declared.Filled.TheVariants as F
+use Rattle.std.specs.Prelude.{Result, Ok, Err}
+use Rattle.net_nodes.specs.declared.Full.{Full}
+use Rattle.net_nodes.specs.declared.Full.TheVariants.{Nets, List as ListFull}
 use Rattle.scratch_view.specs.View.{limit_of, Writes}
 use Rattle.scratch_view.specs.Bounds.{whole_told, expr_count, expr_width_law}
 use Rattle.scratch_tables.specs.Answers.{Small}
@@ -45,8 +46,7 @@ use Rattle.walk_plan.specs.Fits.{AllFit}
 use Rattle.walk_view.specs.Image.{fits, width_is}
 use Rattle.walk_view.specs.Met.{met, AllMet, Grows, grows_netlist, grows_whole, grows_range, meets_whole, meets_range}
 use Rattle.walk_view.specs.View.{index_of, walk_state, There, Ready, Sure, Builds, out_of}
-use Rattle.walk_view.specs.declared.Lowered.{Lowered}
-use Rattle.walk_view.specs.declared.Lowered.TheVariants as L
+use Rattle.walk_view.specs.Refusals.{Lowered}
 use Rattle.walk_view.specs.Stores.{kept_then, stored_ready, stored_kept, stored_state}
 use Rattle.walk_invariant.specs.Stores.{lent_stays, lent_ready, lent_kept, lent_state}
 use Rattle.walk_invariant.specs.Makes.{has, whole_there, range_there, makes_below}
@@ -121,7 +121,7 @@ plain_nots l q = record {
 pub lent : (s net w : List ℕ) → Ready s net w → Held (limit_of w) net (take (64 + 4 * limit_of w - 64) (drop 64 w))
 lent s net w r = let n : 4 * limit_of w ≡ 64 + 4 * limit_of w - 64 = omega arith in subst (λ (k : ℕ). Held (limit_of w) net (take k (drop 64 w))) n r.held
 
-pub make_way : (model : Made (List ℕ)) (s net w net' idx out : List ℕ) (r : Filled) → Ready s net w → length net' ≡ length net → Fills model (limit_of w) r out net' idx
+pub make_way : (model : Made (List ℕ)) (s net w net' idx out : List ℕ) (r : Result (Unit {0}) Full) → Ready s net w → length net' ≡ length net → Fills model (limit_of w) r out net' idx
     → Performed model s net w r out net' (put_mid 64 (64 + 4 * limit_of w - 64) w idx)
 make_way model s net w net' idx out r g l f = record {
   says = f.says;
@@ -144,7 +144,7 @@ pub room : (k m : ℕ) (xs' xs : List ℕ) → k ≤ m → length xs' ≡ length
 room k m xs' xs h l e = omega arith
 
 -- a job's nets are what the model makes
-pub job_model : {m : ℕ} (model : Netlist → Made (List ℕ)) (s net w xs ys : List ℕ) (k : ℕ) (j : Job) (l : Netlist) (r : Filled) (out net' w' : List ℕ) → Read m model s k j xs ys
+pub job_model : {m : ℕ} (model : Netlist → Made (List ℕ)) (s net w xs ys : List ℕ) (k : ℕ) (j : Job) (l : Netlist) (r : Result (Unit {0}) Full) (out net' w' : List ℕ) → Read m model s k j xs ys
     → Performed (job_made s k j xs ys l) s net w r out net' w' → Performed (model l) s net w r out net' w'
 job_model model s net w xs ys k j l r out net' w' a p = record {
   says = a.says l ∙ p.says;
@@ -155,14 +155,14 @@ job_model model s net w xs ys k j l r out net' w' a p = record {
 }
 
 -- the nets made are numbers of nets
-pub small : {l : Netlist} {t : Table} {u : Valuation → List Bool} (model : Made (List ℕ)) (s net w net' w' xs : List ℕ) (k : ℕ) (r : Filled) → k ≤ length xs
-    → Makes l (λ ns l₁. NetsGive l₁ t ns u) model → Performed model s net w r (take k xs) net' w' → r ≡ F.Done → Small k xs
+pub small : {l : Netlist} {t : Table} {u : Valuation → List Bool} (model : Made (List ℕ)) (s net w net' w' xs : List ℕ) (k : ℕ) (r : Result (Unit {0}) Full) → k ≤ length xs
+    → Makes l (λ ns l₁. NetsGive l₁ t ns u) model → Performed model s net w r (take k xs) net' w' → r ≡ Ok tt → Small (length (take k xs)) (take k xs)
 small model s net w net' w' xs k r long m p e i v =
     let l = netlist_of (limit_of w) net' in
-    let b = makes_below model (take k xs) l m (p.says ∙ ap (λ (x : Filled). filled_of x (take k xs) l) e) in
+    let b = makes_below model (take k xs) l m (p.says ∙ ap (λ (x : Result (Unit {0}) Full). filled_of x (take k xs) l) e) in
     let x = below_at (count l) (take k xs) i 0 (omega (arith, length-take-le k xs long)) b in
     let q = subst (λ (n : ℕ). Held n net' (index_of w')) p.limit p.ready.held in
-    omega (arith, get_or-take k xs i 0 v, x, q.built.fit.few, q.built.nets)
+    omega (arith, x, q.built.fit.few, q.built.nets)
 
 -- ---- what is left at the end ----
 
@@ -173,24 +173,22 @@ pub record Stores (st : State) (op : State → State) (out : List ℕ) (keep : M
 
 module _ (model : Made (List ℕ)) (s net w net' w₁ w' out : List ℕ) (n : Need) (op : State → State) (keep : Made (List ℕ) → Out State) (long : length w' ≡ length w₁)
     (k : Stores (walk_state s net w) op out keep) (grow : Grows (walk_state s net' w₁) (op (walk_state s net' w₁))) (meet : met (op (walk_state s net' w₁)) n ≡ true) where
-  says : (made : Filled) → Performed model s net w made out net' w₁ → Writes (stored_by made op) s w₁ w' → keep model ≡ out_of (lowered_of made) (walk_state s net' w')
-  says F.Done p x =
+  says : (made : Result (Unit {0}) Full) → Performed model s net w made out net' w₁ → Writes (stored_by made op) s w₁ w' → keep model ≡ out_of (lowered_of made) (walk_state s net' w')
+  says (Ok u) p x =
       ap keep p.says ∙ k.made (netlist_of (limit_of w) net') ∙ ap (λ (st : State). done (op st)) (sym p.state)
       ∙ ap (λ (st : State). done st) (sym (stored_state op s net' w₁ w' p.ready x long))
-  says F.TooManyNets p x = ap keep p.says ∙ k.refuses 9 0 0
-  says F.ListFull p x = ap keep p.says ∙ k.refuses 10 0 0
+  says (Err Nets) p x = ap keep p.says ∙ k.refuses 9 0 0
+  says (Err ListFull) p x = ap keep p.says ∙ k.refuses 10 0 0
 
-  stored_grow : (made : Filled) → Grows (walk_state s net' w₁) (stored_by made op (walk_state s net' w₁))
-  stored_grow F.Done = grow
-  stored_grow F.TooManyNets = λ m h. h
-  stored_grow F.ListFull = λ m h. h
+  stored_grow : (made : Result (Unit {0}) Full) → Grows (walk_state s net' w₁) (stored_by made op (walk_state s net' w₁))
+  stored_grow (Ok u) = grow
+  stored_grow (Err e) = λ m h. h
 
-  meets : (made : Filled) → lowered_of made ≡ L.Done → met (stored_by made op (walk_state s net' w₁)) n ≡ true
-  meets F.Done e = meet
-  meets F.TooManyNets e = let z : ◌≡◌ {A = ℕ} 0 1 = cc in absurd (omega arith)
-  meets F.ListFull e = let z : ◌≡◌ {A = ℕ} 0 1 = cc in absurd (omega arith)
+  meets : (made : Result (Unit {0}) Full) → lowered_of made ≡ Ok tt → met (stored_by made op (walk_state s net' w₁)) n ≡ true
+  meets (Ok u) e = meet
+  meets (Err r) e = let z : ◌≡◌ {A = ℕ} 0 1 = cc in absurd (omega arith)
 
-  pub built : (made : Filled) (r : Lowered) → Performed model s net w made out net' w₁ → Keeps op s w₁ made r w' → Builds (keep model) s net w n r net' w'
+  pub built : (made : Result (Unit {0}) Full) (r : Lowered) → Performed model s net w made out net' w₁ → Keeps op s w₁ made r w' → Builds (keep model) s net w n r net' w'
   built made r p x =
       let f = stored_state (stored_by made op) s net' w₁ w' p.ready x.writes long in
       subst (λ (y : Lowered). Builds (keep model) s net w n y net' w') (sym x.answers)
@@ -202,7 +200,7 @@ module _ (model : Made (List ℕ)) (s net w net' w₁ w' out : List ℕ) (n : Ne
         grows = λ m h. ap (λ (st : State). met st m) f ∙ stored_grow made m (ap (λ (st : State). met st m) p.state ∙ grows_netlist (walk_state s net w) (netlist_of (limit_of w) net') m h);
       })
 
-module _ (s net w net' w₁ w' xs : List ℕ) (e : ℕ) (made : Filled) (r : Lowered) (i : Sure s net w) (h : e < count_at_of s 1) (long : length w' ≡ length w₁) where
+module _ (s net w net' w₁ w' xs : List ℕ) (e : ℕ) (made : Result (Unit {0}) Full) (r : Lowered) (i : Sure s net w) (h : e < count_at_of s 1) (long : length w' ≡ length w₁) where
   whole_stores : (k : ℕ) → Stores (walk_state s net w) (λ st. set_whole st e (take k xs)) (take k xs) (keep_whole (walk_state s net w) e)
   unfolding keep_whole
   whole_stores k = record { made = λ l. refl; refuses = λ n x y. refl }

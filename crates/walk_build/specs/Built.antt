@@ -1,19 +1,19 @@
 -- What making the nets of an expression asks and gives, beside the tables and with them. Assumes nothing.
-use Rattle.std.specs.Prelude.{◌≡◌, false, List, ℕ}
+use Rattle.std.specs.Prelude.{◌≡◌, false, List, ℕ, Result}
 use Rattle.spec_model.specs.Builder.{Made}
 use Rattle.spec_model.specs.Lowering as model
 use Rattle.spec_model.specs.Lowering.{with_netlist}
 use Rattle.net_view.specs.View.{netlist_of}
 use Rattle.net_fold.specs.Values.{filled_of}
-use Rattle.net_fold.specs.declared.Filled.{Filled}
+use Rattle.net_nodes.specs.declared.Full.{Full}
 use Rattle.scratch_view.specs.View.{limit_of}
 use Rattle.expr_laws.specs.Exprs.{exprs_of}
 use Rattle.walk_view.specs.Met.{AllMet}
-use Rattle.walk_view.specs.declared.Lowered.{Lowered}
+use Rattle.walk_view.specs.Refusals.{Lowered}
 use Rattle.walk_view.specs.View.{walk_state, Ready, Kept, Builds}
 
 -- a model's nets, or its refusal, were made: of netlist words net and scratch w only netlist and index changed, to net' and w'
-pub record Performed (model : Made (List ℕ)) (s net w : List ℕ) (r : Filled) (out net' w' : List ℕ) : Type 0 where
+pub record Performed (model : Made (List ℕ)) (s net w : List ℕ) (r : Result (Unit {0}) Full) (out net' w' : List ℕ) : Type 0 where
   pub says : model ≡ filled_of r out (netlist_of (limit_of w) net')
   pub ready : Ready s net' w'
   pub kept : Kept s net w net' w'

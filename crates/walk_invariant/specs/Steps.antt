@@ -1,7 +1,7 @@
 -- A list of steps that is lowered by calls of the walk, one by one. `StepsAt`: from the words net₀, w₀ on, of the steps all there is rest left
 -- at net, w; laws steps_start, steps_next, steps_out, steps_end. `GivesAll`: what lowering the whole list gives; steps_list and steps_stop take
 -- such a call as one step of a longer list. Assumes nothing.
-use Rattle.std.specs.Prelude.{◌≡◌, ℕ, suc, ◌+◌, ◌-◌, ◌≤◌, ◌<◌}
+use Rattle.std.specs.Prelude.{◌≡◌, ℕ, suc, ◌+◌, ◌-◌, ◌≤◌, ◌<◌, Ok}
 use Rattle.std.proofs.Math.Path.{refl, sym, ap}
 use Rattle.std.proofs.Common.{◌∙◌, subst, arith}
 use Rattle.std.proofs.Math.Bool.{false}
@@ -11,8 +11,7 @@ use Rattle.spec_model.specs.Builder.{Out, refused, done, and_then, from}
 use Rattle.spec_model.specs.Lowering.{State, Need, Bit, Step, Always, Unless, signal_steps, lower_steps, lower_need, plenty, lower_all}
 use Rattle.walk_view.specs.Met.{step_need, AllMet, Grows, all_grow}
 use Rattle.walk_view.specs.View.{walk_state, Ready, Sure, Kept, out_of, There, Gives}
-use Rattle.walk_view.specs.declared.Lowered.{Lowered}
-use Rattle.walk_view.specs.declared.Lowered.TheVariants.{Done}
+use Rattle.walk_view.specs.Refusals.{Lowered}
 use Rattle.walk_invariant.specs.Sure.{sure_done}
 use Rattle.walk_view.specs.Stores.{kept_same, kept_then}
 use Rattle.walk_view.specs.Phases.{then_then}
@@ -60,10 +59,10 @@ met_append st (x ∷ ss) ts a b = (a.0, met_append st ss ts a.1 b)
 pub record GivesAll (s net w : List ℕ) (ss : List Step) (r : Lowered) (net' w' : List ℕ) : Type 0 where
   pub says : lower_all (decode s) false ss (walk_state s net w) ≡ out_of r (walk_state s net' w')
   pub ready : Ready s net' w'
-  pub sure : r ≡ Done → Sure s net' w'
+  pub sure : r ≡ Ok tt → Sure s net' w'
   pub kept : Kept s net w net' w'
   pub grows : Grows (walk_state s net w) (walk_state s net' w')
-  pub meets : r ≡ Done → AllMet (walk_state s net' w') ss
+  pub meets : r ≡ Ok tt → AllMet (walk_state s net' w') ss
 
 -- one need
 pub gives_one : (s net w : List ℕ) (n : Need) (r : Lowered) (net' w' : List ℕ) → Ready s net w → Sure s net w → There s n → Gives s net w n r net' w'
@@ -113,7 +112,7 @@ module _ (s net₀ w₀ : List ℕ) (all left : List Step) (net w : List ℕ) (h
         h.says ∙ ap (λ (ts : List Step). lower_all (decode s) false ts (walk_state s net w)) split ∙ all_append s ss rest (walk_state s net w)
         ∙ ap (λ (z : Out State). and_then z (λ st₁. lower_all (decode s) false rest st₁)) g.says
 
-    pub steps_list : r ≡ Done → StepsAt s net₀ w₀ all rest net₁ w₁
+    pub steps_list : r ≡ Ok tt → StepsAt s net₀ w₀ all rest net₁ w₁
     steps_list d = record {
       says = list_says ∙ ap (λ (y : Lowered). and_then (out_of y (walk_state s net₁ w₁)) (λ st₁. lower_all (decode s) false rest st₁)) d;
       ready = g.ready;
@@ -137,13 +136,13 @@ module _ (s net₀ w₀ : List ℕ) (all left : List Step) (net w : List ℕ) (h
   -- ---- the next one, by a call of the walk ----
 
   module _ (n : Need) (rest : List Step) (split : left ≡ Always n ∷ rest) (here : There s n) (r : Lowered) (net₁ w₁ : List ℕ) (g : Gives s net w n r net₁ w₁) where
-    pub steps_next : r ≡ Done → StepsAt s net₀ w₀ all rest net₁ w₁
+    pub steps_next : r ≡ Ok tt → StepsAt s net₀ w₀ all rest net₁ w₁
     steps_next d = steps_list (Always n ∷ []) rest split r net₁ w₁ (gives_one s net w n r net₁ w₁ h.ready h.sure here g) d
 
     pub steps_out : Refused r → GivesAll s net₀ w₀ all r net₁ w₁
     steps_out q = steps_stop (Always n ∷ []) rest split r net₁ w₁ (gives_one s net w n r net₁ w₁ h.ready h.sure here g) q
 
-  pub steps_end : left ≡ [] → GivesAll s net₀ w₀ all Done net w
+  pub steps_end : left ≡ [] → GivesAll s net₀ w₀ all (Ok tt) net w
   steps_end e = record {
     says = h.says ∙ ap (λ (ts : List Step). lower_all (decode s) false ts (walk_state s net w)) e ∙ all_none s (walk_state s net w);
     ready = h.ready;

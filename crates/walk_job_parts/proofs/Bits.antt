@@ -1,22 +1,23 @@
--- The bits of a constant by its list words; a list filled bit by bit; the end of a list filled with one word. Assumes nothing.
+-- The bits of a constant by its list words; a list filled bit by bit. Assumes nothing.
 use mathlib.Core.Path.{◌≡◌, refl, sym, ap, ◌∙◌}
 use mathlib.Core.Bool.{Bool, true, false}
-use mathlib.Core.List.{List, [], ◌∷◌, ◌++◌, append_assoc, append-nil}
+use mathlib.Core.List.{List, ◌++◌}
 use Prim.Native.Nat.{ℕ, zero, suc, ◌+◌, ◌*◌, ◌-◌, ◌^◌, ◌/◌, ◌%◌, ◌≤◌, ◌<◌, min}
 use native.Mathlib.Nat.{div-one, mod-mod, le_of_suc-le-suc, not-suc-le-zero}
 use native.Mathlib.Omega.{arith}
 use borrow.Author.Tests.{eqb-true, eqb-false, leb-true, leb-false}
 use lib.Dec.{eqb, leb}
-use lib.ListN.{length, get_or, set, take, drop, replicate, length-set, length-map, length-drop, replicate-append-replicate, get_or-map}
+use lib.ListN.{length, get_or, set, take, drop, length-set, length-map, length-drop, get_or-map}
 use lib.Pow.{high, field, shr-shr}
-use lib.Seq.{length-take-le, take_all, take-suc-set, get_or-set_same, get_or-set_other, get_or-take, get_or-drop, ext_get_or}
+use lib.Seq.{length-take-le, take_all, get_or-set_same, get_or-set_other, get_or-take, get_or-drop, ext_get_or}
 use Rattle.spec_rtl.specs.Word.{odd, bits, length_bits, bits_eq}
 use Rattle.spec_rules.specs.Image.{list_word, constant_words, constant_of}
 use Rattle.net_fold.specs.Digits.{held}
 use Rattle.spec_model.specs.Words.{Netlist}
 use Rattle.spec_model.specs.Builder.{each, add_constant}
 use Rattle.net_fold.specs.Values.{Fills}
-use Rattle.net_fold.specs.declared.Filled.{Filled}
+use Rattle.std.specs.Prelude.{Result}
+use Rattle.net_nodes.specs.declared.Full.{Full}
 use Rattle.op_bits.proofs.Laws.{list_by}
 use Rattle.expr_constants.specs.Constants.{Bytes, word_lt, front, front_lt, last_word}
 use Rattle.walk_job_parts.proofs.Lent.{back_whole}
@@ -93,42 +94,6 @@ module _ (s : List ℕ) (start lsb : ℕ) (out₀ : List ℕ) where
       ∙ ap (λ (x : ℕ). eqb x 1) (p.says k (omega (arith, lo, p.sized)))
       ∙ sym (get_or-take (length out₀) (drop lsb bs) k false (omega (arith, lo)) ∙ get_or-drop lsb bs k false ∙ constant_bit s y start v (lsb + k) (omega (arith, lo))))
 
--- ---- the words from a to e filled with z ----
-
-pub record Filling (a e z : ℕ) (xs₀ xs : List ℕ) (i : ℕ) : Type 0 where
-  pub low : a ≤ i
-  pub high : i ≤ e
-  pub sized : length xs ≡ length xs₀
-  pub says : take i xs ≡ take a xs₀ ++ replicate (i - a) z
-
-module _ (a e z : ℕ) (xs₀ : List ℕ) where
-  pub filling_start : a ≤ e → Filling a e z xs₀ xs₀ a
-  filling_start h =
-      let q : a - a ≡ 0 = omega arith in
-      record {
-        low = omega arith;
-        high = h;
-        sized = refl;
-        says = sym (ap (λ (j : ℕ). take a xs₀ ++ replicate j z) q ∙ append-nil (take a xs₀));
-      }
-
-  pub filling_more : (xs : List ℕ) (i : ℕ) → Filling a e z xs₀ xs i → i < e → e ≤ length xs₀ → Filling a e z xs₀ (set xs i z) (i + 1)
-  filling_more xs i f h l =
-      let q : i - a + 1 ≡ i + 1 - a = omega (arith, f.low) in
-      let p : i + 1 ≡ suc i = omega arith in
-      record {
-        low = omega (arith, f.low);
-        high = omega arith;
-        sized = length-set xs i z ∙ f.sized;
-        says = ap (λ (j : ℕ). take j (set xs i z)) p ∙ take-suc-set xs i z (omega (arith, f.sized))
-            ∙ ap (λ (t : List ℕ). t ++ (z ∷ [])) f.says
-            ∙ append_assoc (take a xs₀) (replicate (i - a) z) (z ∷ [])
-            ∙ ap (λ (t : List ℕ). take a xs₀ ++ t) (replicate-append-replicate (i - a) 1 z ∙ ap (λ (j : ℕ). replicate j z) q);
-      }
-
-  pub filling_end : (xs : List ℕ) (i : ℕ) → Filling a e z xs₀ xs i → e ≤ i → take e xs ≡ take a xs₀ ++ replicate (e - a) z
-  filling_end xs i f h = let q : i ≡ e = omega (arith, f.high) in rw q at f.says
-
 -- ---- at most w bits ----
 
 take_within : (w k : ℕ) (bs : List Bool) → length bs ≡ k → take w bs ≡ take (min w k) bs
@@ -138,7 +103,7 @@ take_within w k bs e = go (leb w k) refl
     go true q = let h = leb-true w k q in ap (λ (j : ℕ). take j bs) {x = w} {y = min w k} (omega arith)
     go false q = let h = leb-false w k q in take_all w bs (omega arith) ∙ sym (take_all (min w k) bs (omega arith))
 
-pub back_constant : (w k : ℕ) (bs : List Bool) (l : Netlist) (n m : ℕ) (r : Filled) (xs ns rest net idx : List ℕ) → length bs ≡ k → m ≡ min w k → m ≤ length xs → length ns ≡ length (take m xs)
+pub back_constant : (w k : ℕ) (bs : List Bool) (l : Netlist) (n m : ℕ) (r : Result (Unit {0}) Full) (xs ns rest net idx : List ℕ) → length bs ≡ k → m ≡ min w k → m ≤ length xs → length ns ≡ length (take m xs)
     → Fills (each add_constant (take (length (take m xs)) bs) l) n r ns net idx → Fills (each add_constant (take w bs) l) n r (take (min w k) (ns ++ rest)) net idx
 back_constant w k bs l n m r xs ns rest net idx b q h s g =
     let e = length-take-le m xs h ∙ q in

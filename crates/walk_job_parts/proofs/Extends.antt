@@ -5,25 +5,23 @@ use mathlib.Core.List.{List, ◌++◌}
 use Prim.Native.Nat.{ℕ, ◌-◌, ◌≤◌}
 use lib.ListN.{length, take, replicate}
 use lib.Seq.{length-take-le}
+use Rattle.std.specs.Prelude.{Ok, Err}
 use Rattle.spec_model.specs.Words.{Netlist}
 use Rattle.spec_model.specs.Builder.{Made, done, and_then, add_constant}
 use Rattle.net_view.specs.View.{netlist_of}
 use Rattle.net_nodes.specs.Gives.{Gives}
-use Rattle.net_nodes.specs.declared.Added.{Added}
-use Rattle.net_nodes.specs.declared.Added.TheVariants as A
-use Rattle.net_ports.proofs.Laws.{Refusal}
-use Rattle.net_fold.specs.Values.{refusal_of, Fills}
-use Rattle.net_fold.specs.declared.Filled.TheVariants.{Done}
+use Rattle.net_nodes.specs.declared.Full.{Full}
+use Rattle.net_nodes.specs.declared.Full.TheVariants.{Nets, List as ListFull}
+use Rattle.net_fold.specs.Values.{Fills}
 use Rattle.walk_job_parts.specs.Widths.{extended}
 
 module _ (w m : ℕ) (xs : List ℕ) (l : Netlist) (n : ℕ) (net idx : List ℕ) where
-  pub extend_out : (x : Added) (ms : List ℕ) → Refusal x → Gives (add_constant false l) n x net idx → Fills (extended w (take m xs) l) n (refusal_of x) ms net idx
-  extend_out (A.Net k) ms q g = absurd q
-  extend_out A.TooManyNets ms q g = record { says = ap (λ (o : Made ℕ). and_then o (λ (z, l₁). done (take m xs ++ replicate (w - length (take m xs)) z, l₁))) g.says; held = g.held }
-  extend_out A.ListFull ms q g = record { says = ap (λ (o : Made ℕ). and_then o (λ (z, l₁). done (take m xs ++ replicate (w - length (take m xs)) z, l₁))) g.says; held = g.held }
+  pub extend_out : (e : Full) (ms : List ℕ) → Gives (add_constant false l) n (Err e) net idx → Fills (extended w (take m xs) l) n (Err e) ms net idx
+  extend_out Nets ms g = record { says = ap (λ (o : Made ℕ). and_then o (λ (z, l₁). done (take m xs ++ replicate (w - length (take m xs)) z, l₁))) g.says; held = g.held }
+  extend_out ListFull ms g = record { says = ap (λ (o : Made ℕ). and_then o (λ (z, l₁). done (take m xs ++ replicate (w - length (take m xs)) z, l₁))) g.says; held = g.held }
 
-  pub extend_done : (z : ℕ) (ms : List ℕ) → m ≤ length xs → Gives (add_constant false l) n (A.Net z) net idx → ms ≡ take m xs ++ replicate (w - m) z
-      → Fills (extended w (take m xs) l) n Done ms net idx
+  pub extend_done : (z : ℕ) (ms : List ℕ) → m ≤ length xs → Gives (add_constant false l) n (Ok z) net idx → ms ≡ take m xs ++ replicate (w - m) z
+      → Fills (extended w (take m xs) l) n (Ok tt) ms net idx
   extend_done z ms h g e =
       let k = length-take-le m xs h in
       record {

@@ -12,8 +12,7 @@ ghost use Rattle.net_fold.specs.Values.{Fills};
 ghost use Rattle.walk_operands.specs.Tasks.{Fits};
 ghost use Rattle.walk_job_parts.specs.Widths.{made_width, extended};
 
-use net_fold::Filled;
-use net_nodes::Added;
+use net_nodes::Full;
 use walk_operands::Task;
 
 // Bit b of the constant whose list words begin at start.
@@ -30,8 +29,8 @@ fn put_bits(image: &[u8], start: u32, lsb: u32, out: &mut [u32])
     requires { (start ≤ 8192) × (lsb + length out.old ≤ 1024) }
     ensures { (v : ℕ) → lsb + length out.old ≤ v → held out.new ≡ take (length out.old) (drop lsb (bits v (constant_of image.now v start))) }
 {
-    for i in 0..out.len() {
-        out[i] = constant_bit(image, start, lsb + i as u32);
+    for (i, x) in out.iter_mut().enumerate() {
+        *x = constant_bit(image, start, lsb + i as u32);
     }
 }
 
@@ -43,7 +42,7 @@ fn add_constant_bits(
     start: u32,
     lsb: u32,
     out: &mut [u32],
-) -> Filled
+) -> Result<(), Full>
     requires { (Held n net.old idx.old) × (start ≤ 8192) × (lsb + length out.old ≤ 1024) }
     ensures { (v : ℕ) → lsb + length out.old ≤ v → Fills (each add_constant (take (length out.old) (drop lsb (bits v (constant_of image.now v start)))) (netlist_of n net.old)) n result out.new net.new idx.new }
 {
@@ -62,35 +61,29 @@ pub fn constant(
     lsb: u32,
     w: u32,
     xs: &mut [u32],
-) -> Filled
+) -> Result<(), Full>
     requires { (Held n net.old idx.old) × (start ≤ 8192) × (lsb ≤ v) × (v ≤ 1024) × (w ≤ length xs.old) }
     ensures { Fills (each add_constant (take w (drop lsb (bits v (constant_of image.now v start)))) (netlist_of n net.old)) n result (take (min w (v - lsb)) xs.new) net.new idx.new }
 {
-    let m = word_order::smaller(w, v - lsb) as usize;
+    let m = w.min(v - lsb) as usize;
     add_constant_bits(image, net, idx, n, start, lsb, &mut xs[..m])
 }
 
-// The words from a to e all z.
-fn fill(xs: &mut [u32], a: usize, e: usize, z: u32)
-    requires { (a ≤ e) × (e ≤ length xs.old) }
-    ensures { take e xs.new ≡ take a xs.old ++ replicate (e - a) z }
-{
-    for i in a..e {
-        xs[i] = z;
-    }
-}
-
 // The first m nets, and the false constant up to w.
-pub fn extend(net: &mut [u32], idx: &mut [u32], n: u32, m: u32, w: u32, xs: &mut [u32]) -> Filled
+pub fn extend(
+    net: &mut [u32],
+    idx: &mut [u32],
+    n: u32,
+    m: u32,
+    w: u32,
+    xs: &mut [u32],
+) -> Result<(), Full>
     requires { (Held n net.old idx.old) × (m ≤ w) × (w ≤ length xs.old) }
     ensures { Fills (extended w (take m xs.old) (netlist_of n net.old)) n result (take w xs.new) net.new idx.new }
 {
-    let x = net_gates::add_constant(net, idx, n, false);
-    let Added::Net(z) = x else {
-        return net_fold::refusal(x);
-    };
-    fill(xs, m as usize, w as usize, z);
-    Filled::Done
+    let z = net_gates::add_constant(net, idx, n, false)?;
+    xs[m as usize..w as usize].fill(z);
+    Ok(())
 }
 
 // How many nets a task of width v makes in a job of width w.
@@ -100,7 +93,7 @@ pub fn task_width(task: Task, v: u32, w: u32) -> u32
 {
     match task {
         Task::Copied => w,
-        Task::Constant(_, k, lsb) => word_order::smaller(w, k - lsb),
+        Task::Constant(_, k, lsb) => w.min(k - lsb),
         Task::Unary(_, _) => v,
         Task::Binary(_, _, _) => v,
         Task::Carried(_, _) => v,

@@ -1,24 +1,20 @@
 -- What keeping the nets that were made gives. Assumes nothing.
-use Rattle.std.specs.Prelude.{◌≡◌, List, ℕ}
+use Rattle.std.specs.Prelude.{◌≡◌, List, ℕ, Result, Ok, Err}
 use Rattle.spec_model.specs.Lowering.{State}
-use Rattle.net_fold.specs.declared.Filled.{Filled}
-use Rattle.net_fold.specs.declared.Filled.TheVariants as F
+use Rattle.net_nodes.specs.declared.Full.{Full}
 use Rattle.scratch_view.specs.View.{Writes}
-use Rattle.walk_view.specs.declared.Lowered.{Lowered}
-use Rattle.walk_view.specs.declared.Lowered.TheVariants as L
+use Rattle.walk_view.specs.Refusals.{Lowered, refusal_of}
 
 -- the walk's answer
-abbrev pub lowered_of : Filled → Lowered
-lowered_of F.Done = L.Done
-lowered_of F.TooManyNets = L.TooManyNets
-lowered_of F.ListFull = L.ListFull
+abbrev pub lowered_of : Result (Unit {0}) Full → Lowered
+lowered_of (Ok u) = Ok u
+lowered_of (Err e) = Err (refusal_of e)
 
 -- nets that were made are stored
-abbrev pub stored_by : Filled → (State → State) → State → State
-stored_by F.Done op st = op st
-stored_by F.TooManyNets op st = st
-stored_by F.ListFull op st = st
+abbrev pub stored_by : Result (Unit {0}) Full → (State → State) → State → State
+stored_by (Ok u) op st = op st
+stored_by (Err e) op st = st
 
-pub record Keeps (op : State → State) (s w : List ℕ) (made : Filled) (r : Lowered) (w' : List ℕ) : Type 0 where
+pub record Keeps (op : State → State) (s w : List ℕ) (made : Result (Unit {0}) Full) (r : Lowered) (w' : List ℕ) : Type 0 where
   pub answers : r ≡ lowered_of made
   pub writes : Writes (stored_by made op) s w w'

@@ -13,19 +13,15 @@ use Rattle.scratch_view.specs.View.{limit_of, expr_bit, bit_at, net_word, is_who
 use Rattle.scratch_view.specs.Laws.{net_word_some, expr_ends}
 use Rattle.scratch_view.specs.Reads.{whole_net_law}
 use Rattle.scratch_tables.specs.Answers.{ExprNet}
-use Rattle.walk_view.specs.declared.Lowered.{Lowered}
-use Rattle.walk_view.specs.declared.Lowered.TheVariants.{Done, Undriven, Loop, Reset, TooManyNets, ListFull}
+use Rattle.std.specs.Prelude.{Ok, Err}
+use Rattle.walk_view.specs.Refusals.{Lowered}
 use Rattle.walk_view.specs.Stores.{no_store}
 use Rattle.walk_view.specs.Answers.{Refused}
 use Rattle.walk_left.specs.Left.{driven, Keeps}
 
 pub keep_refused : (s w : List ℕ) (p b e o : ℕ) (x : Lowered) → Laid s w → Refused x → Keeps s w p b e o x x w
-keep_refused s w p b e o Done h q = absurd q
-keep_refused s w p b e o (Undriven q₁ j) h q = record { same = refl; writes = no_store s w h }
-keep_refused s w p b e o (Loop q₁ j) h q = record { same = refl; writes = no_store s w h }
-keep_refused s w p b e o (Reset q₁ j) h q = record { same = refl; writes = no_store s w h }
-keep_refused s w p b e o TooManyNets h q = record { same = refl; writes = no_store s w h }
-keep_refused s w p b e o ListFull h q = record { same = refl; writes = no_store s w h }
+keep_refused s w p b e o (Ok u) h q = absurd q
+keep_refused s w p b e o (Err r) h q = record { same = refl; writes = no_store s w h }
 
 module _ (s w : List ℕ) (e o n : ℕ) (h : Laid s w) (he : e < count_at_of s 1) (ho : o < expr_width s e) (t : is_whole s (limit_of w) w e ≡ true) (x : ExprNet s w e o n) where
   pub net_small : n < 65535
@@ -38,7 +34,7 @@ module _ (s w : List ℕ) (e o n : ℕ) (h : Laid s w) (he : e < count_at_of s 1
       let m = h.expr_nets (expr_bit s e o) i in
       omega arith
 
-  pub keep_done : (p b : ℕ) (y : Lowered) (w' : List ℕ) → y ≡ Done → Writes (λ st. set_signal_bit st p b n) s w w' → Keeps s w p b e o y Done w'
+  pub keep_done : (p b : ℕ) (y : Lowered) (w' : List ℕ) → y ≡ Ok tt → Writes (λ st. set_signal_bit st p b n) s w w' → Keeps s w p b e o y (Ok tt) w'
   keep_done p b y w' q a = record {
     same = sym q;
     writes = subst (λ (y : Lowered). Writes (driven y p b e o) s w w') (sym q) (record {

@@ -1,16 +1,14 @@
 -- What is left to lower before an expression (`LeftOf`); what the first turn asks; what keeping a driven bit's net writes. Assumes nothing.
-use Rattle.std.specs.Prelude.{◌≡◌, Bool, false, List, [], ◌++◌, ℕ, ◌*◌, ◌≤◌, ◌<◌, drop}
+use Rattle.std.specs.Prelude.{◌≡◌, Bool, false, List, [], ◌++◌, ℕ, ◌*◌, ◌≤◌, ◌<◌, drop, Option, Some, None, Ok, Err}
 use Rattle.spec_model.specs.Words.{Netlist}
 use Rattle.spec_model.specs.Lowering as M
 use Rattle.spec_model.specs.Lowering.{State, set_signal_bit, whole_net}
 use Rattle.scratch_view.specs.View.{state_of, Writes}
-use Rattle.walk_view.specs.declared.Lowered.{Lowered}
-use Rattle.walk_view.specs.declared.Lowered.TheVariants.{Done, Undriven, Loop, Reset, TooManyNets, ListFull}
+use Rattle.walk_view.specs.Refusals.{Lowered}
 use Rattle.walk_plan.specs.declared.Turn.{Turn}
 use Rattle.walk_plan.specs.declared.Turn.TheVariants as T
 use Rattle.walk_plan.specs.Plan.{needs_of, BitsThere, TurnOf, whole_needs}
 use Rattle.walk_left.specs.declared.Left.{Left}
-use Rattle.walk_left.specs.declared.Left.TheVariants as F
 use Rattle.walk_left.specs.Needs.{NeedsMet}
 
 -- ---- what is left to lower ----
@@ -22,11 +20,11 @@ pub record Skips (s w : List ℕ) (rest rest₁ : List M.Need) : Type 0 where
   pub known : (l : Netlist) → NeedsMet (state_of s l w) skipped
 
 -- where rest k at is left before turn k
-abbrev pub LeftOf : List ℕ → List ℕ → (ℕ → ℕ → List M.Need) → ℕ → ℕ → Left → Type 0
-LeftOf s w rest k at (F.Lower n k₁ at₁) = Skips s w (rest k at) (needs_of n ++ rest k₁ at₁) × (k < k₁) × (k₁ < 4294967296) × (at₁ ≤ 1024 * k₁)
-LeftOf s w rest k at F.Build = Skips s w (rest k at) []
+abbrev pub LeftOf : List ℕ → List ℕ → (ℕ → ℕ → List M.Need) → ℕ → ℕ → Option Left → Type 0
+LeftOf s w rest k at (Some x) = Skips s w (rest k at) (needs_of x.need ++ rest x.next x.at) × (k < x.next) × (x.next < 4294967296) × (x.at ≤ 1024 * x.next)
+LeftOf s w rest k at None = Skips s w (rest k at) []
 
-abbrev pub LeftIn : List ℕ → List ℕ → List M.Need → ℕ → Left → Type 0
+abbrev pub LeftIn : List ℕ → List ℕ → List M.Need → ℕ → Option Left → Type 0
 LeftIn s w all k r = LeftOf s w (λ j i. drop j all) k 0 r
 
 abbrev pub whole_rest : List ℕ → ℕ → ℕ → ℕ → List M.Need
@@ -40,7 +38,7 @@ TurnThere s (T.Bits p b n) = BitsThere s p b n
 TurnThere s T.Build = Unit {0}
 
 -- no list has as many needs as the number of the turn after the last one
-abbrev pub LeavesTurn : List ℕ → List ℕ → Turn → ℕ → Left → Type 0
+abbrev pub LeavesTurn : List ℕ → List ℕ → Turn → ℕ → Option Left → Type 0
 LeavesTurn s w turn k r = (rest : ℕ → ℕ → List M.Need) (at : ℕ) → rest 4294967295 0 ≡ [] → TurnOf s rest k at turn → LeftOf s w rest k at r
 
 -- ---- what is there ----
@@ -53,12 +51,8 @@ FirstTurn k r known = (k ≡ 0 → r ≡ known) × (0 < k → r ≡ false)
 
 -- bit b of signal p gets the net of bit o of expression e, where the expression is lowered
 abbrev pub driven : Lowered → ℕ → ℕ → ℕ → ℕ → State → State
-driven Done p b e o st = set_signal_bit st p b (whole_net st e o)
-driven (Undriven q c) p b e o st = st
-driven (Loop q c) p b e o st = st
-driven (Reset q c) p b e o st = st
-driven TooManyNets p b e o st = st
-driven ListFull p b e o st = st
+driven (Ok u) p b e o st = set_signal_bit st p b (whole_net st e o)
+driven (Err r) p b e o st = st
 
 pub record Keeps (s w : List ℕ) (p b e o : ℕ) (x r : Lowered) (w' : List ℕ) : Type 0 where
   pub same : r ≡ x

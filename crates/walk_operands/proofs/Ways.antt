@@ -1,5 +1,5 @@
 -- For each way through the functions that read operands one law, from what they call to what they give. Assumes nothing.
-use mathlib.Core.Path.{◌≡◌, refl, sym, ap, ◌∙◌}
+use mathlib.Core.Path.{◌≡◌, refl, sym, ap, ◌∙◌, subst}
 use mathlib.Core.Bool.{Bool, true, false, cond}
 use mathlib.Core.List.{List, [], ◌++◌}
 use mathlib.Core.Option.{Option, none, some}
@@ -206,6 +206,11 @@ narrow_by_law v (some r) = go (max 1 (ranges.bit_len 64 r.hi)) (omega arith)
         by false e = (refl, omega arith)
 
 -- ---- additions ----
+
+-- operands whose carry is known
+pub carried_by : (x y d : ℕ) (k : Option ℕ) (o : Operands) → k ≡ some d → ◌≡◌ {A = Operands} (record { lhs = x; rhs = y; carry = k }) o
+    → ◌≡◌ {A = Operands} (record { lhs = x; rhs = y; carry = some d }) o
+carried_by x y d k o e q = subst (λ (k : Option ℕ). ◌≡◌ {A = Operands} (record { lhs = x; rhs = y; carry = k }) o) e q
 
 nothing : Netlist
 nothing = record { max_nets = 0; max_list = 0; nodes = []; records = [] }

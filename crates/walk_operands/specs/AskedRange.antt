@@ -4,7 +4,6 @@ use Rattle.spec_rules.specs.Image.{count_at_of, expr_width, list_word}
 use Rattle.spec_model.specs.Words.{Netlist}
 use Rattle.spec_model.specs.Builder.{Made, each, add_not}
 use Rattle.spec_model.specs.Lowering.{State, Piece, given, range_nets, piece_nets, range_steps_of}
-use Rattle.image_records.specs.declared.BinaryOp.TheVariants as B
 use Rattle.expr_laws.specs.Exprs.{exprs_of}
 use Rattle.scratch_view.specs.View.{state_of}
 use Rattle.walk_operands.specs.AskedWhole.{AllWhole, Tabled}

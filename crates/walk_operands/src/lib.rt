@@ -19,8 +19,7 @@ ghost use Rattle.walk_operands.specs.declared.Task.TheVariants.{Copied};
 ghost use Rattle.walk_operands.specs.AskedWhole.{Room, Asked, BinaryIn};
 ghost use Rattle.walk_operands.specs.AskedRange.{AskedRange, Within, PartsIn, CopiedPiece, not_made};
 
-use expr_fusion::Fusion;
-use image_records::{BinaryOp, ExprKind, OpClass, UnaryOp};
+use image_records::{BinaryOp, ExprKind, Expression, OpClass, UnaryOp};
 
 // ---- what is made of the nets ----
 
@@ -61,16 +60,9 @@ pub fn copy_parts(image: &[u8], scr: &[u32], start: u32, count: u32, out: &mut [
     ensures { (l : Netlist) → take (parts_width image.now start count) out.new ≡ part_nets (state_of image.now l scr.now) (parts_of image.now start count) }
 {
     let mut at: u32 = 0;
-    let mut i = count;
-    while 0 < i {
-        i -= 1;
-        at += copy_whole(
-            image,
-            scr,
-            image_fields::list_word(image, start + i),
-            out,
-            at as usize,
-        );
+    for i in (0..count).rev() {
+        let p = image_fields::list_word(image, start + i);
+        at += copy_whole(image, scr, p, out, at as usize);
     }
 }
 
@@ -152,22 +144,19 @@ pub fn add_operands(
     let narrow = scr[scr[scratch_view::ROWS] as usize
         + scratch_view::ROW * (e as usize)
         + scratch_view::NARROWED];
-    let answer = expr_fusion::fusion_test(image, a, b);
-    let Fusion::Carried(lhs, rhs, carry) = answer else {
-        let j = copy_whole(image, scr, a, xs, 0);
-        copy_whole(image, scr, b, ys, 0);
-        let k = cut(narrow, j);
-        return Job {
+    let operands = expr_fusion::add_with_carry(image, a, b);
+    let j = copy_whole(image, scr, operands.lhs, xs, 0);
+    copy_whole(image, scr, operands.rhs, ys, 0);
+    let k = cut(narrow, j);
+    match operands.carry {
+        Some(carry) => Job {
+            task: Task::Carried(k, scratch_tables::expr_net(image, scr, carry, 0)),
+            narrow,
+        },
+        None => Job {
             task: Task::Binary(BinaryOp::Add, k, k),
             narrow,
-        };
-    };
-    let j = copy_whole(image, scr, lhs, xs, 0);
-    copy_whole(image, scr, rhs, ys, 0);
-    let k = cut(narrow, j);
-    Job {
-        task: Task::Carried(k, scratch_tables::expr_net(image, scr, carry, 0)),
-        narrow,
+        },
     }
 }
 
@@ -201,19 +190,14 @@ pub fn is_narrow(image: &[u8], e: u32) -> bool
     requires { (Readable image.now) × (e < count_at_of image.now 1) }
     ensures { result ≡ true → Room image.now 64 e }
 {
-    let x = image_records::expression_at(image, e);
-    let width = x.width;
-    let kind = x.kind;
+    let Expression { width, kind } = image_records::expression_at(image, e);
     if 64 < width {
         return false;
     }
     match kind {
         ExprKind::Unary(_, a) => image_fields::expr_width(image, a) <= 64,
         ExprKind::Binary(_, a, b) => {
-            if 64 < image_fields::expr_width(image, a) {
-                return false;
-            }
-            image_fields::expr_width(image, b) <= 64
+            image_fields::expr_width(image, a) <= 64 && image_fields::expr_width(image, b) <= 64
         }
         _ => true,
     }
@@ -233,9 +217,7 @@ pub fn read_whole(image: &[u8], scr: &[u32], e: u32, xs: &mut [u32], ys: &mut [u
     requires { (Asked image.now scr.now e) × (Room image.now (length xs.old) e) × (length ys.old ≡ length xs.old) }
     ensures { Read (length xs.old) (λ l. build_whole (exprs_of image.now) false (state_of image.now l scr.now) e) image.now (expr_width image.now e) result xs.new ys.new }
 {
-    let x = image_records::expression_at(image, e);
-    let width = x.width;
-    let kind = x.kind;
+    let Expression { width, kind } = image_records::expression_at(image, e);
     match kind {
         ExprKind::Signal(p, lsb) => {
             scratch_tables::copy_signal(image, scr, p, lsb, width, xs, 0);
@@ -363,8 +345,8 @@ fn copy_piece(
     ensures { CopiedPiece image.now scr.now p at lsb end out.old to result out.new }
 {
     let k = image_fields::expr_width(image, p);
-    let lo = word_order::larger(lsb, at);
-    let hi = word_order::smaller(end, at + k);
+    let lo = lsb.max(at);
+    let hi = end.min(at + k);
     if lo < hi {
         scratch_tables::copy_range(image, scr, p, lo - at, hi - lo, out, to as usize);
         return hi - lo;
@@ -380,9 +362,7 @@ fn copy_pieces(image: &[u8], scr: &[u32], start: u32, count: u32, lsb: u32, n: u
     let end = lsb + n;
     let mut at: u32 = 0;
     let mut to: u32 = 0;
-    let mut i = count;
-    while 0 < i {
-        i -= 1;
+    for i in (0..count).rev() {
         let p = image_fields::list_word(image, start + i);
         to += copy_piece(image, scr, p, at, lsb, end, out, to);
         at += image_fields::expr_width(image, p);
@@ -401,9 +381,7 @@ pub fn read_range(
     requires { (AskedRange image.now scr.now e lsb n) × (n ≤ length xs.old) × (length ys.old ≡ length xs.old) }
     ensures { Read (length xs.old) (λ l. build_range (exprs_of image.now) false (state_of image.now l scr.now) e lsb n) image.now n result xs.new ys.new }
 {
-    let x = image_records::expression_at(image, e);
-    let width = x.width;
-    let kind = x.kind;
+    let Expression { width, kind } = image_records::expression_at(image, e);
     match kind {
         ExprKind::Signal(p, first) => {
             scratch_tables::copy_signal(image, scr, p, first + lsb, n, xs, 0);

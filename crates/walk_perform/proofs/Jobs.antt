@@ -9,9 +9,9 @@ use Rattle.spec_model.specs.Builder.{Made, and_then}
 use Rattle.spec_model.specs.Lowering.{resized}
 use Rattle.net_view.specs.View.{netlist_of}
 use Rattle.net_fold.specs.Values.{Fills}
-use Rattle.net_fold.specs.declared.Filled.{Filled}
-use Rattle.net_fold.specs.declared.Filled.TheVariants.{Done}
-use Rattle.op_bits.proofs.Laws.{NotDone, list_by, first_out, first_then}
+use Rattle.std.specs.Prelude.{Result, Ok, Err}
+use Rattle.net_nodes.specs.declared.Full.{Full}
+use Rattle.op_bits.proofs.Laws.{list_by, first_out, first_then}
 use Rattle.walk_operands.specs.Tasks.{task_made, narrow_of, job_made, Fits, cut_to, JobFits}
 use Rattle.walk_operands.specs.declared.Task.{Task}
 use Rattle.walk_operands.specs.declared.Task.TheVariants.{Copied, Constant, Unary, Binary, Carried, Mux}
@@ -72,14 +72,14 @@ module _ (m w : ℕ) (j : Job) (f : JobFits m w j) where
   pub fits_narrowed : (j.narrow ≡ 0 → ⊥) → Fits m j.narrow j.task
   fits_narrowed n = rw (cut_some j.narrow w n) at f.task
 
-  module _ (s xs ys : List ℕ) (l : Netlist) (n : ℕ) (r : Filled) where
-    pub job_whole : (ns net idx : List ℕ) → j.narrow ≡ 0 → Fills (task_made s w j.task xs ys l) n r (take (made_width w w j.task) ns) net idx
+  module _ (s xs ys : List ℕ) (l : Netlist) (n : ℕ) where
+    pub job_whole : (r : Result (Unit {0}) Full) (ns net idx : List ℕ) → j.narrow ≡ 0 → Fills (task_made s w j.task xs ys l) n r (take (made_width w w j.task) ns) net idx
         → Fills (job_made s w j xs ys l) n r (take w ns) net idx
-    job_whole ns net idx e g = list_by _ _ _ _ _ _ _ (narrow_none j.narrow w (task_made s w j.task xs ys l) e) (rw (made_whole m w j.task (fits_whole e)) at g)
+    job_whole r ns net idx e g = list_by _ _ _ _ _ _ _ (narrow_none j.narrow w (task_made s w j.task xs ys l) e) (rw (made_whole m w j.task (fits_whole e)) at g)
 
-    pub job_out : (ns ms net idx : List ℕ) → (j.narrow ≡ 0 → ⊥) → NotDone r → Fills (task_made s w j.task xs ys l) n r ns net idx → Fills (job_made s w j xs ys l) n r ms net idx
-    job_out ns ms net idx z q g = list_by _ _ _ _ _ _ _ (narrow_some j.narrow w (task_made s w j.task xs ys l) z) (first_out _ (λ (ns, l). extended w ns l) n r ns ms net idx q g)
+    pub job_out : (e : Full) (ns ms net idx : List ℕ) → (j.narrow ≡ 0 → ⊥) → Fills (task_made s w j.task xs ys l) n (Err e) ns net idx → Fills (job_made s w j xs ys l) n (Err e) ms net idx
+    job_out e ns ms net idx z g = list_by _ _ _ _ _ _ _ (narrow_some j.narrow w (task_made s w j.task xs ys l) z) (first_out _ (λ (ns, l). extended w ns l) n e ns ms net idx g)
 
-    pub job_narrowed : (ns ms net idx net' idx' : List ℕ) → (j.narrow ≡ 0 → ⊥) → Fills (task_made s w j.task xs ys l) n Done ns net idx
+    pub job_narrowed : (r : Result (Unit {0}) Full) (ns ms net idx net' idx' : List ℕ) → (j.narrow ≡ 0 → ⊥) → Fills (task_made s w j.task xs ys l) n (Ok tt) ns net idx
         → Fills (extended w ns (netlist_of n net)) n r ms net' idx' → Fills (job_made s w j xs ys l) n r ms net' idx'
-    job_narrowed ns ms net idx net' idx' z g h = list_by _ _ _ _ _ _ _ (narrow_some j.narrow w (task_made s w j.task xs ys l) z) (first_then _ (λ (ns, l). extended w ns l) n r ns ms net idx net' idx' g h)
+    job_narrowed r ns ms net idx net' idx' z g h = list_by _ _ _ _ _ _ _ (narrow_some j.narrow w (task_made s w j.task xs ys l) z) (first_then _ (λ (ns, l). extended w ns l) n r ns ms net idx net' idx' g h)

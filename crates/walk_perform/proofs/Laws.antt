@@ -8,7 +8,8 @@ use lib.Seq.{length-take-le}
 use Rattle.spec_model.specs.Builder.{Made}
 use Rattle.word_laws.specs.Widths.{UnWidth, BinWidth}
 use Rattle.net_fold.specs.Values.{Fills}
-use Rattle.net_fold.specs.declared.Filled.{Filled}
+use Rattle.std.specs.Prelude.{Result}
+use Rattle.net_nodes.specs.declared.Full.{Full}
 use Rattle.image_records.specs.Expr.{unary_means, binary_means}
 use Rattle.image_records.specs.declared.UnaryOp.{UnaryOp}
 use Rattle.image_records.specs.declared.UnaryOp.TheVariants as U
@@ -21,7 +22,7 @@ use Rattle.op_makers.specs.declared.Class.{Class}
 use Rattle.op_makers.specs.declared.Class.TheVariants.{Bitwise, Arithmetic, Equal, NotEqual, Compare, CompareBack, Shift}
 
 -- the same width
-pub width_by : (m : Made (List ℕ)) (n : ℕ) (r : Filled) (k v : ℕ) (ns w idx : List ℕ) → k ≡ v → Fills m n r (take k ns) w idx → Fills m n r (take v ns) w idx
+pub width_by : (m : Made (List ℕ)) (n : ℕ) (r : Result (Unit {0}) Full) (k v : ℕ) (ns w idx : List ℕ) → k ≡ v → Fills m n r (take k ns) w idx → Fills m n r (take v ns) w idx
 width_by m n r k v ns w idx e g = rw e at g
 
 -- ---- widths of results ----
@@ -42,7 +43,7 @@ class_le (Compare op) k h = h
 class_le (CompareBack op) k h = h
 class_le (Shift s) k h = omega arith
 
-module _ (m : Made (List ℕ)) (n : ℕ) (r : Filled) (xs ns rest w idx : List ℕ) (k : ℕ) (some : 0 < k) (within : k ≤ length xs) (kept : length ns ≡ length (take k xs)) where
+module _ (m : Made (List ℕ)) (n : ℕ) (r : Result (Unit {0}) Full) (xs ns rest w idx : List ℕ) (k : ℕ) (some : 0 < k) (within : k ≤ length xs) (kept : length ns ≡ length (take k xs)) where
   long : length ns ≡ k
   long = kept ∙ length-take-le k xs within
 

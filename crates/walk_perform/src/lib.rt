@@ -19,7 +19,8 @@ ghost use Rattle.walk_operands.specs.Tasks.{task_made, job_made, Fits, JobFits};
 ghost use Rattle.walk_job_parts.specs.Widths.{made_width};
 
 use image_records::{BinaryOp, UnaryOp};
-use net_fold::{ArithmeticOp, Filled};
+use net_fold::ArithmeticOp;
+use net_nodes::Full;
 use walk_operands::{Job, Task};
 
 fn mux(
@@ -30,7 +31,7 @@ fn mux(
     w: u32,
     xs: &mut [u32],
     ys: &[u32],
-) -> Filled
+) -> Result<(), Full>
     requires { (Held n net.old idx.old) × (w ≤ length xs.old) × (w ≤ length ys.now) × (PlainNots (netlist_of n net.old)) }
     ensures { Fills (both (add_mux c) (take w xs.old) (take w ys.now) (netlist_of n net.old)) n result (take w xs.new) net.new idx.new }
 {
@@ -38,7 +39,7 @@ fn mux(
     op_bits::mux_bits(net, idx, n, c, &mut xs[..k], &ys[..k])
 }
 
-fn unary(net: &mut [u32], idx: &mut [u32], n: u32, op: UnaryOp, k: u32, xs: &mut [u32]) -> Filled
+fn unary(net: &mut [u32], idx: &mut [u32], n: u32, op: UnaryOp, k: u32, xs: &mut [u32]) -> Result<(), Full>
     requires { (Held n net.old idx.old) × (0 < k) × (k ≤ length xs.old) }
     ensures { Fills (lower_unary (unary_means op) (take k xs.old) (netlist_of n net.old)) n result (take (unary_width op k) xs.new) net.new idx.new }
 {
@@ -55,7 +56,7 @@ fn binary(
     k: u32,
     xs: &mut [u32],
     ys: &[u32],
-) -> Filled
+) -> Result<(), Full>
     requires { (Held n net.old idx.old) × (0 < j) × (j ≤ 1024) × (j ≤ length xs.old) × (k ≤ length ys.now) × (OperandsFit (class_of op) j k) × (PlainNots (netlist_of n net.old)) }
     ensures { Fills (lower_binary (binary_means op) (take j xs.old) (take k ys.now) (netlist_of n net.old)) n result (take (class_width (class_of op) j) xs.new) net.new idx.new }
 {
@@ -73,12 +74,12 @@ fn carried(
     c: u32,
     xs: &mut [u32],
     ys: &[u32],
-) -> Filled
+) -> Result<(), Full>
     requires { (Held n net.old idx.old) × (0 < k) × (k ≤ 1024) × (k ≤ length xs.old) × (k ≤ length ys.now) × (c < absent) }
     ensures { Fills (W.arithmetic B.Add (take k xs.old) (take k ys.now) (some c) (netlist_of n net.old)) n result (take k xs.new) net.new idx.new }
 {
     let m = k as usize;
-    net_cells::arithmetic(net, idx, n, ArithmeticOp::Add, c, &mut xs[..m], &ys[..m])
+    net_cells::arithmetic(net, idx, n, ArithmeticOp::Add, Some(c), &mut xs[..m], &ys[..m])
 }
 
 // The nets of a task of width v, in a job of width w.
@@ -92,12 +93,12 @@ fn perform_task(
     w: u32,
     xs: &mut [u32],
     ys: &[u32],
-) -> Filled
+) -> Result<(), Full>
     requires { (Held n net.old idx.old) × (Fits (length xs.old) v task) × (w ≤ length xs.old) × (length xs.old ≤ 1024) × (length ys.now ≡ length xs.old) × (PlainNots (netlist_of n net.old)) }
     ensures { Fills (task_made image.now w task xs.old ys.now (netlist_of n net.old)) n result (take (made_width v w task) xs.new) net.new idx.new }
 {
     match task {
-        Task::Copied => Filled::Done,
+        Task::Copied => Ok(()),
         Task::Constant(start, k, lsb) => walk_job_parts::constant(
             image, net, idx, n, start, k, lsb, w, xs,
         ),
@@ -118,19 +119,15 @@ pub fn perform(
     w: u32,
     xs: &mut [u32],
     ys: &[u32],
-) -> Filled
+) -> Result<(), Full>
     requires { (Held n net.old idx.old) × (JobFits (length xs.old) w job) × (length xs.old ≤ 1024) × (length ys.now ≡ length xs.old) × (PlainNots (netlist_of n net.old)) }
     ensures { Fills (job_made image.now w job xs.old ys.now (netlist_of n net.old)) n result (take w xs.new) net.new idx.new }
 {
-    let task = job.task;
-    let narrow = job.narrow;
+    let Job { task, narrow } = job;
     if narrow == 0 {
         return perform_task(image, net, idx, n, task, w, w, xs, ys);
     }
-    let r = perform_task(image, net, idx, n, task, narrow, w, xs, ys);
-    let Filled::Done = r else {
-        return r;
-    };
+    perform_task(image, net, idx, n, task, narrow, w, xs, ys)?;
     let m = walk_job_parts::task_width(task, narrow, w);
     walk_job_parts::extend(net, idx, n, m, w, xs)
 }

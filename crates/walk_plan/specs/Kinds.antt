@@ -1,5 +1,6 @@
 -- The answers for each kind of expression, against the lists of needs. Assumes nothing.
-use Rattle.std.specs.Prelude.{◌≡◌, refl, Bool, true, false, cond, List, [], ◌∷◌, ◌++◌, map, ℕ, ◌+◌, ◌-◌, ◌≤◌, ◌<◌, min, max, length, drop}
+use Rattle.std.specs.Prelude.{◌≡◌, refl, Bool, true, false, cond, List, [], ◌∷◌, ◌++◌, map, ℕ, ◌+◌, ◌-◌, ◌≤◌, ◌<◌, min, max, length, drop, Some, None}
+use Rattle.std.specs.Prelude as code
 use Rattle.std.proofs.Common.{sym, ap, ◌∙◌, true≢false, arith, drop_of_length-le}
 use Rattle.std.proofs.Math.Option.{Option, none, some}
 use borrow.Author.Tests.{lt-ltb, le-ltb}
@@ -20,7 +21,7 @@ use Rattle.image_records.specs.OpClass.{op_class_of, adds_of, add_class}
 use Rattle.image_records.specs.declared.OpClass.{OpClass}
 use Rattle.image_records.specs.OpClass.{bitwise}
 use Rattle.walk_plan.specs.declared.Need.{Need}
-use Rattle.walk_plan.specs.declared.Need.TheVariants.{Bit, Whole, Range, Nothing}
+use Rattle.walk_plan.specs.declared.Need.TheVariants.{Bit, Whole, Range}
 use Rattle.walk_plan.specs.declared.Turn.{Turn}
 use Rattle.walk_plan.specs.declared.Turn.TheVariants.{Lower, Last, Bits, Build}
 use Rattle.walk_plan.specs.Plan.{needs_of, step_needs, bits_needs, TurnOf, TurnIn, plain_of, operand_needs, pair_needs, triple_needs, low_first, parts_needs, kind_needs, whole_needs, Asked, unary_needs, binary_needs, mux_ranges, piece_step, part_needs, pieces_needs, kind_rest, AskedParts, AskedRange, range_rest}
@@ -48,13 +49,13 @@ operand_three o c q = rw q
 pub none_left : {A : Type 0} (l : List A) (k : ℕ) → length l ≤ k → drop k l ≡ []
 none_left l k h = drop_of_length-le l h
 
-needs_most : (n : Need) → length (needs_of n) ≤ 1
-needs_most (Bit p b) = omega arith
-needs_most (Whole a) = omega arith
-needs_most (Range a l v) = omega arith
-needs_most Nothing = omega arith
+needs_most : (n : code.Option Need) → length (needs_of n) ≤ 1
+needs_most (Some (Bit p b)) = omega arith
+needs_most (Some (Whole a)) = omega arith
+needs_most (Some (Range a l v)) = omega arith
+needs_most None = omega arith
 
-pub one_ends : (n : Need) (k : ℕ) → (k ≡ 0 → ⊥) → drop k (needs_of n) ≡ []
+pub one_ends : (n : code.Option Need) (k : ℕ) → (k ≡ 0 → ⊥) → drop k (needs_of n) ≡ []
 one_ends n k z = let m = needs_most n in none_left (needs_of n) k (omega (arith, z))
 
 module _ (s : List ℕ) where
@@ -160,7 +161,7 @@ module _ (s : List ℕ) (e lsb w : ℕ) (kind : ExprKind) where
   unfolding kind_rest
   rest_constant start q j i = rw q
 
-  pub rest_unary : (op : UnaryOp) (a : ℕ) (r : Need) → kind ≡ K.Unary op a → unary_needs op e a lsb w ≡ needs_of r → (j i : ℕ) → kind_rest s e lsb w kind j i ≡ drop j (needs_of r)
+  pub rest_unary : (op : UnaryOp) (a : ℕ) (r : code.Option Need) → kind ≡ K.Unary op a → unary_needs op e a lsb w ≡ needs_of r → (j i : ℕ) → kind_rest s e lsb w kind j i ≡ drop j (needs_of r)
   unfolding kind_rest
   rest_unary op a r q f j i = rw (q, f)
 
@@ -185,7 +186,7 @@ module _ (s : List ℕ) (start n lsb w k p v : ℕ) (a : AskedParts s start n ls
   pub part_most : v ≤ 1024
   part_most = rw (g, f) (a.2 (n - 1 - k) (omega arith))
 
-  pub piece_turn : (at : ℕ) (r : Need) → part_needs lsb (lsb + w) at p v ≡ needs_of r → pieces_needs s start n lsb w k at ≡ needs_of r ++ pieces_needs s start n lsb w (k + 1) (at + v)
+  pub piece_turn : (at : ℕ) (r : code.Option Need) → part_needs lsb (lsb + w) at p v ≡ needs_of r → pieces_needs s start n lsb w k at ≡ needs_of r ++ pieces_needs s start n lsb w (k + 1) (at + v)
   piece_turn at r m =
       let y : width_at (exprs_of s) p ≡ v = ap (width_at (exprs_of s)) f ∙ a.3 (n - 1 - k) (omega arith) ∙ ap (expr_width s) (sym f) ∙ sym g in
       ap (λ (l : List ℕ). step_needs (map piece_step (pieces (exprs_of s) lsb (lsb + w) at l))) (low_next n (λ i. list_word s (start + i)) k u)

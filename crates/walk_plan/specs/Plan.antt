@@ -1,5 +1,6 @@
 -- The needs that the answers stand for, and the lists of needs of the lowering model by the code's kinds. Assumes nothing.
-use Rattle.std.specs.Prelude.{◌≡◌, cond, List, [], ◌∷◌, ◌++◌, map, ℕ, ◌+◌, ◌*◌, ◌-◌, ◌≤◌, ◌<◌, min, max, ltb, drop}
+use Rattle.std.specs.Prelude.{◌≡◌, cond, List, [], ◌∷◌, ◌++◌, map, ℕ, ◌+◌, ◌*◌, ◌-◌, ◌≤◌, ◌<◌, min, max, ltb, drop, Some, None}
+use Rattle.std.specs.Prelude as code
 use Rattle.std.proofs.Math.Option.{none}
 use Rattle.spec_rules.specs.Image.{count_at_of, signal_width, expr_width, list_word}
 use Rattle.spec_model.specs.Ranges.{width_at, class_of}
@@ -14,16 +15,16 @@ use Rattle.expr_laws.specs.Exprs.{exprs_of}
 use Rattle.expr_fusion.specs.Fusion.{Inside, parts_of}
 use Rattle.walk_view.specs.Met.{step_need}
 use Rattle.walk_plan.specs.declared.Need.{Need}
-use Rattle.walk_plan.specs.declared.Need.TheVariants.{Bit, Whole, Range, Nothing}
+use Rattle.walk_plan.specs.declared.Need.TheVariants.{Bit, Whole, Range}
 use Rattle.walk_plan.specs.declared.Turn.{Turn}
 use Rattle.walk_plan.specs.declared.Turn.TheVariants.{Lower, Last, Bits, Build}
 
 -- none or one
-abbrev pub needs_of : Need → List M.Need
-needs_of (Bit p b) = M.Bit p b ∷ []
-needs_of (Whole e) = M.Whole e ∷ []
-needs_of (Range e lsb w) = M.Range e lsb w ∷ []
-needs_of Nothing = []
+abbrev pub needs_of : code.Option Need → List M.Need
+needs_of (Some (Bit p b)) = M.Bit p b ∷ []
+needs_of (Some (Whole e)) = M.Whole e ∷ []
+needs_of (Some (Range e lsb w)) = M.Range e lsb w ∷ []
+needs_of None = []
 
 abbrev pub step_needs : List Step → List M.Need
 step_needs ss = map step_need ss
@@ -42,7 +43,7 @@ pub record BitsThere (s : List ℕ) (p b n : ℕ) : Type 0 where
 -- what turn k answers, where rest k at is left before it and at is where the part of a Concat that it takes begins
 abbrev pub TurnOf : List ℕ → (ℕ → ℕ → List M.Need) → ℕ → ℕ → Turn → Type 0
 TurnOf s rest k at (Lower n at₁) = (rest k at ≡ needs_of n ++ rest (k + 1) at₁) × (at₁ ≤ 1024 * (k + 1))
-TurnOf s rest k at (Last n) = rest k at ≡ needs_of n
+TurnOf s rest k at (Last n) = rest k at ≡ needs_of (Some n)
 TurnOf s rest k at (Bits p b n) = BitsThere s p b n × ((j i : ℕ) → rest j i ≡ drop j (bits_needs p b n))
 TurnOf s rest k at Build = rest k at ≡ []
 

@@ -10,30 +10,29 @@ ghost use Rattle.expr_laws.specs.Exprs.{exprs_of};
 ghost use Rattle.expr_fusion.specs.Fusion.{Inside, shown};
 ghost use Rattle.walk_plan.specs.Plan.{needs_of, TurnOf, TurnIn, operand_needs, plain_of, pair_needs, triple_needs, parts_needs, kind_needs, whole_needs, Asked, unary_needs, binary_needs, mux_ranges, part_needs, pieces_needs, kind_rest, AskedParts, AskedRange, range_rest};
 
-use expr_fusion::{Carry, Operands};
-use image_records::{BinaryOp, ExprKind, OpClass, UnaryOp};
+use expr_fusion::Operands;
+use image_records::{BinaryOp, ExprKind, Expression, OpClass, UnaryOp};
 
-// Something to lower: a signal's bit, an expression, a range of an expression (lsb, width), or nothing.
+// Something to lower: a signal's bit, an expression, a range of an expression (lsb, width).
 #[derive(Clone, Copy)]
 pub enum Need {
     Bit(u32, u32),
     Whole(u32),
     Range(u32, u32, u32),
-    Nothing,
 }
 
-// What turn k of a loop over what is lowered before an expression, or a range of it, takes: one need, and where the part of a Concat that
-// the next turn takes begins; the last need; of some bits of a signal (signal, first bit, how many) those from the k-th on; or nothing.
+// What turn k of a loop over what is lowered before an expression, or a range of it, takes: one need, or none of a part that lies outside of
+// the range, and where the part of a Concat that the next turn takes begins; the last need; of some bits of a signal (signal, first bit, how many) those from the k-th on; or nothing.
 #[derive(Clone, Copy)]
 pub enum Turn {
-    Lower(Need, u32),
+    Lower(Option<Need>, u32),
     Last(Need),
     Bits(u32, u32, u32),
     Build,
 }
 
 fn one(need: Need, k: u32) -> Turn
-    ensures { (s : List ℕ) → TurnIn s (needs_of need) k result }
+    ensures { (s : List ℕ) → TurnIn s (needs_of (Some need)) k result }
 {
     if k == 0 {
         return Turn::Last(need);
@@ -49,7 +48,7 @@ fn plain(lhs: u32, rhs: u32) -> Operands
     Operands {
         lhs,
         rhs,
-        carry: Carry::Nothing,
+        carry: None,
     }
 }
 
@@ -58,8 +57,7 @@ pub fn operands(image: &[u8], op: BinaryOp, lhs: u32, rhs: u32) -> Operands
     requires { Inside image.now lhs rhs }
     ensures { shown result ≡ model.operands_of (exprs_of image.now) (binary_means op) lhs rhs }
 {
-    let class = image_records::op_class(op);
-    match class {
+    match image_records::op_class(op) {
         OpClass::Adds => expr_fusion::add_with_carry(image, lhs, rhs),
         OpClass::Ands => plain(lhs, rhs),
         OpClass::Ors => plain(lhs, rhs),
@@ -72,7 +70,7 @@ fn pair(a: u32, b: u32, k: u32) -> Turn
     ensures { (s : List ℕ) → TurnIn s (pair_needs a b) k result }
 {
     if k == 0 {
-        return Turn::Lower(Need::Whole(a), 0);
+        return Turn::Lower(Some(Need::Whole(a)), 0);
     }
     if k == 1 {
         return Turn::Last(Need::Whole(b));
@@ -84,10 +82,10 @@ fn triple(a: u32, b: u32, c: u32, k: u32) -> Turn
     ensures { (s : List ℕ) → TurnIn s (triple_needs a b c) k result }
 {
     if k == 0 {
-        return Turn::Lower(Need::Whole(a), 0);
+        return Turn::Lower(Some(Need::Whole(a)), 0);
     }
     if k == 1 {
-        return Turn::Lower(Need::Whole(b), 0);
+        return Turn::Lower(Some(Need::Whole(b)), 0);
     }
     if k == 2 {
         return Turn::Last(Need::Whole(c));
@@ -98,11 +96,10 @@ fn triple(a: u32, b: u32, c: u32, k: u32) -> Turn
 fn operand(o: Operands, k: u32) -> Turn
     ensures { (s : List ℕ) → TurnIn s (operand_needs (shown o)) k result }
 {
-    let carry = o.carry;
-    let Carry::Of(c) = carry else {
-        return pair(o.lhs, o.rhs, k);
-    };
-    triple(o.lhs, o.rhs, c, k)
+    match o.carry {
+        Some(carry) => triple(o.lhs, o.rhs, carry, k),
+        None => pair(o.lhs, o.rhs, k),
+    }
 }
 
 // The parts of a Concat, the least significant first.
@@ -111,10 +108,8 @@ fn part(image: &[u8], start: u32, count: u32, k: u32) -> Turn
     ensures { (s : List ℕ) → TurnIn s (parts_needs image.now start count) k result }
 {
     if k < count {
-        return Turn::Lower(
-            Need::Whole(image_fields::list_word(image, start + (count - 1 - k))),
-            0,
-        );
+        let part = image_fields::list_word(image, start + (count - 1 - k));
+        return Turn::Lower(Some(Need::Whole(part)), 0);
     }
     Turn::Build
 }
@@ -139,16 +134,14 @@ pub fn whole_turn(image: &[u8], e: u32, k: u32) -> Turn
     requires { (Accepted image.now) × (e < count_at_of image.now 1) }
     ensures { TurnIn image.now (whole_needs image.now e) k result }
 {
-    let x = image_records::expression_at(image, e);
-    let width = x.width;
-    let kind = x.kind;
+    let Expression { width, kind } = image_records::expression_at(image, e);
     kind_need(image, width, kind, k)
 }
 
 // ---- a range of an expression ----
 
 fn unary_range_need(op: UnaryOp, e: u32, a: u32, lsb: u32, w: u32) -> Need
-    ensures { unary_needs op e a lsb w ≡ needs_of result }
+    ensures { unary_needs op e a lsb w ≡ needs_of (Some result) }
 {
     match op {
         UnaryOp::BitNot => Need::Range(a, lsb, w),
@@ -166,7 +159,7 @@ fn binary_range_turn(op: BinaryOp, e: u32, a: u32, b: u32, lsb: u32, w: u32, k: 
         return one(Need::Whole(e), k);
     }
     if k == 0 {
-        return Turn::Lower(Need::Range(a, lsb, w), 0);
+        return Turn::Lower(Some(Need::Range(a, lsb, w)), 0);
     }
     if k == 1 {
         return Turn::Last(Need::Range(b, lsb, w));
@@ -178,10 +171,10 @@ fn mux_range_turn(condition: u32, then_expr: u32, else_expr: u32, lsb: u32, w: u
     ensures { (s : List ℕ) → TurnIn s (mux_ranges condition then_expr else_expr lsb w) k result }
 {
     if k == 0 {
-        return Turn::Lower(Need::Whole(condition), 0);
+        return Turn::Lower(Some(Need::Whole(condition)), 0);
     }
     if k == 1 {
-        return Turn::Lower(Need::Range(then_expr, lsb, w), 0);
+        return Turn::Lower(Some(Need::Range(then_expr, lsb, w)), 0);
     }
     if k == 2 {
         return Turn::Last(Need::Range(else_expr, lsb, w));
@@ -190,16 +183,16 @@ fn mux_range_turn(condition: u32, then_expr: u32, else_expr: u32, lsb: u32, w: u
 }
 
 // What the range takes of a part, v wide, that begins at bit at.
-fn part_range_need(lsb: u32, end: u32, at: u32, p: u32, v: u32) -> Need
+fn part_range_need(lsb: u32, end: u32, at: u32, p: u32, v: u32) -> Option<Need>
     requires { at + v < 4294967296 }
     ensures { part_needs lsb end at p v ≡ needs_of result }
 {
-    let low = word_order::larger(lsb, at);
-    let high = word_order::smaller(end, at + v);
+    let low = lsb.max(at);
+    let high = end.min(at + v);
     if low < high {
-        return Need::Range(p, low - at, high - low);
+        return Some(Need::Range(p, low - at, high - low));
     }
-    Need::Nothing
+    None
 }
 
 // Of a Concat's part k, which begins at bit at, what stands in the range.
@@ -244,6 +237,5 @@ pub fn range_turn(image: &[u8], e: u32, lsb: u32, w: u32, k: u32, at: u32) -> Tu
     ensures { TurnOf image.now (range_rest image.now e lsb w) k at result }
 {
     let x = image_records::expression_at(image, e);
-    let kind = x.kind;
-    kind_range_turn(image, e, lsb, w, kind, k, at)
+    kind_range_turn(image, e, lsb, w, x.kind, k, at)
 }

@@ -9,7 +9,7 @@ use Rattle.spec_model.specs.Builder.{Out, refused, done, and_then}
 use Rattle.spec_model.specs.Lowering as M
 use Rattle.spec_model.specs.Lowering.{State, Step, Always, Unless, lower_steps, lower_need, lower_by, lower_expression, lower_expression_range, resolve_signal_bit, drive, whole, range_known, signal_bit, cell, mark, driver_of, set_signal_bit, whole_net, whole_steps, range_steps_of, keep_whole, keep_range, build_whole, build_range}
 use Rattle.walk_view.specs.Met.{AllMet}
-use Rattle.walk_view.specs.declared.Lowered.{Lowered}
+use Rattle.walk_view.specs.Refusals.{Lowered}
 use Rattle.walk_view.specs.View.{out_of}
 use Rattle.walk_view.specs.Answers.{Refused, out}
 use Rattle.walk_plan.specs.Plan.{step_needs}

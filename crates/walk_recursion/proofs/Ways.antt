@@ -8,6 +8,7 @@ use native.Mathlib.Nat.{mul-le-mul_right, suc-mul}
 use native.Mathlib.Omega.{arith}
 use lib.ListN.{length, get_or, drop}
 use Rattle.spec_tests.specs.Laws.{is_some}
+use Rattle.spec_tests.specs.Options.{option_of}
 use Rattle.spec_tests.specs.Rules.{list_of, sum_to}
 use Rattle.spec_rules.specs.Image.{count_at_of, signal_width, expr_width, decode}
 use Rattle.spec_model.specs.Builder.{Out, done, and_then}
@@ -19,25 +20,38 @@ use Rattle.scratch_view.specs.View.{limit_of, signal_column, bit_at, known, net_
 use Rattle.scratch_view.specs.Laws.{whole_none, whole_some, read_whole}
 use Rattle.scratch_view.specs.Drivers.{driver_inside}
 use Rattle.law_accepted.specs.Formed.{readable}
-use Rattle.walk_view.specs.declared.Lowered.{Lowered}
-use Rattle.walk_view.specs.declared.Lowered.TheVariants.{Done, Undriven, Loop, Reset, TooManyNets, ListFull}
+use Rattle.std.specs.Prelude as code
+use Rattle.std.specs.Prelude.{Some, None, Ok, Err, IsErr, IsErrAnd}
+use Rattle.walk_view.specs.Refusals.{Lowered}
+use Rattle.walk_view.specs.declared.Refusal.TheVariants.{Undriven, Loop, Reset, TooManyNets, ListFull}
 use Rattle.walk_view.specs.Met.{met, AllMet, Grows, grows_mark, grows_signal, meets_signal}
 use Rattle.walk_view.specs.View.{walk_state, Ready, Sure, There, out_of, Builds, rank_of, cost_of, Gives}
 use Rattle.walk_invariant.specs.Sure.{sure_done, sure_marks}
 use Rattle.walk_plan.specs.declared.Need.{Need}
-use Rattle.walk_plan.specs.declared.Need.TheVariants.{Bit, Whole, Range, Nothing}
+use Rattle.walk_plan.specs.declared.Need.TheVariants.{Bit, Whole, Range}
 use Rattle.walk_plan.specs.Plan.{needs_of, step_needs, whole_needs, range_rest}
 use Rattle.walk_plan.specs.Kinds.{range_begins}
 use Rattle.walk_plan.specs.Fits.{AllFit, whole_fits, range_fits}
 use Rattle.walk_recursion.specs.declared.Part.{Part}
 use Rattle.walk_recursion.specs.declared.Part.TheVariants as P
-use Rattle.walk_left.specs.declared.Left.TheVariants as F
+use Rattle.walk_left.specs.declared.Left.{Left}
 use Rattle.walk_left.specs.Needs.{lower_needs, NeedsMet}
 use Rattle.walk_left.specs.Left.{Skips, LeftOf, whole_rest, FirstTurn, driven, Keeps}
-use Rattle.walk_recursion.specs.Walk.{ThereNeed, GivesNeed, cost_need, LoopAt, WholeLoop, RangeLoop, need_of, At, Below}
+use Rattle.walk_view.specs.declared.Refusal.{Refusal}
+use Rattle.walk_recursion.specs.Walk.{ThereNeed, GivesNeed, cost_need, LoopAt, WholeLoop, RangeLoop, need_of, At, Below, Next, After}
 use Rattle.walk_view.specs.Stores.{stored_ready, stored_kept, stored_state, stored_grows, kept_same, kept_then}
 use Rattle.walk_view.specs.Answers.{Refused, out, not_done}
 use Rattle.walk_recursion.proofs.Steps.{needs_none, needs_on, needs_out, all_needs, need_suc, whole_there, whole_open, range_there, range_open, bit_there, bit_undriven, bit_loop, bit_driven_law}
+
+-- ---- a net that may be there ----
+
+pub there_is : (o : code.Option ℕ) → code.is_some o ≡ true → (n : ℕ) × (option_of o ≡ some n)
+there_is (Some n) e = (n, refl)
+there_is None e = absurd (true≢false (sym e))
+
+pub none_is : (o : code.Option ℕ) → code.is_some o ≡ false → option_of o ≡ none
+none_is (Some n) e = absurd (true≢false e)
+none_is None e = refl
 
 pub enough : (model : ℕ → Out State) (cost : ℕ) (x : Out State) → ((f : ℕ) → cost ≤ f → model (suc f) ≡ x) → (f : ℕ) → cost < f → model f ≡ x
 enough model cost x g zero h = absurd (omega arith)
@@ -75,7 +89,7 @@ module _ (s net₀ w₀ : List ℕ) (n₀ : M.Need) (all : List Step) (cont : St
     said : (f : ℕ) → cost_of s w₀ n₀ ≤ f → lower_need f (decode s) false n (walk_state s net w) ≡ out_of x (walk_state s net₁ w₁)
     said f c = let l = less s w₀ w n₀ n h.kept.fewer fits_here.0.1 in g.says f (omega arith)
 
-    turn_one : x ≡ Done → LoopAt s net₀ w₀ n₀ all cont rest₁ net₁ w₁
+    turn_one : x ≡ Ok tt → LoopAt s net₀ w₀ n₀ all cont rest₁ net₁ w₁
     turn_one d = record {
       says = λ f c.
           h.says f c
@@ -105,30 +119,30 @@ module _ (s net₀ w₀ : List ℕ) (n₀ : M.Need) (all : List Step) (cont : St
   nothing_on : rest ≡ rest₁ → net₁ ≡ net → w₁ ≡ w → LoopAt s net₀ w₀ n₀ all cont rest₁ net₁ w₁
   nothing_on e a b = rw (← e, a, b) h
 
-  pub loop_turn : (n : Need) (x : Lowered) → rest ≡ needs_of n ++ rest₁ → GivesNeed s net w n x net₁ w₁ → x ≡ Done → LoopAt s net₀ w₀ n₀ all cont rest₁ net₁ w₁
-  loop_turn (Bit p b) x e g d = turn_one (M.Bit p b) x e g d
-  loop_turn (Whole a) x e g d = turn_one (M.Whole a) x e g d
-  loop_turn (Range a l k) x e g d = turn_one (M.Range a l k) x e g d
-  loop_turn Nothing x e g d = nothing_on e g.1 g.2
+  pub loop_turn : (n : code.Option Need) (x : Lowered) → rest ≡ needs_of n ++ rest₁ → GivesNeed s net w n x net₁ w₁ → x ≡ Ok tt → LoopAt s net₀ w₀ n₀ all cont rest₁ net₁ w₁
+  loop_turn (Some (Bit p b)) x e g d = turn_one (M.Bit p b) x e g d
+  loop_turn (Some (Whole a)) x e g d = turn_one (M.Whole a) x e g d
+  loop_turn (Some (Range a l k)) x e g d = turn_one (M.Range a l k) x e g d
+  loop_turn None x e g d = nothing_on e g.1 g.2
 
-  pub loop_out : (n : Need) (x : Lowered) → rest ≡ needs_of n ++ rest₁ → GivesNeed s net w n x net₁ w₁ → Refused x → Gives s net₀ w₀ n₀ x net₁ w₁
-  loop_out (Bit p b) x e g q = refused_one (M.Bit p b) x e g q
-  loop_out (Whole a) x e g q = refused_one (M.Whole a) x e g q
-  loop_out (Range a l k) x e g q = refused_one (M.Range a l k) x e g q
-  loop_out Nothing x e g q = not_done x q g.0
+  pub loop_out : (n : code.Option Need) (x : Lowered) → rest ≡ needs_of n ++ rest₁ → GivesNeed s net w n x net₁ w₁ → Refused x → Gives s net₀ w₀ n₀ x net₁ w₁
+  loop_out (Some (Bit p b)) x e g q = refused_one (M.Bit p b) x e g q
+  loop_out (Some (Whole a)) x e g q = refused_one (M.Whole a) x e g q
+  loop_out (Some (Range a l k)) x e g q = refused_one (M.Range a l k) x e g q
+  loop_out None x e g q = not_done x q g.0
 
   -- the call for a need is in the image and costs less
-  pub need_there : (n : Need) → rest ≡ needs_of n ++ rest₁ → ThereNeed s n
-  need_there (Bit p b) e = (subst (AllFit s (rank_of n₀)) e h.fits).0.0
-  need_there (Whole a) e = (subst (AllFit s (rank_of n₀)) e h.fits).0.0
-  need_there (Range a l k) e = (subst (AllFit s (rank_of n₀)) e h.fits).0.0
-  need_there Nothing e = tt
+  pub need_there : (n : code.Option Need) → rest ≡ needs_of n ++ rest₁ → ThereNeed s n
+  need_there (Some (Bit p b)) e = (subst (AllFit s (rank_of n₀)) e h.fits).0.0
+  need_there (Some (Whole a)) e = (subst (AllFit s (rank_of n₀)) e h.fits).0.0
+  need_there (Some (Range a l k)) e = (subst (AllFit s (rank_of n₀)) e h.fits).0.0
+  need_there None e = tt
 
-  pub need_less : (n : Need) → 0 < rank_of n₀ → rest ≡ needs_of n ++ rest₁ → cost_need s w n < cost_of s w₀ n₀
-  need_less (Bit p b) z e = let l = less s w₀ w n₀ (M.Bit p b) h.kept.fewer (subst (AllFit s (rank_of n₀)) e h.fits).0.1 in omega arith
-  need_less (Whole a) z e = let l = less s w₀ w n₀ (M.Whole a) h.kept.fewer (subst (AllFit s (rank_of n₀)) e h.fits).0.1 in omega arith
-  need_less (Range a l k) z e = let l = less s w₀ w n₀ (M.Range a l k) h.kept.fewer (subst (AllFit s (rank_of n₀)) e h.fits).0.1 in omega arith
-  need_less Nothing z e = omega arith
+  pub need_less : (n : code.Option Need) → 0 < rank_of n₀ → rest ≡ needs_of n ++ rest₁ → cost_need s w n < cost_of s w₀ n₀
+  need_less (Some (Bit p b)) z e = let l = less s w₀ w n₀ (M.Bit p b) h.kept.fewer (subst (AllFit s (rank_of n₀)) e h.fits).0.1 in omega arith
+  need_less (Some (Whole a)) z e = let l = less s w₀ w n₀ (M.Whole a) h.kept.fewer (subst (AllFit s (rank_of n₀)) e h.fits).0.1 in omega arith
+  need_less (Some (Range a l k)) z e = let l = less s w₀ w n₀ (M.Range a l k) h.kept.fewer (subst (AllFit s (rank_of n₀)) e h.fits).0.1 in omega arith
+  need_less None z e = omega arith
 
   pub loop_met : rest ≡ [] → AllMet (walk_state s net w) all
   loop_met e = h.done_then (walk_state s net w) (λ y m. m) (subst (NeedsMet (walk_state s net w)) (sym e) tt)
@@ -147,7 +161,7 @@ module _ (s net₀ w₀ : List ℕ) (n₀ : M.Need) (all : List Step) (cont : St
 
 module _ (s net w : List ℕ) (n : M.Need) (r : Ready s net w) where
   there : ((f : ℕ) → lower_by (λ n' st. lower_need f (decode s) false n' st) (decode s) false n (walk_state s net w) ≡ done (walk_state s net w))
-      → met (walk_state s net w) n ≡ true → Gives s net w n Done net w
+      → met (walk_state s net w) n ≡ true → Gives s net w n (Ok tt) net w
   there a m = record {
     says = enough (λ f. lower_need f (decode s) false n (walk_state s net w)) _ _ (λ f c. need_suc f (decode s) n (walk_state s net w) ∙ a f);
     ready = r;
@@ -173,7 +187,7 @@ module _ (s net w : List ℕ) (e : ℕ) (r : Ready s net w) (h : e < count_at_of
   pub whole_not : is_whole s (limit_of w) w e ≡ false → whole (walk_state s net w) e ≡ none
   whole_not t = read_whole s (limit_of w) _ w e h ∙ whole_none s (limit_of w) w e t
 
-  pub whole_known : is_whole s (limit_of w) w e ≡ true → Gives s net w (M.Whole e) Done net w
+  pub whole_known : is_whole s (limit_of w) w e ≡ true → Gives s net w (M.Whole e) (Ok tt) net w
   unfolding met
   whole_known t = there s net w (M.Whole e) r (λ f. whole_there _ (decode s) e (walk_state s net w) _ (whole_yes t)) (ap is_some (whole_yes t))
 
@@ -186,7 +200,7 @@ module _ (s net w : List ℕ) (e : ℕ) (r : Ready s net w) (h : e < count_at_of
       go true q = refl
       go false q = absurd (true≢false (sym m ∙ ap is_some (whole_not q)))
 
-pub range_known_law : (s net w : List ℕ) (e lsb k : ℕ) → Ready s net w → range_known (walk_state s net w) e lsb k ≡ true → Gives s net w (M.Range e lsb k) Done net w
+pub range_known_law : (s net w : List ℕ) (e lsb k : ℕ) → Ready s net w → range_known (walk_state s net w) e lsb k ≡ true → Gives s net w (M.Range e lsb k) (Ok tt) net w
 unfolding met
 range_known_law s net w e lsb k r t = there s net w (M.Range e lsb k) r (λ f. range_there _ (decode s) e lsb k (walk_state s net w) t) t
 
@@ -216,20 +230,20 @@ bit_met s net w p b hp hb n =
     (rw (row_at (signal_width s) (count_at_of s 0) (known_at w) p hp, length_list_of (signal_width s p) (λ j. known_at w (sum_to (signal_width s) p + j))) hb)
 
 module _ (s net w : List ℕ) (p b : ℕ) (r : Ready s net w) (hp : p < count_at_of s 0) (hb : b < signal_width s p) where
-  pub bit_known : (n : ℕ) → signal_bit (walk_state s net w) p b ≡ some n → Gives s net w (M.Bit p b) Done net w
+  pub bit_known : (n : ℕ) → signal_bit (walk_state s net w) p b ≡ some n → Gives s net w (M.Bit p b) (Ok tt) net w
   unfolding met
   bit_known n k = there s net w (M.Bit p b) r (λ f. bit_there _ (decode s) p b (walk_state s net w) n k) (ap is_some k)
 
   module _ (k : signal_bit (walk_state s net w) p b ≡ none) where
-    pub bit_none : driver_of (decode s) p b ≡ none → Gives s net w (M.Bit p b) (Undriven p b) net w
-    bit_none d = stops s net w (M.Bit p b) r (Undriven p b) tt (λ f. bit_undriven _ (decode s) p b (walk_state s net w) k d)
+    pub bit_none : driver_of (decode s) p b ≡ none → Gives s net w (M.Bit p b) (Err (Undriven p b)) net w
+    bit_none d = stops s net w (M.Bit p b) r (Err (Undriven p b)) tt (λ f. bit_undriven _ (decode s) p b (walk_state s net w) k d)
 
     module _ (e o : ℕ) (d : driver_of (decode s) p b ≡ some (e, o)) where
       pub driver_there : (e < count_at_of s 1) × (o < expr_width s e)
       driver_there = let i = rw d at (driver_inside s p b r.laid.image) in (i.0, i.1.0)
 
-      pub bit_marked : cell false (walk_state s net w).resolving p b ≡ true → Gives s net w (M.Bit p b) (Loop p b) net w
-      bit_marked c = stops s net w (M.Bit p b) r (Loop p b) tt (λ f. bit_loop _ (decode s) p b (walk_state s net w) e o k d c)
+      pub bit_marked : cell false (walk_state s net w).resolving p b ≡ true → Gives s net w (M.Bit p b) (Err (Loop p b)) net w
+      bit_marked c = stops s net w (M.Bit p b) r (Err (Loop p b)) tt (λ f. bit_loop _ (decode s) p b (walk_state s net w) e o k d c)
 
       module _ (w₁ : List ℕ) (c : cell false (walk_state s net w).resolving p b ≡ false) (mk : Marks s p b w w₁) (long₁ : length w₁ ≡ length w) where
         pub marked_ready : Ready s net w₁
@@ -251,20 +265,16 @@ module _ (s net w : List ℕ) (p b : ℕ) (r : Ready s net w) (hp : p < count_at
           driven_out = all_ways x
             where
               all_ways : (y : Lowered) → and_then (out_of y (walk_state s net₂ w₂)) (λ st₁. done (set_signal_bit st₁ p b (whole_net st₁ e o))) ≡ out_of y (driven y p b e o (walk_state s net₂ w₂))
-              all_ways Done = refl
-              all_ways (Undriven q j) = refl
-              all_ways (Loop q j) = refl
-              all_ways (Reset q j) = refl
-              all_ways TooManyNets = refl
-              all_ways ListFull = refl
+              all_ways (Ok u) = refl
+              all_ways (Err (Undriven q j)) = refl
+              all_ways (Err (Loop q j)) = refl
+              all_ways (Err (Reset q j)) = refl
+              all_ways (Err TooManyNets) = refl
+              all_ways (Err ListFull) = refl
 
           driven_grows : (y : Lowered) → Grows (walk_state s net₂ w₂) (driven y p b e o (walk_state s net₂ w₂))
-          driven_grows Done = grows_signal (walk_state s net₂ w₂) p b (whole_net (walk_state s net₂ w₂) e o)
-          driven_grows (Undriven q j) = λ n m. m
-          driven_grows (Loop q j) = λ n m. m
-          driven_grows (Reset q j) = λ n m. m
-          driven_grows TooManyNets = λ n m. m
-          driven_grows ListFull = λ n m. m
+          driven_grows (Ok u) = grows_signal (walk_state s net₂ w₂) p b (whole_net (walk_state s net₂ w₂) e o)
+          driven_grows (Err r) = λ n m. m
 
           pub bit_lowered : Gives s net w (M.Bit p b) r' net₂ w₃
           bit_lowered =
@@ -285,16 +295,16 @@ module _ (s net w : List ℕ) (p b : ℕ) (r : Ready s net w) (hp : p < count_at
                     (g.grows n (stored_grows _ s net w w₁ r mk.writes long₁ (grows_mark (walk_state s net w) p b) n m));
               }
             where
-              met_now : (y : Lowered) → y ≡ Done → met (driven y p b e o (walk_state s net₂ w₂)) (M.Bit p b) ≡ true
+              met_now : (y : Lowered) → y ≡ Ok tt → met (driven y p b e o (walk_state s net₂ w₂)) (M.Bit p b) ≡ true
               met_now y q = rw q (bit_met s net₂ w₂ p b hp hb (whole_net (walk_state s net₂ w₂) e o))
 
 -- ---- needs that are met are passed over ----
 
-met_gives : (s net w : List ℕ) (n : M.Need) → Ready s net w → There s n → met (walk_state s net w) n ≡ true → Gives s net w n Done net w
+met_gives : (s net w : List ℕ) (n : M.Need) → Ready s net w → There s n → met (walk_state s net w) n ≡ true → Gives s net w n (Ok tt) net w
 unfolding met
 met_gives s net w (M.Bit p b) r h m = go (signal_bit (walk_state s net w) p b) refl
   where
-    go : (o : Option ℕ) → signal_bit (walk_state s net w) p b ≡ o → Gives s net w (M.Bit p b) Done net w
+    go : (o : Option ℕ) → signal_bit (walk_state s net w) p b ≡ o → Gives s net w (M.Bit p b) (Ok tt) net w
     go none e = absurd (true≢false (sym m ∙ ap is_some e))
     go (some n) e = bit_known s net w p b r h.0 h.1 n e
 met_gives s net w (M.Whole e) r h m = whole_known s net w e r h (met_whole s net w e r h m)
@@ -306,7 +316,7 @@ module _ (s net₀ w₀ : List ℕ) (n₀ : M.Need) (all : List Step) (cont : St
   pass [] rest rest₁ h e m = subst (λ (l : List M.Need). LoopAt s net₀ w₀ n₀ all cont l net w) e h
   pass (x ∷ ms) rest rest₁ h e m =
       let there-it = (subst (AllFit s (rank_of n₀)) e h.fits).0.0 in
-      pass ms (ms ++ rest₁) rest₁ (turn_one s net₀ w₀ n₀ all cont rest (ms ++ rest₁) net w net w h x Done e (met_gives s net w x h.ready there-it m.0) refl) refl m.1
+      pass ms (ms ++ rest₁) rest₁ (turn_one s net₀ w₀ n₀ all cont rest (ms ++ rest₁) net w net w h x (Ok tt) e (met_gives s net w x h.ready there-it m.0) refl) refl m.1
 
   pub loop_pass : (rest rest₁ : List M.Need) → LoopAt s net₀ w₀ n₀ all cont rest net w → Skips s w rest rest₁ → LoopAt s net₀ w₀ n₀ all cont rest₁ net w
   loop_pass rest rest₁ h k = pass k.skipped rest rest₁ h k.split (k.known _)
@@ -333,10 +343,10 @@ module _ (s net w : List ℕ) (e : ℕ) (r : Ready s net w) (i : Sure s net w) (
 -- ---- turns ----
 
 module _ (s net₀ w₀ : List ℕ) (e k at : ℕ) (net w : List ℕ) (h : At s net₀ w₀ (P.Whole e) k at net w) (r : Bool) (f : FirstTurn k r (is_whole s (limit_of w) w e)) where
-  pub whole_over : r ≡ true → Gives s net₀ w₀ (M.Whole e) Done net w
+  pub whole_over : r ≡ true → Gives s net₀ w₀ (M.Whole e) (Ok tt) net w
   whole_over t = go k refl
     where
-      go : (j : ℕ) → k ≡ j → Gives s net₀ w₀ (M.Whole e) Done net w
+      go : (j : ℕ) → k ≡ j → Gives s net₀ w₀ (M.Whole e) (Ok tt) net w
       go zero z = rw ((h.first z).0, (h.first z).1) (whole_known s net w e h.ready h.there (sym (f.0 z) ∙ t))
       go (suc j) z = absurd (true≢false (sym t ∙ f.1 (omega arith)))
 
@@ -347,28 +357,28 @@ module _ (s net₀ w₀ : List ℕ) (e k at : ℕ) (net w : List ℕ) (h : At s 
       go zero z = rw ((h.first z).0, (h.first z).1, z) (whole_start s net w e h.ready h.sure h.there (sym (f.0 z) ∙ t))
       go (suc j) z = h.later (omega arith)
 
-pub whole_below : (s net₀ w₀ : List ℕ) (e k : ℕ) (net w : List ℕ) (n : Need) (k₁ at₁ : ℕ) → WholeLoop s net₀ w₀ e (drop k (whole_needs s e)) net w
-    → LeftOf s w (whole_rest s e) k 0 (F.Lower n k₁ at₁) → Below s net₀ w₀ (P.Whole e) k n k₁ at₁ net w
-whole_below s net₀ w₀ e k net w n k₁ at₁ l left =
+pub whole_below : (s net₀ w₀ : List ℕ) (e k : ℕ) (net w : List ℕ) (x : Left) → WholeLoop s net₀ w₀ e (drop k (whole_needs s e)) net w
+    → LeftOf s w (whole_rest s e) k 0 (Some x) → Below s net₀ w₀ (P.Whole e) k x.need x.next x.at net w
+whole_below s net₀ w₀ e k net w x l left =
     let h = loop_pass s net₀ w₀ (M.Whole e) _ _ net w _ _ l left.0 in
     record {
       ready = h.ready;
       sure = h.sure;
-      there = need_there s net₀ w₀ (M.Whole e) _ _ _ _ net w net w h n refl;
+      there = need_there s net₀ w₀ (M.Whole e) _ _ _ _ net w net w h x.need refl;
       place = left.3;
       further = left.1;
       small = left.2;
-      less = need_less s net₀ w₀ (M.Whole e) _ _ _ _ net w net w h n (omega arith) refl;
-      on = λ x net₁ w₁ g d. loop_turn s net₀ w₀ (M.Whole e) _ _ _ _ net w net₁ w₁ h n x refl g d;
-      out = λ x net₁ w₁ g q. loop_out s net₀ w₀ (M.Whole e) _ _ _ (drop k₁ (whole_needs s e)) net w net₁ w₁ h n x refl g q;
+      less = need_less s net₀ w₀ (M.Whole e) _ _ _ _ net w net w h x.need (omega arith) refl;
+      on = λ y net₁ w₁ g d. loop_turn s net₀ w₀ (M.Whole e) _ _ _ _ net w net₁ w₁ h x.need y refl g d;
+      out = λ y net₁ w₁ g q. loop_out s net₀ w₀ (M.Whole e) _ _ _ (drop x.next (whole_needs s e)) net w net₁ w₁ h x.need y refl g q;
     }
 
 module _ (s net₀ w₀ : List ℕ) (e lsb n k at : ℕ) (net w : List ℕ) (h : At s net₀ w₀ (P.Range e lsb n) k at net w) (r : Bool)
     (f : FirstTurn k r (range_known (walk_state s net w) e lsb n)) where
-  pub range_over : r ≡ true → Gives s net₀ w₀ (M.Range e lsb n) Done net w
+  pub range_over : r ≡ true → Gives s net₀ w₀ (M.Range e lsb n) (Ok tt) net w
   range_over t = go k refl
     where
-      go : (j : ℕ) → k ≡ j → Gives s net₀ w₀ (M.Range e lsb n) Done net w
+      go : (j : ℕ) → k ≡ j → Gives s net₀ w₀ (M.Range e lsb n) (Ok tt) net w
       go zero z = rw ((h.first z).0, (h.first z).1) (range_known_law s net w e lsb n h.ready (sym (f.0 z) ∙ t))
       go (suc j) z = absurd (true≢false (sym t ∙ f.1 (omega arith)))
 
@@ -382,21 +392,27 @@ module _ (s net₀ w₀ : List ℕ) (e lsb n k at : ℕ) (net w : List ℕ) (h :
           (rw ((h.first z).0, (h.first z).1, z, a) (range_start s net w e h.ready h.sure h.there.0 lsb n h.there.1 u), range_some (walk_state s net w) e lsb n u)
       go (suc j) z = h.later (omega arith)
 
-pub range_below : (s net₀ w₀ : List ℕ) (e lsb m k at : ℕ) (net w : List ℕ) (n : Need) (k₁ at₁ : ℕ) → RangeLoop s net₀ w₀ e lsb m (range_rest s e lsb m k at) net w × (1 ≤ m)
-    → LeftOf s w (range_rest s e lsb m) k at (F.Lower n k₁ at₁) → Below s net₀ w₀ (P.Range e lsb m) k n k₁ at₁ net w
-range_below s net₀ w₀ e lsb m k at net w n k₁ at₁ l left =
+pub range_below : (s net₀ w₀ : List ℕ) (e lsb m k at : ℕ) (net w : List ℕ) (x : Left) → RangeLoop s net₀ w₀ e lsb m (range_rest s e lsb m k at) net w × (1 ≤ m)
+    → LeftOf s w (range_rest s e lsb m) k at (Some x) → Below s net₀ w₀ (P.Range e lsb m) k x.need x.next x.at net w
+range_below s net₀ w₀ e lsb m k at net w x l left =
     let h = loop_pass s net₀ w₀ (M.Range e lsb m) _ _ net w _ _ l.0 left.0 in
     record {
       ready = h.ready;
       sure = h.sure;
-      there = need_there s net₀ w₀ (M.Range e lsb m) _ _ _ _ net w net w h n refl;
+      there = need_there s net₀ w₀ (M.Range e lsb m) _ _ _ _ net w net w h x.need refl;
       place = left.3;
       further = left.1;
       small = left.2;
-      less = need_less s net₀ w₀ (M.Range e lsb m) _ _ _ _ net w net w h n (omega arith) refl;
-      on = λ x net₁ w₁ g d. (loop_turn s net₀ w₀ (M.Range e lsb m) _ _ _ _ net w net₁ w₁ h n x refl g d, l.1);
-      out = λ x net₁ w₁ g q. loop_out s net₀ w₀ (M.Range e lsb m) _ _ _ (range_rest s e lsb m k₁ at₁) net w net₁ w₁ h n x refl g q;
+      less = need_less s net₀ w₀ (M.Range e lsb m) _ _ _ _ net w net w h x.need (omega arith) refl;
+      on = λ y net₁ w₁ g d. (loop_turn s net₀ w₀ (M.Range e lsb m) _ _ _ _ net w net₁ w₁ h x.need y refl g d, l.1);
+      out = λ y net₁ w₁ g q. loop_out s net₀ w₀ (M.Range e lsb m) _ _ _ (range_rest s e lsb m x.next x.at) net w net₁ w₁ h x.need y refl g q;
     }
+
+-- a refusal that is passed on
+pub turn_refused : (s net₀ w₀ : List ℕ) (part : Part) (k : ℕ) (r : Next) (e : Refusal) (net w : List ℕ) → IsErr r × IsErrAnd r (λ y. y ≡ e)
+    → Gives s net₀ w₀ (need_of part) (Err e) net w → After s net₀ w₀ part k r net w
+turn_refused s net₀ w₀ part k (Ok x) e net w h g = absurd h.1
+turn_refused s net₀ w₀ part k (Err y) e net w h g = subst (λ (y : Refusal). Gives s net₀ w₀ (need_of part) (Err y) net w) (sym h.1) g
 
 -- where a part begins plays no part
 pub whole_at_law : (s net₀ w₀ : List ℕ) (e k at : ℕ) (net w : List ℕ) → At s net₀ w₀ (P.Whole e) k at net w → At s net₀ w₀ (P.Whole e) k 0 net w
@@ -424,20 +440,20 @@ turn_start s net w part r i h = record {
 }
 
 -- what a call for a need leaves
-need_ready : (s net w : List ℕ) (n : Need) (x : Lowered) (net₁ w₁ : List ℕ) → Ready s net w → GivesNeed s net w n x net₁ w₁ → Ready s net₁ w₁
-need_ready s net w (Bit p b) x net₁ w₁ r g = g.ready
-need_ready s net w (Whole e) x net₁ w₁ r g = g.ready
-need_ready s net w (Range e lsb k) x net₁ w₁ r g = g.ready
-need_ready s net w Nothing x net₁ w₁ r g = rw (g.1, g.2) r
+need_ready : (s net w : List ℕ) (n : code.Option Need) (x : Lowered) (net₁ w₁ : List ℕ) → Ready s net w → GivesNeed s net w n x net₁ w₁ → Ready s net₁ w₁
+need_ready s net w (Some (Bit p b)) x net₁ w₁ r g = g.ready
+need_ready s net w (Some (Whole e)) x net₁ w₁ r g = g.ready
+need_ready s net w (Some (Range e lsb k)) x net₁ w₁ r g = g.ready
+need_ready s net w None x net₁ w₁ r g = rw (g.1, g.2) r
 
-need_sure : (s net w : List ℕ) (n : Need) (x : Lowered) (net₁ w₁ : List ℕ) → Ready s net w → Sure s net w → ThereNeed s n → GivesNeed s net w n x net₁ w₁ → x ≡ Done → Sure s net₁ w₁
-need_sure s net w (Bit p b) x net₁ w₁ r i h g d = sure_done s net w net₁ w₁ (M.Bit p b) x d r.accepted i h g
-need_sure s net w (Whole e) x net₁ w₁ r i h g d = sure_done s net w net₁ w₁ (M.Whole e) x d r.accepted i h g
-need_sure s net w (Range e lsb k) x net₁ w₁ r i h g d = sure_done s net w net₁ w₁ (M.Range e lsb k) x d r.accepted i h g
-need_sure s net w Nothing x net₁ w₁ r i h g d = rw (g.1, g.2) i
+need_sure : (s net w : List ℕ) (n : code.Option Need) (x : Lowered) (net₁ w₁ : List ℕ) → Ready s net w → Sure s net w → ThereNeed s n → GivesNeed s net w n x net₁ w₁ → x ≡ Ok tt → Sure s net₁ w₁
+need_sure s net w (Some (Bit p b)) x net₁ w₁ r i h g d = sure_done s net w net₁ w₁ (M.Bit p b) x d r.accepted i h g
+need_sure s net w (Some (Whole e)) x net₁ w₁ r i h g d = sure_done s net w net₁ w₁ (M.Whole e) x d r.accepted i h g
+need_sure s net w (Some (Range e lsb k)) x net₁ w₁ r i h g d = sure_done s net w net₁ w₁ (M.Range e lsb k) x d r.accepted i h g
+need_sure s net w None x net₁ w₁ r i h g d = rw (g.1, g.2) i
 
-pub turn_next : (s net₀ w₀ : List ℕ) (part : Part) (k : ℕ) (n : Need) (k₁ at : ℕ) (net w : List ℕ) → There s (need_of part) → Below s net₀ w₀ part k n k₁ at net w
-    → (x : Lowered) (net₁ w₁ : List ℕ) → GivesNeed s net w n x net₁ w₁ → x ≡ Done → length net₁ ≡ length net₀ → length w₁ ≡ length w₀
+pub turn_next : (s net₀ w₀ : List ℕ) (part : Part) (k : ℕ) (n : code.Option Need) (k₁ at : ℕ) (net w : List ℕ) → There s (need_of part) → Below s net₀ w₀ part k n k₁ at net w
+    → (x : Lowered) (net₁ w₁ : List ℕ) → GivesNeed s net w n x net₁ w₁ → x ≡ Ok tt → length net₁ ≡ length net₀ → length w₁ ≡ length w₀
     → At s net₀ w₀ part k₁ at net₁ w₁
 turn_next s net₀ w₀ part k n k₁ at net w t h x net₁ w₁ g d net_long long = record {
   ready = need_ready s net w n x net₁ w₁ h.ready g;

@@ -1,44 +1,43 @@
 -- What a call for a need gives; of a part, what stands before turn k (`At`) and after it (`After`). Assumes nothing.
-use Rattle.std.specs.Prelude.{◌≡◌, false, List, ℕ, suc, ◌*◌, ◌≤◌, ◌<◌, length, drop}
+use Rattle.std.specs.Prelude.{◌≡◌, false, List, ℕ, suc, ◌*◌, ◌≤◌, ◌<◌, length, drop, Option, Result, Some, None, Ok, Err}
 use Rattle.spec_rules.specs.Image.{decode}
 use Rattle.spec_model.specs.Builder.{Out, and_then}
 use Rattle.spec_model.specs.Lowering as M
 use Rattle.spec_model.specs.Lowering.{State, Step, lower_need, whole_steps, range_steps_of, keep_whole, keep_range, build_whole, build_range}
 use Rattle.expr_laws.specs.Exprs.{exprs_of}
-use Rattle.walk_view.specs.declared.Lowered.{Lowered}
-use Rattle.walk_view.specs.declared.Lowered.TheVariants.{Done}
+use Rattle.walk_view.specs.declared.Refusal.{Refusal}
+use Rattle.walk_view.specs.Refusals.{Lowered}
 use Rattle.walk_view.specs.Met.{AllMet, Grows}
 use Rattle.walk_view.specs.View.{walk_state, Ready, Sure, Kept, There, rank_of, cost_of, Gives}
 use Rattle.walk_view.specs.Answers.{Refused}
 use Rattle.walk_plan.specs.declared.Need.{Need}
-use Rattle.walk_plan.specs.declared.Need.TheVariants.{Bit, Whole, Range, Nothing}
+use Rattle.walk_plan.specs.declared.Need.TheVariants.{Bit, Whole, Range}
 use Rattle.walk_plan.specs.Plan.{whole_needs, range_rest}
 use Rattle.walk_plan.specs.Fits.{AllFit}
 use Rattle.walk_recursion.specs.declared.Part.{Part}
 use Rattle.walk_recursion.specs.declared.Part.TheVariants as P
-use Rattle.walk_recursion.specs.declared.Next.{Next}
-use Rattle.walk_recursion.specs.declared.Next.TheVariants.{Lower, Over}
+use Rattle.walk_left.specs.declared.Left.{Left}
 use Rattle.walk_left.specs.Needs.{lower_needs, NeedsMet}
 
 -- ---- a call for a need ----
 
-abbrev pub ThereNeed : List ℕ → Need → Type 0
-ThereNeed s (Bit p b) = There s (M.Bit p b)
-ThereNeed s (Whole e) = There s (M.Whole e)
-ThereNeed s (Range e lsb w) = There s (M.Range e lsb w)
-ThereNeed s Nothing = Unit {0}
+abbrev pub ThereNeed : List ℕ → Option Need → Type 0
+ThereNeed s (Some (Bit p b)) = There s (M.Bit p b)
+ThereNeed s (Some (Whole e)) = There s (M.Whole e)
+ThereNeed s (Some (Range e lsb w)) = There s (M.Range e lsb w)
+ThereNeed s None = Unit {0}
 
-abbrev pub GivesNeed : List ℕ → List ℕ → List ℕ → Need → Lowered → List ℕ → List ℕ → Type 0
-GivesNeed s net w (Bit p b) r net' w' = Gives s net w (M.Bit p b) r net' w'
-GivesNeed s net w (Whole e) r net' w' = Gives s net w (M.Whole e) r net' w'
-GivesNeed s net w (Range e lsb k) r net' w' = Gives s net w (M.Range e lsb k) r net' w'
-GivesNeed s net w Nothing r net' w' = (r ≡ Done) × (net' ≡ net) × (w' ≡ w)
+abbrev pub GivesNeed : List ℕ → List ℕ → List ℕ → Option Need → Lowered → List ℕ → List ℕ → Type 0
+GivesNeed s net w (Some (Bit p b)) r net' w' = Gives s net w (M.Bit p b) r net' w'
+GivesNeed s net w (Some (Whole e)) r net' w' = Gives s net w (M.Whole e) r net' w'
+GivesNeed s net w (Some (Range e lsb k)) r net' w' = Gives s net w (M.Range e lsb k) r net' w'
+GivesNeed s net w None r net' w' = (r ≡ Ok tt) × (net' ≡ net) × (w' ≡ w)
 
-abbrev pub cost_need : List ℕ → List ℕ → Need → ℕ
-cost_need s w (Bit p b) = cost_of s w (M.Bit p b)
-cost_need s w (Whole e) = cost_of s w (M.Whole e)
-cost_need s w (Range e lsb k) = cost_of s w (M.Range e lsb k)
-cost_need s w Nothing = 0
+abbrev pub cost_need : List ℕ → List ℕ → Option Need → ℕ
+cost_need s w (Some (Bit p b)) = cost_of s w (M.Bit p b)
+cost_need s w (Some (Whole e)) = cost_of s w (M.Whole e)
+cost_need s w (Some (Range e lsb k)) = cost_of s w (M.Range e lsb k)
+cost_need s w None = 0
 
 -- ---- between two calls: the need n₀ was asked for at net₀, w₀; at net, w there is rest left to lower, and cont after that ----
 
@@ -81,7 +80,7 @@ pub record At (s net₀ w₀ : List ℕ) (part : Part) (k at : ℕ) (net w : Lis
   pub later : 0 < k → Open s net₀ w₀ part k at net w
 
 -- turn k answered that n is to be lowered, and then turn k₁ follows: that costs less; done, it leads to that turn, and a refusal is the part's
-pub record Below (s net₀ w₀ : List ℕ) (part : Part) (k : ℕ) (n : Need) (k₁ at : ℕ) (net w : List ℕ) : Type 0 where
+pub record Below (s net₀ w₀ : List ℕ) (part : Part) (k : ℕ) (n : Option Need) (k₁ at : ℕ) (net w : List ℕ) : Type 0 where
   pub ready : Ready s net w
   pub sure : Sure s net w
   pub there : ThereNeed s n
@@ -89,12 +88,16 @@ pub record Below (s net₀ w₀ : List ℕ) (part : Part) (k : ℕ) (n : Need) (
   pub further : k < k₁
   pub small : k₁ < 4294967296
   pub less : cost_need s w n < cost_of s w₀ (need_of part)
-  pub on : (x : Lowered) (net₁ w₁ : List ℕ) → GivesNeed s net w n x net₁ w₁ → x ≡ Done → Open s net₀ w₀ part k₁ at net₁ w₁
+  pub on : (x : Lowered) (net₁ w₁ : List ℕ) → GivesNeed s net w n x net₁ w₁ → x ≡ Ok tt → Open s net₀ w₀ part k₁ at net₁ w₁
   pub out : (x : Lowered) (net₁ w₁ : List ℕ) → GivesNeed s net w n x net₁ w₁ → Refused x → Gives s net₀ w₀ (need_of part) x net₁ w₁
 
+abbrev pub Next : Type 0
+Next = Result (Option Left) Refusal
+
 abbrev pub After : List ℕ → List ℕ → List ℕ → Part → ℕ → Next → List ℕ → List ℕ → Type 0
-After s net₀ w₀ part k (Lower n k₁ at) net w = Below s net₀ w₀ part k n k₁ at net w
-After s net₀ w₀ part k (Over x) net w = Gives s net₀ w₀ (need_of part) x net w
+After s net₀ w₀ part k (Ok (Some x)) net w = Below s net₀ w₀ part k x.need x.next x.at net w
+After s net₀ w₀ part k (Ok None) net w = Gives s net₀ w₀ (need_of part) (Ok tt) net w
+After s net₀ w₀ part k (Err r) net w = Gives s net₀ w₀ (need_of part) (Err r) net w
 
 -- contracts of a turn: wherever the call began, what stood before turn k is followed by what stands after it
 pub record Begun (s : List ℕ) (part : Part) (k at : ℕ) (net w : List ℕ) : Type 0 where

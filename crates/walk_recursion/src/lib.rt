@@ -10,10 +10,9 @@ ghost use Rattle.walk_view.specs.View.{Ready, Sure, Gives};
 ghost use Rattle.walk_recursion.specs.declared.Part.TheVariants as P;
 ghost use Rattle.walk_recursion.specs.Walk.{ThereNeed, GivesNeed, Begun, Turns};
 
-use scratch_tables::{Driver, Known};
 use walk_left::Left;
 use walk_plan::Need;
-use walk_view::Lowered;
+use walk_view::Refusal;
 
 // An expression, or a range of it (lsb, width).
 #[derive(Clone, Copy)]
@@ -22,25 +21,27 @@ pub enum Part {
     Range(u32, u32, u32),
 }
 
-// What a turn answers: a need to lower, the turn after it, and where the part of a Concat that this turn takes begins; or the end.
-#[derive(Clone, Copy)]
-pub enum Next {
-    Lower(Need, u32, u32),
-    Over(Lowered),
-}
+// ---- turns: what one answers is what is left to lower, or nothing where the expression is done ----
 
-// ---- turns ----
-
-fn turn_whole(image: &[u8], net: &mut [u32], scr: &mut [u32], e: u32, k: u32) -> Next
+fn turn_whole(
+    image: &[u8],
+    net: &mut [u32],
+    scr: &mut [u32],
+    e: u32,
+    k: u32,
+) -> Result<Option<Left>, Refusal>
     requires { Begun image.now (P.Whole e) k 0 net.old scr.old }
     ensures { Turns image.now net.old scr.old (P.Whole e) k 0 result net.new scr.new }
 {
     if walk_left::whole_known(image, scr, e, k) {
-        return Next::Over(Lowered::Done);
+        return Ok(None);
     }
     match walk_left::whole_left(image, scr, e, k) {
-        Left::Lower(need, next, at) => Next::Lower(need, next, at),
-        Left::Build => Next::Over(walk_build::build_whole(image, net, scr, e)),
+        Some(left) => Ok(Some(left)),
+        None => {
+            walk_build::build_whole(image, net, scr, e)?;
+            Ok(None)
+        }
     }
 }
 
@@ -53,22 +54,32 @@ fn turn_range(
     w: u32,
     k: u32,
     at: u32,
-) -> Next
+) -> Result<Option<Left>, Refusal>
     requires { Begun image.now (P.Range e lsb w) k at net.old scr.old }
     ensures { Turns image.now net.old scr.old (P.Range e lsb w) k at result net.new scr.new }
 {
     if walk_left::range_known(image, scr, e, lsb, w, k) {
-        return Next::Over(Lowered::Done);
+        return Ok(None);
     }
     match walk_left::range_left(image, scr, e, lsb, w, k, at) {
-        Left::Lower(need, next, begin) => Next::Lower(need, next, begin),
-        Left::Build => Next::Over(walk_build::build_range(image, net, scr, e, lsb, w)),
+        Some(left) => Ok(Some(left)),
+        None => {
+            walk_build::build_range(image, net, scr, e, lsb, w)?;
+            Ok(None)
+        }
     }
 }
 
 // Turn k of an expression or a range; the part of a Concat that it takes begins at bit at. Two functions call it, so the compiler keeps it
 // out of their frames.
-fn turn(image: &[u8], net: &mut [u32], scr: &mut [u32], part: Part, k: u32, at: u32) -> Next
+fn turn(
+    image: &[u8],
+    net: &mut [u32],
+    scr: &mut [u32],
+    part: Part,
+    k: u32,
+    at: u32,
+) -> Result<Option<Left>, Refusal>
     requires { Begun image.now part k at net.old scr.old }
     ensures { Turns image.now net.old scr.old part k at result net.new scr.new }
 {
@@ -82,46 +93,48 @@ fn turn(image: &[u8], net: &mut [u32], scr: &mut [u32], part: Part, k: u32, at: 
 
 #[cycle(walk)]
 #[inline(never)]
-pub fn resolve_signal_bit(image: &[u8], net: &mut [u32], scr: &mut [u32], p: u32, b: u32) -> Lowered
+pub fn resolve_signal_bit(
+    image: &[u8],
+    net: &mut [u32],
+    scr: &mut [u32],
+    p: u32,
+    b: u32,
+) -> Result<(), Refusal>
     requires { (Ready image.now net.old scr.old) × (Sure image.now net.old scr.old) × (p < count_at_of image.now 0) × (b < signal_width image.now p) }
     ensures { Gives image.now net.old scr.old (model.Bit p b) result net.new scr.new }
 {
-    match scratch_tables::signal_net(image, scr, p, b) {
-        Known::Net(_) => Lowered::Done,
-        Known::Absent => match scratch_tables::driver_of(image, scr, p, b) {
-            Driver::Nothing => Lowered::Undriven(p, b),
-            Driver::Expr(e, o) => {
-                if scratch_tables::marked(image, scr, p, b) {
-                    return Lowered::Loop(p, b);
-                }
-                scratch_tables::mark_signal(image, scr, p, b);
-                let x = lower_expression(image, net, scr, e);
-                walk_left::keep_driven(image, scr, p, b, e, o, x)
-            }
-        },
+    if scratch_tables::signal_net(image, scr, p, b).is_some() {
+        return Ok(());
     }
+    let Some((e, o)) = scratch_tables::driver_of(image, scr, p, b) else {
+        return Err(Refusal::Undriven(p, b));
+    };
+    if scratch_tables::marked(image, scr, p, b) {
+        return Err(Refusal::Loop(p, b));
+    }
+    scratch_tables::mark_signal(image, scr, p, b);
+    let x = lower_expression(image, net, scr, e);
+    walk_left::keep_driven(image, scr, p, b, e, o, x)
 }
 
 #[cycle(walk)]
 #[inline(never)]
-pub fn lower_expression(image: &[u8], net: &mut [u32], scr: &mut [u32], e: u32) -> Lowered
+pub fn lower_expression(
+    image: &[u8],
+    net: &mut [u32],
+    scr: &mut [u32],
+    e: u32,
+) -> Result<(), Refusal>
     requires { (Ready image.now net.old scr.old) × (Sure image.now net.old scr.old) × (e < count_at_of image.now 1) }
     ensures { Gives image.now net.old scr.old (model.Whole e) result net.new scr.new }
 {
     let part = Part::Whole(e);
     let mut k = 0;
-    loop {
-        match turn(image, net, scr, part, k, 0) {
-            Next::Over(x) => return x,
-            Next::Lower(need, next, _) => {
-                let x = lower_need(image, net, scr, need);
-                let Lowered::Done = x else {
-                    return x;
-                };
-                k = next;
-            }
-        }
+    while let Some(left) = turn(image, net, scr, part, k, 0)? {
+        lower_need(image, net, scr, left.need)?;
+        k = left.next;
     }
+    Ok(())
 }
 
 #[cycle(walk)]
@@ -133,33 +146,26 @@ pub fn lower_expression_range(
     e: u32,
     lsb: u32,
     w: u32,
-) -> Lowered
+) -> Result<(), Refusal>
     requires { (Ready image.now net.old scr.old) × (Sure image.now net.old scr.old) × (e < count_at_of image.now 1) × (lsb + w ≤ expr_width image.now e) }
     ensures { Gives image.now net.old scr.old (model.Range e lsb w) result net.new scr.new }
 {
     let part = Part::Range(e, lsb, w);
     let mut k = 0;
     let mut at = 0;
-    loop {
-        match turn(image, net, scr, part, k, at) {
-            Next::Over(x) => return x,
-            Next::Lower(need, next, begin) => {
-                let x = lower_need(image, net, scr, need);
-                let Lowered::Done = x else {
-                    return x;
-                };
-                k = next;
-                at = begin;
-            }
-        }
+    while let Some(left) = turn(image, net, scr, part, k, at)? {
+        lower_need(image, net, scr, left.need)?;
+        k = left.next;
+        at = left.at;
     }
+    Ok(())
 }
 
 // The hints keep a level of the recursion to one frame: `lower_need` and these two, which it calls, stand in the frame of their caller
 // (docs/BENCH.md, stack).
 #[cycle(walk)]
 #[inline(always)]
-fn lower_bit(image: &[u8], net: &mut [u32], scr: &mut [u32], p: u32, b: u32) -> Lowered
+fn lower_bit(image: &[u8], net: &mut [u32], scr: &mut [u32], p: u32, b: u32) -> Result<(), Refusal>
     requires { (Ready image.now net.old scr.old) × (Sure image.now net.old scr.old) × (p < count_at_of image.now 0) × (b < signal_width image.now p) }
     ensures { Gives image.now net.old scr.old (model.Bit p b) result net.new scr.new }
 {
@@ -168,24 +174,31 @@ fn lower_bit(image: &[u8], net: &mut [u32], scr: &mut [u32], p: u32, b: u32) -> 
 
 #[cycle(walk)]
 #[inline(always)]
-fn lower_whole(image: &[u8], net: &mut [u32], scr: &mut [u32], e: u32) -> Lowered
+fn lower_whole(image: &[u8], net: &mut [u32], scr: &mut [u32], e: u32) -> Result<(), Refusal>
     requires { (Ready image.now net.old scr.old) × (Sure image.now net.old scr.old) × (e < count_at_of image.now 1) }
     ensures { Gives image.now net.old scr.old (model.Whole e) result net.new scr.new }
 {
     lower_expression(image, net, scr, e)
 }
 
-// What a need names.
+// What a need names, if there is one.
 #[cycle(walk)]
 #[inline(always)]
-fn lower_need(image: &[u8], net: &mut [u32], scr: &mut [u32], need: Need) -> Lowered
+fn lower_need(
+    image: &[u8],
+    net: &mut [u32],
+    scr: &mut [u32],
+    need: Option<Need>,
+) -> Result<(), Refusal>
     requires { (Ready image.now net.old scr.old) × (Sure image.now net.old scr.old) × (ThereNeed image.now need) }
     ensures { GivesNeed image.now net.old scr.old need result net.new scr.new }
 {
+    let Some(need) = need else {
+        return Ok(());
+    };
     match need {
         Need::Bit(p, b) => lower_bit(image, net, scr, p, b),
         Need::Whole(e) => lower_whole(image, net, scr, e),
         Need::Range(e, lsb, w) => lower_expression_range(image, net, scr, e, lsb, w),
-        Need::Nothing => Lowered::Done,
     }
 }

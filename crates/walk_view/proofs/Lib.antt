@@ -1,2 +1,2 @@
 -- Laws that proofs of the crates above cite.
-pub mod Answers
+pub mod Errors

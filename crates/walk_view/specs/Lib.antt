@@ -7,3 +7,4 @@ pub mod Answers
 pub mod Stores
 pub mod Phases
 pub mod Turns
+pub mod Refusals

@@ -1,10 +1,9 @@
 -- A phase for each of the records 0, .. , n - 1 in turn, and the loop that runs it: start, more, out, end. Assumes nothing.
-use Rattle.std.specs.Prelude.{◌≡◌, refl, List, ℕ, zero, suc, ◌+◌, ◌-◌, ◌≤◌, ◌<◌}
+use Rattle.std.specs.Prelude.{◌≡◌, refl, List, ℕ, zero, suc, ◌+◌, ◌-◌, ◌≤◌, ◌<◌, Ok}
 use Rattle.std.proofs.Common.{sym, ap, ◌∙◌, arith, add-one}
 use Rattle.spec_model.specs.Builder.{Out, done, and_then}
 use Rattle.spec_model.specs.Lowering.{State}
-use Rattle.walk_view.specs.declared.Lowered.{Lowered}
-use Rattle.walk_view.specs.declared.Lowered.TheVariants.{Done}
+use Rattle.walk_view.specs.Refusals.{Lowered}
 use Rattle.walk_view.specs.View.{walk_state, Ready, Kept, out_of, Phase}
 use Rattle.walk_view.specs.Answers.{Refused}
 use Rattle.walk_view.specs.Stores.{kept_same, kept_then}
@@ -42,7 +41,7 @@ module _ (model : Out State) (f : ℕ → State → Out State) (n : ℕ) (s net�
       let e : n - i ≡ suc (n - suc i) = omega arith in
       g.says ∙ ap (λ (k : ℕ). in_turn f i k (walk_state s net w)) e ∙ turn_more f i (n - suc i) (walk_state s net w)
 
-  pub turning_more : (x : Lowered) (net₁ w₁ : List ℕ) → i < n → x ≡ Done → Phase (f i (walk_state s net w)) s net w x net₁ w₁
+  pub turning_more : (x : Lowered) (net₁ w₁ : List ℕ) → i < n → x ≡ Ok tt → Phase (f i (walk_state s net w)) s net w x net₁ w₁
       → Turning model f n s net₀ w₀ net₁ w₁ (i + 1)
   turning_more x net₁ w₁ h e a = record {
     within = omega arith;
@@ -57,7 +56,7 @@ module _ (model : Out State) (f : ℕ → State → Out State) (n : ℕ) (s net�
       let b = phase_out (f i (walk_state s net w)) (λ st₁. in_turn f (suc i) (n - suc i) st₁) s net w net₁ w₁ x q a in
       record { says = opened h ∙ b.says; ready = b.ready; kept = kept_then s net₀ w₀ net w net₁ w₁ g.kept b.kept }
 
-  pub turning_end : n ≤ i → Phase model s net₀ w₀ Done net w
+  pub turning_end : n ≤ i → Phase model s net₀ w₀ (Ok tt) net w
   turning_end h =
       let e : n - i ≡ 0 = omega arith in
       record { says = g.says ∙ ap (λ (k : ℕ). in_turn f i k (walk_state s net w)) e ∙ turn_none f i (walk_state s net w); ready = g.ready; kept = g.kept }

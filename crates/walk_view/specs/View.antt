@@ -1,6 +1,6 @@
 -- The walk's invariant over image, netlist words and scratch (`Ready`; `Sure` of the state that they hold, `walk_state`), and what a
 -- call of the walk gives: `Builds` outside the recursion, `Gives` within it, `Phase` around it. Assumes nothing.
-use Rattle.std.specs.Prelude.{◌≡◌, true, false, List, ℕ, ◌+◌, ◌*◌, ◌≤◌, ◌<◌, length, get_or, take, drop}
+use Rattle.std.specs.Prelude.{◌≡◌, true, false, List, ℕ, ◌+◌, ◌*◌, ◌≤◌, ◌<◌, length, get_or, take, drop, Ok, Err}
 use Rattle.spec_rules.specs.Image.{count_at_of, signal_width, expr_width, decode}
 use Rattle.spec_model.specs.Builder.{Out, refused, done}
 use Rattle.spec_model.specs.Ranges.{adder_width}
@@ -13,8 +13,8 @@ use Rattle.net_index.specs.Index.{Held}
 use Rattle.scratch_view.specs.View.{limit_of, expr_at, state_of, free, Laid}
 use Rattle.law_walk.specs.Kept.{Inv}
 use Rattle.walk_view.specs.Met.{met, Grows}
-use Rattle.walk_view.specs.declared.Lowered.{Lowered}
-use Rattle.walk_view.specs.declared.Lowered.TheVariants.{Done, Undriven, Loop, Reset, TooManyNets, ListFull}
+use Rattle.walk_view.specs.Refusals.{Lowered}
+use Rattle.walk_view.specs.declared.Refusal.TheVariants.{Undriven, Loop, Reset, TooManyNets, ListFull}
 
 -- ---- the words: image s, netlist words net, scratch w ----
 
@@ -49,19 +49,19 @@ pub record Kept (s net w net' w' : List ℕ) : Type 0 where
 -- ---- answers ----
 
 abbrev pub out_of : Lowered → State → Out State
-out_of Done st = done st
-out_of (Undriven p b) st = refused 6 p b
-out_of (Loop p b) st = refused 7 p b
-out_of (Reset r b) st = refused 8 r b
-out_of TooManyNets st = refused 9 0 0
-out_of ListFull st = refused 10 0 0
+out_of (Ok u) st = done st
+out_of (Err (Undriven p b)) st = refused 6 p b
+out_of (Err (Loop p b)) st = refused 7 p b
+out_of (Err (Reset r b)) st = refused 8 r b
+out_of (Err TooManyNets) st = refused 9 0 0
+out_of (Err ListFull) st = refused 10 0 0
 
 -- a call outside the recursion, for need n: from net, w it answered r and left net', w'
 pub record Builds (model : Out State) (s net w : List ℕ) (n : Need) (r : Lowered) (net' w' : List ℕ) : Type 0 where
   pub says : model ≡ out_of r (walk_state s net' w')
   pub ready : Ready s net' w'
   pub kept : Kept s net w net' w'
-  pub meets : r ≡ Done → met (walk_state s net' w') n ≡ true
+  pub meets : r ≡ Ok tt → met (walk_state s net' w') n ≡ true
   pub grows : Grows (walk_state s net w) (walk_state s net' w')
 
 -- what falls at each call, and more than which is enough fuel
@@ -84,7 +84,7 @@ pub record Gives (s net w : List ℕ) (n : Need) (r : Lowered) (net' w' : List �
   pub says : (f : ℕ) → cost_of s w n < f → lower_need f (decode s) false n (walk_state s net w) ≡ out_of r (walk_state s net' w')
   pub ready : Ready s net' w'
   pub kept : Kept s net w net' w'
-  pub meets : r ≡ Done → met (walk_state s net' w') n ≡ true
+  pub meets : r ≡ Ok tt → met (walk_state s net' w') n ≡ true
   pub grows : Grows (walk_state s net w) (walk_state s net' w')
 
 -- a call around the recursion: sources, memories, registers, outputs

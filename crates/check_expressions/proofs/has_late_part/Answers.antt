@@ -1,6 +1,6 @@
 -- `check_expressions::has_late_part` meets its contract. Assumes nothing.
 use Rattle.std.proofs.Common.{rules, tests, refl}
-use Rattle.spec_chains.specs.Search.{any_by_any}
+use Rattle.spec_chains.proofs.Chains.{any_by_any}
 use Rattle.check_expressions.specs.Kinds.{late_word}
 use Rattle.check_expressions.proofs.has_late_part.Goals as goal
 

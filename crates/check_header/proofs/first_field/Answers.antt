@@ -1,6 +1,6 @@
 -- `check_header::first_field` meets its contract. Assumes nothing.
 use Rattle.std.proofs.Common.{rules, tests, refl, ◌∙◌}
-use Rattle.spec_chains.specs.Search.{first_by_find}
+use Rattle.spec_chains.proofs.Chains.{first_by_find}
 use Rattle.spec_rules.specs.Checks.{wrong_field}
 use Rattle.check_header.specs.Header.{found_short, found_long}
 use Rattle.check_header.proofs.first_field.Goals as goal

@@ -1,6 +1,6 @@
 -- `check_memories::first_rest` meets its contract. The loop's invariant: no record below r breaks a rule, and the read data of these are marked. Assumes nothing.
 use mathlib.Core.Path.{◌≡◌}
-use Prim.Native.Nat.{◌-◌, ◌≤◌}
+use Prim.Native.Nat.{◌≤◌}
 use lib.ListN.{length}
 use Rattle.spec_tests.specs.Rules.{first}
 use Rattle.spec_tests.specs.Laws.{from}

@@ -1,6 +1,6 @@
 -- `check_names::bad_bytes` meets its contract. Assumes nothing.
 use Rattle.std.proofs.Common.{rules, tests, refl}
-use Rattle.spec_chains.specs.Search.{any_by_any}
+use Rattle.spec_chains.proofs.Chains.{any_by_any}
 use Rattle.check_names.specs.Names.{bad_byte}
 use Rattle.check_names.proofs.bad_bytes.Goals as goal
 

@@ -1,6 +1,6 @@
 -- `check_names::name_taken` meets its contract. Assumes nothing.
 use Rattle.std.proofs.Common.{rules, tests, refl, sym, ◌∙◌}
-use Rattle.spec_chains.specs.Search.{any_by_any}
+use Rattle.spec_chains.proofs.Chains.{any_by_any}
 use Rattle.check_names.specs.Names.{same_name, taken_from}
 use Rattle.check_names.proofs.name_taken.Goals as goal
 

@@ -2,7 +2,7 @@
 use Rattle.std.proofs.Common.{rules, tests, refl}
 use Rattle.spec_tests.specs.Rules.{◌≢?◌}
 use Rattle.spec_rules.specs.Checks.{not_zero}
-use Rattle.spec_chains.specs.Search.{any_by_any}
+use Rattle.spec_chains.proofs.Chains.{any_by_any}
 use Rattle.check_references.specs.Tests.{non_zero}
 use Rattle.check_references.proofs.not_zero.Goals as goal
 

@@ -1,8 +1,9 @@
 -- `check_registers::first_rest` meets its contract. The loop's invariant: no record below r breaks a rule, and the targets of these are marked. Assumes nothing.
 use mathlib.Core.Path.{◌≡◌, refl, sym, ◌∙◌, subst}
-use Prim.Native.Nat.{ℕ, ◌-◌}
+use Prim.Native.Nat.{ℕ}
 use native.Mathlib.Omega.{arith}
 use Rattle.spec_tests.specs.Laws.{begins, passed, found, ended}
+use Rattle.spec_tests.specs.Options.{first_some, first_none}
 use Rattle.spec_rules.specs.Image.{count_at_of}
 use Rattle.check_drivers.specs.Bits.{Marks}
 use borrow.Author.Rules.{rules}
@@ -11,14 +12,10 @@ use Rattle.check_registers.proofs.first_rest.Goals as goal
 pub loop-r-init : goal.loop-r-init
 loop-r-init c = (omega arith, begins _ _, c.requires.1, refl)
 
-pub check_rest-requires : goal.check_rest-requires
-check_rest-requires c =
-    (c.requires.0, c.loop-r.invariant.2)
-
 pub returns-then-check_rest : goal.returns-then-check_rest
 returns-then-check_rest c = (
-  sym (found _ _ _ (omega arith) c.loop-r.invariant.1 (sym c.check_rest.ensures.0 ∙ c.if-check_rest.true)),
-  λ h. absurd (omega arith),
+  sym (first_some _ _ _ (omega arith) (found _ _ _ (omega arith) c.loop-r.invariant.1 (sym c.check_rest.ensures.0 ∙ c.if-check_rest.true))),
+  λ h. cc,
 )
 
 pub loop-r-preserved : goal.loop-r-preserved
@@ -32,6 +29,6 @@ loop-r-preserved c = (
 pub returns : goal.returns
 returns c =
     let e : c.loop-r.r ≡ count_at_of c.args.image.now 4 = omega arith in (
-      c.count-n.ensures ∙ sym (ended _ _ _ (omega arith) (omega arith) c.loop-r.invariant.1),
+      sym (first_none _ _ (ended _ _ _ (omega arith) (omega arith) c.loop-r.invariant.1)),
       λ h. subst (λ (k : ℕ). Marks c.args.image.now (count_at_of c.args.image.now 3) k 0 c.loop-r.taken) e c.loop-r.invariant.2,
     )

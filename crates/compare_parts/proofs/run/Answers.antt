@@ -1,9 +1,8 @@
 -- `compare_parts::run` meets its contract. Assumes nothing.
 use borrow.Author.Rules.{rules}
-use Prim.Native.Nat.{◌-◌}
 use Rattle.compare_parts.proofs.run.Goals as goal
 
 pub loop-at-preserved : goal.loop-at-preserved
 loop-at-preserved c =
-    let s = c.step-x in
-    (s.ensures.held, s.ensures.nots _ c.in-Net.is, search rules, search rules, search rules)
+    let s = c.step in
+    (s.ensures.held, s.ensures.nots _ c.in-Ok.is, search rules, search rules, search rules)

@@ -1,6 +1,5 @@
 -- `compare_parts::run` meets its contract. Assumes nothing.
 use mathlib.Core.Path.{◌≡◌}
-use Prim.Native.Nat.{◌-◌}
 use lib.ListN.{length}
 use Rattle.net_view.specs.View.{netlist_of}
 use Rattle.net_index.specs.Index.{Held}

@@ -1,5 +1,5 @@
 -- `expr_fusion::carry_part` meets its contract. Assumes nothing.
-use Prim.Native.Nat.{◌≤◌, ◌-◌}
+use Prim.Native.Nat.{◌≤◌}
 use Rattle.expr_fusion.specs.Fusion.{CarryFrom}
 use Rattle.expr_fusion.proofs.carry_part.Given as goal
 

@@ -2,4 +2,4 @@
 use Rattle.expr_range_rows.proofs.hull.Goals as goal
 
 pub returns : goal.returns
-returns c = rw (c.smaller_u64.ensures, c.larger_u64.ensures)
+returns c = rw (c.min.ensures, c.max.ensures)

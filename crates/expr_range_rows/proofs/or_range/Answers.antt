@@ -2,4 +2,4 @@
 use Rattle.expr_range_rows.proofs.or_range.Goals as goal
 
 pub returns : goal.returns
-returns c = rw (c.ones.ensures, c.larger_u64.ensures)
+returns c = rw (c.ones.ensures, c.max.ensures)

@@ -9,4 +9,4 @@ pub returns-then-r : goal.returns-then-r
 returns-then-r c = c.point.ensures ∙ ap model.point (ap (bit_and (c.args.r.max / 2 ^ c.args.lsb)) c.mask.ensures ∙ and_mask _ c.args.width) ∙ sym (slice_point c.args.lsb c.args.width (shown c.args.r) c.if-r.true)
 
 pub returns : goal.returns
-returns c = rw (c.smaller_u64.ensures, c.mask-2.ensures) (sym (slice_part c.args.lsb c.args.width (shown c.args.r) c.if-r.false))
+returns c = rw (c.min.ensures, c.mask-2.ensures) (sym (slice_part c.args.lsb c.args.width (shown c.args.r) c.if-r.false))

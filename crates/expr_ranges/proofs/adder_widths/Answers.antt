@@ -1,7 +1,6 @@
 -- `expr_ranges::adder_widths` meets its contract. Assumes nothing.
 use mathlib.Core.Path.{◌≡◌, refl, ◌∙◌}
 use native.Mathlib.Omega.{arith}
-use Prim.Native.Nat.{◌-◌}
 use Rattle.spec_rules.specs.Image.{count_at_of}
 use Rattle.expr_laws.specs.Exprs.{exprs_of}
 use Rattle.expr_ranges.specs.Steps.{rows_filled, filled_more}

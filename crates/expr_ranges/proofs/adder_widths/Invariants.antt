@@ -1,6 +1,6 @@
 -- `expr_ranges::adder_widths` meets its contract. Assumes nothing.
 use mathlib.Core.Path.{◌≡◌}
-use Prim.Native.Nat.{◌≤◌, ◌-◌}
+use Prim.Native.Nat.{◌≤◌}
 use Rattle.expr_laws.specs.Exprs.{exprs_of}
 use Rattle.expr_ranges.specs.Table.{filled}
 use Rattle.expr_ranges.proofs.adder_widths.Given as goal

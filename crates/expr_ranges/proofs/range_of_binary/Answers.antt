@@ -8,13 +8,13 @@ use Rattle.expr_range_rows.specs.Rows.{shown, known}
 use Rattle.expr_ranges.proofs.range_of_binary.Goals as goal
 
 pub returns-in_default : goal.returns-in_default
-returns-in_default c = c.full.ensures ∙ two_none c.args.width (model.binary_range (model.class_of (binary_means c.args.op)) c.args.width) (model.range_at (exprs_of c.args.image.now) c.args.rhs) (sym c.known_range-left.ensures ∙ ap known c.in_default.is)
+returns-in_default c = c.full.ensures ∙ two_none c.args.width (model.binary_range (model.class_of (binary_means c.args.op)) c.args.width) (model.range_at (exprs_of c.args.image.now) c.args.rhs) (sym c.known_range.ensures ∙ ap known c.in_default.is)
 
-pub returns-in_default-right : goal.returns-in_default-right
-returns-in_default-right c = c.full-in_default-right.ensures ∙ two_second c.args.width (model.binary_range (model.class_of (binary_means c.args.op)) c.args.width) (sym c.known_range-left.ensures ∙ ap known c.in-Of.is) (sym c.known_range-right.ensures ∙ ap known c.in_default-right.is)
+pub returns-in_default-known_range : goal.returns-in_default-known_range
+returns-in_default-known_range c = c.full-in_default-known_range.ensures ∙ two_second c.args.width (model.binary_range (model.class_of (binary_means c.args.op)) c.args.width) (sym c.known_range.ensures ∙ ap known c.in-Some.is) (sym c.known_range-2.ensures ∙ ap known c.in_default-known_range.is)
 
 pub binary_range-requires : goal.binary_range-requires
-binary_range-requires c = record { least = c.requires.least; most = c.requires.most; left = ordered c.args.image.now c.args.table.now c.args.lhs c.requires.left (shown c.in-Of.l) (sym (sym c.known_range-left.ensures ∙ ap known c.in-Of.is)); right = ordered c.args.image.now c.args.table.now c.args.rhs c.requires.right (shown c.in-Of-right.r) (sym (sym c.known_range-right.ensures ∙ ap known c.in-Of-right.is)) }
+binary_range-requires c = record { least = c.requires.least; most = c.requires.most; left = ordered c.args.image.now c.args.table.now c.args.lhs c.requires.left (shown c.in-Some.l) (sym (sym c.known_range.ensures ∙ ap known c.in-Some.is)); right = ordered c.args.image.now c.args.table.now c.args.rhs c.requires.right (shown c.in-Some-known_range.r) (sym (sym c.known_range-2.ensures ∙ ap known c.in-Some-known_range.is)) }
 
 pub returns : goal.returns
-returns c = c.binary_range.ensures ∙ two_both c.args.width (model.binary_range (model.class_of (binary_means c.args.op)) c.args.width) (sym c.known_range-left.ensures ∙ ap known c.in-Of.is) (sym c.known_range-right.ensures ∙ ap known c.in-Of-right.is)
+returns c = c.binary_range.ensures ∙ two_both c.args.width (model.binary_range (model.class_of (binary_means c.args.op)) c.args.width) (sym c.known_range.ensures ∙ ap known c.in-Some.is) (sym c.known_range-2.ensures ∙ ap known c.in-Some-known_range.is)

@@ -1,5 +1,5 @@
 -- `expr_ranges::range_of_concat` meets its contract. Assumes nothing.
-use Prim.Native.Nat.{◌≤◌, ◌-◌}
+use Prim.Native.Nat.{◌≤◌}
 use Rattle.expr_ranges.specs.Steps.{Joining}
 use Rattle.expr_range_rows.specs.Rows.{shown}
 use Rattle.expr_ranges.proofs.range_of_concat.Given as goal

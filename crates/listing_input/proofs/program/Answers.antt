@@ -12,12 +12,12 @@ unfolding netlist_need
 outcome_text-requires c =
     record {
       room = c.requires;
-      short = program_short c.lower-x.ensures (ap length c.netlist_words-netlist.ensures ∙ length-replicate {A = ℕ} 8208 0);
+      short = program_short c.lower-answer.ensures (ap length c.netlist_words-netlist.ensures ∙ length-replicate {A = ℕ} 8208 0);
     }
 
 pub returns : goal.returns
 unfolding netlist_need
 returns c =
     written_same
-    (program_is c.lower-x.ensures _ 8208 refl c.stretch-image.ensures c.netlist_words-netlist.ensures c.scratch_words-scratch.ensures)
+    (program_is c.lower-answer.ensures _ 8208 refl c.stretch-image.ensures c.netlist_words-netlist.ensures c.scratch_words-scratch.ensures)
     c.outcome_text.ensures

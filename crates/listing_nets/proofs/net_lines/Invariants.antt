@@ -1,8 +1,6 @@
 -- `listing_nets::net_lines` meets its contract. Assumes nothing.
-use Prim.Native.Nat.{◌-◌}
 use Rattle.listing_nets.specs.Pieces.{Lines}
 use Rattle.spec_rules.specs.Listing.{net_line}
-use Rattle.spec_rules.specs.Step.{net}
 use Rattle.listing_nets.proofs.net_lines.Given as goal
 
 abbrev pub invariant-loop-n : goal.invariant-loop-n

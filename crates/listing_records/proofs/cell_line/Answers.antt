@@ -5,4 +5,4 @@ use Rattle.listing_records.proofs.cell_line.Goals as goal
 
 pub returns : goal.returns
 returns c =
-    cell_wrote _ c.word_at.ensures c.part.ensures (wrote_more c.record_word-p.ensures (wrote_more c.put_numbers-q.ensures c.put_byte.ensures))
+    cell_wrote _ c.word_at.ensures c.part.ensures (wrote_more (rw c.record_word.ensures at c.put-p.ensures) (wrote_more c.put_numbers-q.ensures c.put_byte.ensures))

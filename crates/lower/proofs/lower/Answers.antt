@@ -1,57 +1,61 @@
 -- `lower::lower` meets its contract. Assumes nothing.
-use mathlib.Core.Path.{refl, sym}
+use mathlib.Core.Path.{refl, sym, ap, ◌∙◌}
 use lib.Seq.{length-take-le}
-use Rattle.lower.proofs.Ends.{not_fine, passed, refused_way, good, netlist_fits, scratch_fits, lent, room_is, lowered_way}
-use borrow.Enum.Refused.{opened}
+use Rattle.std.specs.Prelude.{Err}
+use Rattle.std.proofs.lemmas.Result.{err_from_is_err_and}
+use Rattle.lower_outcome.specs.Answer.{answer_of, end_of}
+use Rattle.lower.proofs.Ends.{not_fine, refused_way, good, netlist_fits, scratch_fits, lent, room_is, lowered_way}
 use Rattle.lower.proofs.lower.Goals as goal
 
-pub returns-in_default : goal.returns-in_default
-returns-in_default c =
+pub returns-in_err-check : goal.returns-in_err-check
+returns-in_err-check c =
     let a = c.args in
-    let x = c.check-c in
-    refused_way a.image.now a.n a.p a.netlist.now a.scratch.now _ _ x.ensures (not_fine x.result (opened c.in_default.in_default-own.keys2)) c.of_check.ensures
+    let p = err_from_is_err_and c.from_residual.result c.from_residual.ensures.1 in
+    refused_way a.image.now a.n a.p a.netlist.now a.scratch.now _ _ c.in_err-check.ensures (not_fine c.in_err-check.field-0.0) (ap answer_of p.1 ∙ p.2)
 
 pub scratch_need-need-requires : goal.scratch_need-need-requires
 scratch_need-need-requires c =
     let a = c.args in
-    let x = c.check-c in
-    good a.image.now a.n a.p a.netlist.now a.scratch.now (passed x.ensures c.in-Fine.is)
+    good a.image.now a.n a.p a.netlist.now a.scratch.now (sym c.in_ok-check.ensures)
 
 pub slice_bounds-lower_accepted-end : goal.slice_bounds-lower_accepted-end
 slice_bounds-lower_accepted-end c =
     let a = c.args in
-    let x = c.check-c in
-    netlist_fits a.image.now a.n a.p a.netlist.now a.scratch.now (passed x.ensures c.in-Fine.is)
+    netlist_fits a.image.now a.n a.p a.netlist.now a.scratch.now (sym c.in_ok-check.ensures)
 
 pub slice_bounds-lower_accepted-end-2 : goal.slice_bounds-lower_accepted-end-2
 slice_bounds-lower_accepted-end-2 c =
     let a = c.args in
-    let x = c.check-c in
-    sym (length-take-le _ a.netlist.now (netlist_fits a.image.now a.n a.p a.netlist.now a.scratch.now (passed x.ensures c.in-Fine.is)))
+    sym (length-take-le _ a.netlist.now (netlist_fits a.image.now a.n a.p a.netlist.now a.scratch.now (sym c.in_ok-check.ensures)))
 
 pub slice_bounds-lower_accepted-end-3 : goal.slice_bounds-lower_accepted-end-3
 slice_bounds-lower_accepted-end-3 c =
     let a = c.args in
-    let x = c.check-c in
-    scratch_fits a.image.now a.n a.p a.netlist.now a.scratch.now (passed x.ensures c.in-Fine.is) _ c.scratch_need-need.ensures
+    scratch_fits a.image.now a.n a.p a.netlist.now a.scratch.now (sym c.in_ok-check.ensures) _ c.scratch_need-need.ensures
 
 pub slice_bounds-lower_accepted-end-4 : goal.slice_bounds-lower_accepted-end-4
 slice_bounds-lower_accepted-end-4 c =
     let a = c.args in
-    let x = c.check-c in
-    sym (length-take-le _ a.scratch.now (scratch_fits a.image.now a.n a.p a.netlist.now a.scratch.now (passed x.ensures c.in-Fine.is) _ c.scratch_need-need.ensures))
+    sym (length-take-le _ a.scratch.now (scratch_fits a.image.now a.n a.p a.netlist.now a.scratch.now (sym c.in_ok-check.ensures) _ c.scratch_need-need.ensures))
 
-pub lower_accepted-r-requires : goal.lower_accepted-r-requires
-lower_accepted-r-requires c =
+pub lower_accepted-requires : goal.lower_accepted-requires
+lower_accepted-requires c =
     let a = c.args in
-    let x = c.check-c in
-    lent a.image.now a.n a.p a.netlist.now a.scratch.now (passed x.ensures c.in-Fine.is) _ _ refl c.scratch_need-need.ensures
+    lent a.image.now a.n a.p a.netlist.now a.scratch.now (sym c.in_ok-check.ensures) _ _ refl c.scratch_need-need.ensures
 
 pub returns : goal.returns
 returns c =
     let a = c.args in
-    let x = c.check-c in
-    let y = c.lower_accepted-r in
-    let f = passed x.ensures c.in-Fine.is in
+    let y = c.lower_accepted in
+    let f = sym c.in_ok-check.ensures in
     lowered_way a.image.now a.n a.p a.netlist.now a.scratch.now f _ _ _ y.result _ y.new.net y.new.scr refl c.scratch_need-need.ensures
-    (room_is a.image.now a.n a.p a.netlist.now a.scratch.now f _ refl) y.ensures c.of_walk.ensures
+    (room_is a.image.now a.n a.p a.netlist.now a.scratch.now f _ refl) y.ensures (sym (ap end_of c.in_ok-lower_accepted.was))
+
+pub returns-in_err-lower_accepted : goal.returns-in_err-lower_accepted
+returns-in_err-lower_accepted c =
+    let a = c.args in
+    let y = c.lower_accepted in
+    let f = sym c.in_ok-check.ensures in
+    let p = err_from_is_err_and c.from_residual-in_err-lower_accepted.result c.from_residual-in_err-lower_accepted.ensures.1 in
+    lowered_way a.image.now a.n a.p a.netlist.now a.scratch.now f _ _ _ y.result _ y.new.net y.new.scr refl c.scratch_need-need.ensures
+    (room_is a.image.now a.n a.p a.netlist.now a.scratch.now f _ refl) y.ensures (ap answer_of p.1 ∙ p.2 ∙ sym (ap end_of c.in_err-lower_accepted.was))

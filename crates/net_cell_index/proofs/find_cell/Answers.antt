@@ -5,7 +5,7 @@ use native.Mathlib.Omega.{arith}
 use lib.ListN.{drop}
 use lib.Seq.{get_or-drop}
 use Rattle.net_view.specs.View.{netlist_of}
-use Rattle.net_index.specs.CellSearch.{cell_start, cell_end, here, here_found, here_less, here_turn}
+use Rattle.net_index.specs.CellSearch.{cell_start, here, here_found, here_less, here_turn}
 use Rattle.net_cell_index.proofs.find_cell.Goals as goal
 
 pub loop-p-init : goal.loop-p-init
@@ -14,29 +14,10 @@ loop-p-init c =
     let w = s.net.now in
     rw (← get_or-drop (2 * s.n) s.idx.now s.h 0) (cell_start s.n _ s.h s.key.now (netlist_of s.n w).records (drop (2 * s.n) s.idx.now) c.requires.1 c.requires.2 c.requires.3 c.requires.0.cells)
 
-pub overflow_cast-at : goal.overflow_cast-at
-overflow_cast-at c =
-    let s = c.args in
-    omega (arith, (here s.n s.h s.key.now s.net.now s.idx.now c.loop-p.p c.requires.0 c.requires.1 c.requires.2 c.loop-p.invariant c.loop-p-test.true).width)
-
-pub overflow_add-at : goal.overflow_add-at
-overflow_add-at c =
-    let s = c.args in
-    omega (arith, (here s.n s.h s.key.now s.net.now s.idx.now c.loop-p.p c.requires.0 c.requires.1 c.requires.2 c.loop-p.invariant c.loop-p-test.true).width)
-
 pub begins_with-requires : goal.begins_with-requires
 begins_with-requires c =
     let s = c.args in
     omega (arith, (here s.n s.h s.key.now s.net.now s.idx.now c.loop-p.p c.requires.0 c.requires.1 c.requires.2 c.loop-p.invariant c.loop-p-test.true).width)
-
-pub overflow_add-result : goal.overflow_add-result
-overflow_add-result c =
-    let s = c.args in
-    omega (
-      arith,
-      (here_found s.n s.h s.key.now s.net.now s.idx.now c.loop-p.p c.requires.0 c.requires.1 c.requires.2 c.loop-p.invariant c.loop-p-test.true
-          (sym c.begins_with.ensures ∙ c.if-begins_with.true)).within,
-    )
 
 pub returns-then-begins_with : goal.returns-then-begins_with
 returns-then-begins_with c =
@@ -60,8 +41,3 @@ loop-p-preserved c =
     let s = c.args in
     here_turn s.n s.h s.key.now s.net.now s.idx.now c.loop-p.p c.requires.0 c.requires.1 c.requires.2 c.loop-p.invariant c.loop-p-test.true c.next_cell-p.result
     (sym c.begins_with.ensures ∙ c.if-begins_with.false) c.next_cell-p.ensures
-
-pub returns : goal.returns
-returns c =
-    let s = c.args in
-    cell_end s.n _ s.h s.key.now (netlist_of s.n s.net.now).records (drop (2 * s.n) s.idx.now) c.loop-p.p c.requires.1 c.requires.0.cells c.loop-p.invariant (omega arith)

@@ -6,15 +6,6 @@ use lib.ListN.{get_or}
 use Rattle.net_cell_index.proofs.Laws.{first_at_law, next_at}
 use Rattle.net_cell_index.proofs.next_cell.Goals as goal
 
-pub overflow_cast-o : goal.overflow_cast-o
-overflow_cast-o c = omega (arith, first_at_law c.args.net.now c.args.at c.key_length-k.result c.key_length-k.ensures)
-
-pub overflow_add-result : goal.overflow_add-result
-overflow_add-result c = omega (arith, first_at_law c.args.net.now c.args.at c.key_length-k.result c.key_length-k.ensures)
-
-pub offset_bounds-idx-n : goal.offset_bounds-idx-n
-offset_bounds-idx-n c = omega (arith, first_at_law c.args.net.now c.args.at c.key_length-k.result c.key_length-k.ensures)
-
 pub bounds-idx-n : goal.bounds-idx-n
 bounds-idx-n c = omega (arith, first_at_law c.args.net.now c.args.at c.key_length-k.result c.key_length-k.ensures)
 

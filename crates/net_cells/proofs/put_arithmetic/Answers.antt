@@ -1,29 +1,9 @@
 -- `net_cells::put_arithmetic` meets its contract. Assumes nothing.
-use mathlib.Core.Path.{◌∙◌}
-use native.Mathlib.Omega.{arith}
-use lib.ListN.{length, set, length-set}
-use Rattle.net_cells.proofs.ArithmeticWays.{arithmetic_put}
+use Rattle.spec_tests.specs.Options.{option_of}
+use Rattle.net_cells.proofs.ArithmeticWays.{carry_word, arithmetic_put}
 use Rattle.net_cells.proofs.put_arithmetic.Goals as goal
-
-pub bounds-buffer-1 : goal.bounds-buffer-1
-bounds-buffer-1 c = simp length-set (omega arith)
-
-pub bounds-buffer-2 : goal.bounds-buffer-2
-bounds-buffer-2 c = simp length-set (omega arith)
-
-pub bounds-buffer-3 : goal.bounds-buffer-3
-bounds-buffer-3 c = simp length-set (omega arith)
-
-pub put_words-requires : goal.put_words-requires
-put_words-requires c = simp length-set (omega arith)
-
-pub put_words-requires-2 : goal.put_words-requires-2
-put_words-requires-2 c = omega (arith, c.put_words.auto.net, length-set (set (set (set c.args.buffer.now 0 3) 1 c.args.op) 2 (length c.args.lhs.now)) 3 c.args.carry, length-set (set (set c.args.buffer.now 0 3) 1 c.args.op) 2 (length c.args.lhs.now), length-set (set c.args.buffer.now 0 3) 1 c.args.op, length-set c.args.buffer.now 0 3)
-
-pub shape_of-buffer : goal.shape_of-buffer
-shape_of-buffer c = c.put_words-2.auto.net ∙ c.put_words.auto.net ∙ simp length-set
 
 pub returns : goal.returns
 returns c =
     let s = c.args in
-    rw (c.put_words-2.ensures, c.put_words.ensures) (arithmetic_put s.buffer.now s.op s.carry s.lhs.now s.rhs.now c.requires.0 c.requires.2)
+    rw (c.put_words-2.ensures, c.put_words.ensures, c.unwrap_or.ensures, carry_word s.carry) (arithmetic_put s.buffer.now s.op (option_of s.carry) s.lhs.now s.rhs.now c.requires.0 c.requires.2)

@@ -1,16 +1,9 @@
 -- `net_gate_index::bucket` meets its contract. Assumes nothing.
-use Prim.Native.Nat.{ℕ, ◌*◌, ◌/◌, ◌≤◌, ◌<◌}
+use Prim.Native.Nat.{ℕ, ◌*◌, ◌/◌, ◌<◌}
 use mathlib.Core.Path.{sym, subst}
-use native.Mathlib.Nat.{mul-le-mul}
 use native.Mathlib.Omega.{arith}
 use Rattle.net_index.specs.Laws.{bucket_less, bucket_is}
 use Rattle.net_gate_index.proofs.bucket.Goals as goal
-
-product : (h n : ℕ) → h < 4294967296 → n < 4294967296 → h * n < 18446744073709551616
-product h n a b =
-    let p : h ≤ 4294967295 = omega arith in
-    let q : n ≤ 4294967295 = omega arith in
-    omega (arith, mul-le-mul p q)
 
 bucket-of : (n h : ℕ) → 0 < n → h < 4294967296 → h * n / 4294967296 < n
 bucket-of n h p l = subst (λ (k : ℕ). k < n) (sym (bucket_is n h l)) (bucket_less n h p)

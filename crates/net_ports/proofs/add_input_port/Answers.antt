@@ -2,39 +2,30 @@
 use mathlib.Core.Path.{refl}
 use mathlib.Core.List.{[], ◌∷◌}
 use native.Mathlib.Omega.{arith}
+use Rattle.std.proofs.lemmas.Result.{err_from_is_err_and}
 use Rattle.net_index.specs.Index.{is_gate, is_cell}
 use Rattle.spec_model.specs.Builder.{add_input_port}
-use Rattle.net_records.specs.declared.Pushed.TheVariants.{Done, ListFull}
-use Rattle.net_ports.proofs.Laws.{not_net, recorded, recorded_out}
-use borrow.Enum.Refused.{opened}
+use Rattle.net_ports.proofs.Laws.{recorded, recorded_out}
 use Rattle.net_ports.proofs.add_input_port.Goals as goal
 
-pub add_nodes-x-requires : goal.add_nodes-x-requires
+pub add_nodes-requires : goal.add_nodes-requires
 unfolding is_gate
-add_nodes-x-requires c = (c.requires.0, refl, omega arith)
+add_nodes-requires c = (c.requires.0, refl, omega arith)
 
-pub returns-in_default : goal.returns-in_default
+pub returns-in_err-first : goal.returns-in_err-first
 unfolding add_input_port
-returns-in_default c =
+returns-in_err-first c =
     let s = c.args in
-    recorded_out _ s.n s.w (0 ∷ s.s ∷ s.w ∷ []) _ _ c.add_nodes-x.result (not_net c.add_nodes-x.result (opened c.in_default.in_default-own.keys2)) c.add_nodes-x.ensures
+    let p = err_from_is_err_and c.from_residual.result c.from_residual.ensures.1 in
+    rw (p.1, p.2) (recorded_out _ s.n s.w (0 ∷ s.s ∷ s.w ∷ []) _ _ _ c.in_err-first.ensures)
 
-pub push_port-requires : goal.push_port-requires
-push_port-requires c =
-    let s = c.args in
-    let b = c.add_nodes-x.ensures.below _ c.in-Net.is in
-    (c.add_nodes-x.ensures.built, c.requires.1, omega (arith, b, c.requires.0.nets))
-
-pub returns-in-Done : goal.returns-in-Done
+pub returns-in_err-push_port : goal.returns-in_err-push_port
 unfolding add_input_port is_cell
-returns-in-Done c =
+returns-in_err-push_port c =
     let s = c.args in
-    recorded _ s.n s.w (0 ∷ s.s ∷ s.w ∷ []) _ _ _ Done _ (rw c.in-Net.is at c.add_nodes-x.ensures) refl
-    (rw c.in-Done.is at c.push_port.ensures)
+    let p = err_from_is_err_and c.from_residual-in_err-push_port.result c.from_residual-in_err-push_port.ensures.1 in
+    rw (p.1, p.2) (recorded _ s.n s.w (0 ∷ s.s ∷ s.w ∷ []) _ _ _ _ _ c.in_ok-first.ensures refl c.in_err-push_port.ensures)
 
-pub returns-in-ListFull : goal.returns-in-ListFull
+pub returns : goal.returns
 unfolding add_input_port is_cell
-returns-in-ListFull c =
-    let s = c.args in
-    recorded _ s.n s.w (0 ∷ s.s ∷ s.w ∷ []) _ _ _ ListFull _ (rw c.in-Net.is at c.add_nodes-x.ensures) refl
-    (rw c.in-ListFull.is at c.push_port.ensures)
+returns c = let s = c.args in recorded _ s.n s.w (0 ∷ s.s ∷ s.w ∷ []) _ _ _ _ _ c.in_ok-first.ensures refl c.in_ok-push_port.ensures

@@ -1,5 +1,4 @@
 -- `net_ports::add_nodes` meets its contract. Assumes nothing.
-use Prim.Native.Nat.{◌-◌}
 use Rattle.spec_model.specs.Words.{source}
 use Rattle.net_ports.proofs.Laws.{Going}
 use Rattle.net_ports.proofs.add_nodes.Given as goal

@@ -1,7 +1,6 @@
 -- `net_ports::put_run` meets its contract. Assumes nothing.
-use Prim.Native.Nat.{◌-◌}
 use Rattle.spec_model.specs.Builder.{from}
-use Rattle.net_records.proofs.Laws.{Copied}
+use Rattle.net_ports.proofs.Laws.{Copied}
 use Rattle.net_ports.proofs.put_run.Given as goal
 
 abbrev pub invariant-loop-i : goal.invariant-loop-i

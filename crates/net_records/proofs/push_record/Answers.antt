@@ -1,33 +1,12 @@
 -- `net_records::push_record` meets its contract. Assumes nothing.
 use native.Mathlib.Omega.{arith}
-use lib.ListN.{get_or, length-set}
+use lib.ListN.{get_or}
 use Rattle.net_view.specs.Laws.{record_pushed, records_few}
 use Rattle.net_records.proofs.Laws.{kind_word_law, kind_less, pushes, push_full}
 use Rattle.net_records.proofs.push_record.Goals as goal
 
-pub overflow_cast-kind : goal.overflow_cast-kind
-overflow_cast-kind c = omega (arith, kind_less c.args.r.now c.requires.1)
-
-pub overflow_add-count : goal.overflow_add-count
-overflow_add-count c = omega (arith, kind_less c.args.r.now c.requires.1)
-
-pub offset_bounds-net-kind : goal.offset_bounds-net-kind
-offset_bounds-net-kind c = omega (arith, kind_less c.args.r.now c.requires.1)
-
-pub bounds-net-kind : goal.bounds-net-kind
-bounds-net-kind c = omega (arith, kind_less c.args.r.now c.requires.1)
-
 pub overflow_add-net-then-used-r : goal.overflow_add-net-then-used-r
 overflow_add-net-then-used-r c = omega (arith, records_few c.args.n c.args.net.now c.requires.0 (get_or c.args.r.now 0 0) (kind_less c.args.r.now c.requires.1))
-
-pub overflow_add-net-then-used-r-2 : goal.overflow_add-net-then-used-r-2
-overflow_add-net-then-used-r-2 c = omega (arith, kind_less c.args.r.now c.requires.1)
-
-pub offset_bounds-net-kind-then-used-r : goal.offset_bounds-net-kind-then-used-r
-offset_bounds-net-kind-then-used-r c = omega (arith, kind_less c.args.r.now c.requires.1)
-
-pub bounds-net-kind-then-used-r : goal.bounds-net-kind-then-used-r
-bounds-net-kind-then-used-r c = simp length-set (omega (arith, kind_less c.args.r.now c.requires.1))
 
 pub returns-then-used-r : goal.returns-then-used-r
 returns-then-used-r c =
@@ -39,4 +18,4 @@ returns-then-used-r c =
     (rw c.put_words.ensures (record_pushed s.n w c.requires.0 (get_or r 0 0) (kind_less r f) r (omega arith) f (kind_word_law r f)))
 
 pub returns-else-used-r : goal.returns-else-used-r
-returns-else-used-r c = push_full c.args.n c.args.net.now c.args.r.now c.requires.0 (omega arith)
+returns-else-used-r c = push_full c.args.n c.args.net.now c.args.r.now c.requires.0 _ (omega arith)

@@ -1,5 +1,4 @@
 -- `op_bits::mux_bits` meets its contract. Assumes nothing.
-use Prim.Native.Nat.{◌-◌}
 use lib.ListN.{length, get_or}
 use Rattle.spec_model.specs.Builder.{both, add_mux}
 use Rattle.net_view.specs.View.{netlist_of}

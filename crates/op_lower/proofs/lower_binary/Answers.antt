@@ -3,14 +3,8 @@ use Rattle.op_bits.proofs.Laws.{list_by}
 use Rattle.op_lower.specs.Operators.{by_class}
 use Rattle.op_lower.proofs.lower_binary.Goals as goal
 
-pub lower_class-requires : goal.lower_class-requires
-lower_class-requires c =
-    let pre = c.requires in
-    rw c.class_of.ensures pre
-
 pub returns : goal.returns
 returns c =
     let lower-class = c.lower_class in
-    let class_of = c.class_of in
     let s = c.args in
-    list_by _ _ _ _ _ _ _ (by_class s.op _ _ _) (rw class_of.ensures at lower-class.ensures)
+    list_by _ _ _ _ _ _ _ (by_class s.op _ _ _) (rw c.from.ensures at lower-class.ensures)

@@ -1,37 +1,8 @@
 -- `op_lower::lower_class` meets its contract. Assumes nothing.
+use Rattle.std.proofs.lemmas.Result.{err_from_is_err_and}
 use Rattle.op_lower.specs.Operators.{lower_class}
-use Rattle.op_lower.proofs.Laws.{whole}
+use Rattle.op_lower.proofs.Laws.{whole, made_done, made_out}
 use Rattle.op_lower.proofs.lower_class.Goals as goal
-
-pub pairwise-requires : goal.pairwise-requires
-pairwise-requires c =
-    let pre = c.requires in
-    (pre.0, rw c.in-Bitwise.is at pre.3)
-
-pub lower_arithmetic-requires : goal.lower_arithmetic-requires
-lower_arithmetic-requires c =
-    let pre = c.requires in
-    (pre.0, pre.1, rw c.in-Arithmetic.is at pre.3, pre.2)
-
-pub equal_words-requires : goal.equal_words-requires
-equal_words-requires c =
-    let pre = c.requires in
-    (pre.0, pre.1, rw c.in-Equal.is at pre.3)
-
-pub not_equal_words-requires : goal.not_equal_words-requires
-not_equal_words-requires c =
-    let pre = c.requires in
-    (pre.0, pre.1, rw c.in-NotEqual.is at pre.3)
-
-pub compare-requires : goal.compare-requires
-compare-requires c =
-    let pre = c.requires in
-    (pre.0, pre.1, rw c.in-Compare.is at pre.3, pre.2)
-
-pub compare_back-requires : goal.compare_back-requires
-compare_back-requires c =
-    let pre = c.requires in
-    (pre.0, pre.1, rw c.in-CompareBack.is at pre.3, pre.2)
 
 pub returns-in-Bitwise : goal.returns-in-Bitwise
 unfolding lower_class
@@ -43,7 +14,7 @@ returns-in-Bitwise c =
 pub returns-in-Arithmetic : goal.returns-in-Arithmetic
 unfolding lower_class
 returns-in-Arithmetic c =
-    let lower-arithmetic = c.lower_arithmetic in
+    let lower-arithmetic = c.arithmetic in
     let s = c.args in
     rw c.in-Arithmetic.is (whole _ _ _ s.xs.now _ _ _ lower-arithmetic.auto.xs lower-arithmetic.ensures)
 
@@ -59,17 +30,25 @@ returns-in-NotEqual c =
     let not-equal-words = c.not_equal_words in
     rw c.in-NotEqual.is not-equal-words.ensures
 
-pub returns-in-Compare : goal.returns-in-Compare
+pub returns-in_err-xs-in-Compare : goal.returns-in_err-xs-in-Compare
 unfolding lower_class
-returns-in-Compare c =
-    let compare = c.compare in
-    rw c.in-Compare.is compare.ensures
+returns-in_err-xs-in-Compare c =
+    let p = err_from_is_err_and c.from_residual.result c.from_residual.ensures.1 in
+    rw (c.in-Compare.is, p.1, p.2) (made_out _ _ _ _ _ _ _ c.in_err-xs-in-Compare.ensures)
 
-pub returns-in-CompareBack : goal.returns-in-CompareBack
+pub returns-in_ok-xs-in-Compare : goal.returns-in_ok-xs-in-Compare
 unfolding lower_class
-returns-in-CompareBack c =
-    let compare-back = c.compare_back in
-    rw c.in-CompareBack.is compare-back.ensures
+returns-in_ok-xs-in-Compare c = rw c.in-Compare.is (made_done _ _ _ _ _ c.args.xs.now c.requires.1 c.in_ok-xs-in-Compare.ensures)
+
+pub returns-in_err-xs-in-CompareBack : goal.returns-in_err-xs-in-CompareBack
+unfolding lower_class
+returns-in_err-xs-in-CompareBack c =
+    let p = err_from_is_err_and c.from_residual-in_err-xs-in-CompareBack.result c.from_residual-in_err-xs-in-CompareBack.ensures.1 in
+    rw (c.in-CompareBack.is, p.1, p.2) (made_out _ _ _ _ _ _ _ c.in_err-xs-in-CompareBack.ensures)
+
+pub returns-in_ok-xs-in-CompareBack : goal.returns-in_ok-xs-in-CompareBack
+unfolding lower_class
+returns-in_ok-xs-in-CompareBack c = rw c.in-CompareBack.is (made_done _ _ _ _ _ c.args.xs.now c.requires.1 c.in_ok-xs-in-CompareBack.ensures)
 
 pub returns-in-Shift : goal.returns-in-Shift
 unfolding lower_class

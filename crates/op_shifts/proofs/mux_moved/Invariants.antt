@@ -1,5 +1,4 @@
 -- `op_shifts::mux_moved` meets its contract. Assumes nothing.
-use Prim.Native.Nat.{◌-◌}
 use lib.ListN.{length, get_or}
 use Rattle.spec_model.specs.Builder.{both, add_mux}
 use Rattle.spec_model.specs.Lowering.{shifted}

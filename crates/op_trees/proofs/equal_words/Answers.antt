@@ -1,25 +1,16 @@
 -- `op_trees::equal_words` meets its contract. Assumes nothing.
 use mathlib.Core.Bool.{true}
-use native.Mathlib.Omega.{arith}
+use Rattle.std.proofs.lemmas.Result.{err_from_is_err_and}
 use Rattle.spec_model.specs.Lowering.{equal_words}
-use Rattle.op_bits.proofs.Laws.{not_done, first_out, first_then}
-use borrow.Enum.Refused.{opened}
+use Rattle.op_bits.proofs.Laws.{first_out, first_then}
 use Rattle.op_trees.proofs.equal_words.Goals as goal
 
-pub returns-in_default : goal.returns-in_default
+pub returns-in_err-pairwise : goal.returns-in_err-pairwise
 unfolding equal_words
-returns-in_default c =
-    let pairwise = c.pairwise-r in
-    first_out _ _ _ pairwise.result _ _ _ _ (not_done pairwise.result (opened c.in_default.in_default-own.keys2)) pairwise.ensures
-
-pub reduce_tree-requires : goal.reduce_tree-requires
-reduce_tree-requires c =
-    let pairwise = c.pairwise-r in
-    (pairwise.ensures.held, omega (arith, pairwise.auto.xs))
+returns-in_err-pairwise c =
+    let p = err_from_is_err_and c.from_residual.result c.from_residual.ensures.1 in
+    rw (p.1, p.2) (first_out _ _ _ _ _ _ _ _ c.in_err-pairwise.ensures)
 
 pub returns : goal.returns
 unfolding equal_words
-returns c =
-    let reduce-tree = c.reduce_tree in
-    let pairwise = c.pairwise-r in
-    first_then _ _ _ _ _ _ _ _ _ _ (rw c.in-Done.is at pairwise.ensures) (reduce-tree.ensures true)
+returns c = first_then _ _ _ _ _ _ _ _ _ _ c.in_ok-pairwise.ensures (c.reduce_tree.ensures true)

@@ -9,15 +9,15 @@ pub bit_net-requires : goal.bit_net-requires
 bit_net-requires c =
     let pre = c.requires in
     let a = c.args in
-    let h = there_present a.e a.image.now c.in-Present.c c.in-Present.is pre.1 in
+    let h = there_present a.e a.image.now c.in-Some.c c.in-Some.is pre.1 in
     (pre.0, h.there, omega (arith, h.one))
 
-pub returns-in-Absent : goal.returns-in-Absent
-returns-in-Absent c =
+pub returns-in-None : goal.returns-in-None
+returns-in-None c =
     let a = c.args in
-    λ l. control_absent (state_of a.image.now l a.scr.now) a.e c.in-Absent.is
+    λ l. control_absent (state_of a.image.now l a.scr.now) a.e c.in-None.is
 
-pub returns-in-Present : goal.returns-in-Present
-returns-in-Present c =
+pub returns-in-Some : goal.returns-in-Some
+returns-in-Some c =
     let a = c.args in
-    λ l. control_present (state_of a.image.now l a.scr.now) a.e c.in-Present.c _ _ c.in-Present.is (c.bit_net.ensures l) c.low_word.ensures
+    λ l. control_present (state_of a.image.now l a.scr.now) a.e c.in-Some.c _ _ c.in-Some.is (c.bit_net.ensures l) c.low_word.ensures

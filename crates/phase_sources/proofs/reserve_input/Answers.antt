@@ -1,5 +1,5 @@
 -- `phase_sources::reserve_input` meets its contract. Assumes nothing.
-use Rattle.phase_sources.proofs.Laws.{input_width, input_internal, input_output, input_port}
+use Rattle.phase_sources.proofs.Laws.{input_width, input_none, input_port}
 use Rattle.phase_sources.proofs.reserve_input.Goals as goal
 
 pub reserve_port-requires : goal.reserve_port-requires
@@ -8,12 +8,8 @@ reserve_port-requires c =
 
 pub returns-in-Internal : goal.returns-in-Internal
 returns-in-Internal c =
-    input_internal _ _ _ _ _ c.signal_at-x.ensures c.in-Internal.is c.requires.0
+    input_none _ _ _ _ _ c.signal_at-x.ensures c.in-Internal.is c.requires.0
 
 pub returns-in-Input : goal.returns-in-Input
 returns-in-Input c =
     input_port _ _ _ _ _ c.signal_at-x.ensures _ _ _ c.in-Input.is c.reserve_port.ensures
-
-pub returns-in-Output : goal.returns-in-Output
-returns-in-Output c =
-    input_output _ _ _ _ _ c.signal_at-x.ensures c.in-Output.is c.requires.0

@@ -1,5 +1,4 @@
 -- `phase_sources::reserve_inputs` meets its contract. Assumes nothing.
-use Prim.Native.Nat.{◌-◌}
 use Rattle.spec_rules.specs.Image.{decode}
 use Rattle.spec_model.specs.Lowering.{reserve_inputs}
 use Rattle.walk_view.specs.View.{walk_state}

@@ -8,31 +8,6 @@ bounds-scr-column c =
     let r = assign_place c.args.image.now c.args.scr.now c.args.a _ _ _ _ c.requires.0 c.requires.1 c.record_field-p.ensures c.record_field-lsb.ensures c.record_field-n.ensures c.record_field-e.ensures in
     omega arith
 
-pub overflow_cast-first-2 : goal.overflow_cast-first-2
-overflow_cast-first-2 c =
-    let r = assign_place c.args.image.now c.args.scr.now c.args.a _ _ _ _ c.requires.0 c.requires.1 c.record_field-p.ensures c.record_field-lsb.ensures c.record_field-n.ensures c.record_field-e.ensures in
-    omega arith
-
-pub overflow_add-first-3 : goal.overflow_add-first-3
-overflow_add-first-3 c =
-    let r = assign_place c.args.image.now c.args.scr.now c.args.a _ _ _ _ c.requires.0 c.requires.1 c.record_field-p.ensures c.record_field-lsb.ensures c.record_field-n.ensures c.record_field-e.ensures in
-    omega arith
-
-pub overflow_add-column-3 : goal.overflow_add-column-3
-overflow_add-column-3 c =
-    let r = assign_place c.args.image.now c.args.scr.now c.args.a _ _ _ _ c.requires.0 c.requires.1 c.record_field-p.ensures c.record_field-lsb.ensures c.record_field-n.ensures c.record_field-e.ensures in
-    omega arith
-
-pub overflow_add-e : goal.overflow_add-e
-overflow_add-e c =
-    let r = assign_place c.args.image.now c.args.scr.now c.args.a _ _ _ _ c.requires.0 c.requires.1 c.record_field-p.ensures c.record_field-lsb.ensures c.record_field-n.ensures c.record_field-e.ensures in
-    omega arith
-
-pub overflow_mul-e : goal.overflow_mul-e
-overflow_mul-e c =
-    let r = assign_place c.args.image.now c.args.scr.now c.args.a _ _ _ _ c.requires.0 c.requires.1 c.record_field-p.ensures c.record_field-lsb.ensures c.record_field-n.ensures c.record_field-e.ensures in
-    omega arith
-
 pub put_drivers-requires : goal.put_drivers-requires
 put_drivers-requires c =
     let r = assign_place c.args.image.now c.args.scr.now c.args.a _ _ _ _ c.requires.0 c.requires.1 c.record_field-p.ensures c.record_field-lsb.ensures c.record_field-n.ensures c.record_field-e.ensures in

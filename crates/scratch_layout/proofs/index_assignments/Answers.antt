@@ -1,17 +1,11 @@
 -- `scratch_layout::index_assignments` meets its contract: invariant: the drivers by the assignments from a on stand. Assumes nothing.
-use native.Mathlib.Omega.{arith}
 use Rattle.scratch_view.specs.View.{limit_of}
-use Rattle.scratch_layout.proofs.Ways.{index_begin, index_step, index_end, firsts_own}
+use Rattle.scratch_layout.proofs.Ways.{index_begin, index_step, index_end}
 use Rattle.scratch_layout.proofs.index_assignments.Goals as goal
 
 pub loop-a-init : goal.loop-a-init
 loop-a-init c =
-    index_begin c.args.image.now (limit_of c.args.scr.now) c.args.scr.now c.count-a.result c.count-a.ensures c.requires.0 c.requires.1
-
-pub index_assignment-requires : goal.index_assignment-requires
-index_assignment-requires c =
-    let l = c.loop-a in
-    (firsts_own c.args.image.now (limit_of c.args.scr.now) l.scr l.invariant.firsts, omega (arith, l.invariant.below))
+    index_begin c.args.image.now (limit_of c.args.scr.now) c.args.scr.now c.count-count.result c.count-count.ensures c.requires.0 c.requires.1
 
 pub loop-a-preserved : goal.loop-a-preserved
 loop-a-preserved c =

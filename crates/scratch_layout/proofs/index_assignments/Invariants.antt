@@ -5,6 +5,3 @@ use Rattle.scratch_layout.proofs.index_assignments.Given as goal
 
 abbrev pub invariant-loop-a : goal.invariant-loop-a
 invariant-loop-a l = IndexedAt l.image (limit_of l.initial.scr) l.initial.scr l.scr l.a
-
-abbrev pub decreases-loop-a : goal.decreases-loop-a
-decreases-loop-a l = l.a

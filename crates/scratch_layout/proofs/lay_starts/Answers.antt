@@ -1,6 +1,6 @@
 -- `scratch_layout::lay_starts` meets its contract: invariant: the first bits of the expressions passed stand. Assumes nothing.
 use mathlib.Core.Path.{◌≡◌, sym}
-use Prim.Native.Nat.{◌+◌, ◌*◌, ◌<◌, ◌-◌}
+use Prim.Native.Nat.{◌+◌, ◌*◌, ◌<◌}
 use native.Mathlib.Omega.{arith}
 use lib.ListN.{get_or}
 use Rattle.spec_tests.specs.Laws.{sum_none, sum_more}

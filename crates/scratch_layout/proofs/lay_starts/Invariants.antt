@@ -1,6 +1,5 @@
 -- `scratch_layout::lay_starts` meets its contract: invariant: the first bits of the expressions passed stand. Assumes nothing.
 use mathlib.Core.Path.{◌≡◌}
-use Prim.Native.Nat.{◌-◌}
 use Rattle.spec_tests.specs.Rules.{sum_to}
 use Rattle.spec_rules.specs.Image.{expr_width}
 use Rattle.scratch_view.specs.View.{limit_of}

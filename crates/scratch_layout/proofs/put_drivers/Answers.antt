@@ -1,14 +1,11 @@
 -- `scratch_layout::put_drivers` meets its contract: invariant: so many drivers are pasted. Assumes nothing.
 use mathlib.Core.Path.{sym}
-use Prim.Native.Nat.{◌-◌, ◌+◌}
+use Prim.Native.Nat.{◌+◌}
 use native.Mathlib.Omega.{arith}
 use Rattle.spec_tests.specs.Rules.{list_of}
 use Rattle.scratch_view.specs.Rows.{length_list_of, at_list_of}
-use Rattle.scratch_view.specs.Copies.{paste_begins, paste_turn, paste_ends}
+use Rattle.scratch_view.specs.Copies.{paste_turn}
 use Rattle.scratch_layout.proofs.put_drivers.Goals as goal
-
-pub loop-i-init : goal.loop-i-init
-loop-i-init c = paste_begins c.args.scr.now c.args.at (list_of c.args.n (λ i. c.args.base + i)) c.args.n
 
 pub loop-i-preserved : goal.loop-i-preserved
 loop-i-preserved c =
@@ -16,9 +13,3 @@ loop-i-preserved c =
     let l = c.loop-i in
     paste_turn a.scr.now a.at (list_of a.n (λ i. a.base + i)) a.n l.scr l.i (a.base + l.i) l.invariant c.loop-i-test.true c.requires.0
     (omega (arith, length_list_of a.n (λ i. a.base + i))) (sym (at_list_of a.n (λ i. a.base + i) l.i 0 c.loop-i-test.true))
-
-pub returns : goal.returns
-returns c =
-    let a = c.args in
-    let l = c.loop-i in
-    paste_ends a.scr.now a.at (list_of a.n (λ i. a.base + i)) a.n l.scr l.i l.invariant c.loop-i-test.false

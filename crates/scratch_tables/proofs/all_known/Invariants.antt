@@ -1,5 +1,4 @@
 -- `scratch_tables::all_known` meets its contract: invariant: the words passed hold nets, and what is left decides. Assumes nothing.
-use Prim.Native.Nat.{◌-◌}
 use Rattle.scratch_tables.proofs.Ways.{KnownAt}
 use Rattle.scratch_tables.proofs.all_known.Given as goal
 

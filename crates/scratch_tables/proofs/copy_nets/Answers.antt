@@ -1,6 +1,6 @@
 -- `scratch_tables::copy_nets` meets its contract: invariant: so many nets are pasted. Assumes nothing.
 use mathlib.Core.Path.{◌∙◌}
-use Prim.Native.Nat.{◌-◌, ◌+◌}
+use Prim.Native.Nat.{◌+◌}
 use native.Mathlib.Omega.{arith}
 use lib.ListN.{get_or}
 use Rattle.spec_tests.specs.Rules.{list_of}

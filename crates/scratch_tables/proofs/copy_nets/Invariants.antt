@@ -1,5 +1,5 @@
 -- `scratch_tables::copy_nets` meets its contract: invariant: so many nets are pasted. Assumes nothing.
-use Prim.Native.Nat.{◌-◌, ◌+◌}
+use Prim.Native.Nat.{◌+◌}
 use lib.ListN.{get_or}
 use Rattle.spec_tests.specs.Rules.{list_of}
 use Rattle.scratch_view.specs.View.{net_word}

@@ -7,4 +7,4 @@ returns c =
     let a = c.args in
     let at = c.signal_place-at in
     let f = c.fill in
-    keep_signals_way a.image.now a.scr.now a.nets.now f.new.part a.n c.requires.0 c.requires.3 c.requires.4 a.p at.result c.requires.1 c.requires.2 at.ensures f.ensures
+    keep_signals_way a.image.now a.scr.now a.nets.now f.new.part c.requires.0 c.requires.3 a.p at.result c.requires.1 c.requires.2 at.ensures f.ensures

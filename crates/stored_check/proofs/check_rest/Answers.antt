@@ -1,18 +1,33 @@
 -- `stored_check::check_rest` meets its contract. Assumes nothing.
-use native.Mathlib.Omega.{arith}
+use Rattle.std.proofs.Common.{refl, arith}
+use Rattle.stored_view.specs.Found.{some_first, none_first}
 use Rattle.stored_check.specs.Answer.{answer_of}
 use Rattle.stored_check.specs.Stages.{left_wrong, left_right, count_wrong, count_right}
 use Rattle.stored_check.proofs.check_rest.Goals as goal
 
-pub returns-then-n-net : goal.returns-then-n-net
-unfolding answer_of
-returns-then-n-net c =
-    left_wrong c.args.net.now c.first_left-n.ensures c.if-n-net.true
+pub overflow_mul-result : goal.overflow_mul-result
+overflow_mul-result c = omega (arith, (some_first _ c.in-Some.ensures).0, c.requires.0.few_nets)
 
-pub returns-then-t-lt5 : goal.returns-then-t-lt5
+pub overflow_add-result : goal.overflow_add-result
+overflow_add-result c = omega (arith, (some_first _ c.in-Some.ensures).0, c.requires.0.few_nets)
+
+pub overflow_add-result-in-Some-first_count : goal.overflow_add-result-in-Some-first_count
+overflow_add-result-in-Some-first_count c = omega (arith, (some_first _ c.in-Some-first_count.ensures).0)
+
+pub overflow_cast-result : goal.overflow_cast-result
+overflow_cast-result c = omega (arith, (some_first _ c.in-Some-first_count.ensures).0)
+
+pub returns-in-Some : goal.returns-in-Some
 unfolding answer_of
-returns-then-t-lt5 c = left_right c.args.net.now c.first_left-n.ensures (omega arith) (count_wrong c.args.net.now c.first_count-t.ensures c.if-t-lt5.true)
+returns-in-Some c = let s = some_first _ c.in-Some.ensures in left_wrong c.args.net.now s.1 s.0
+
+pub returns-in-Some-first_count : goal.returns-in-Some-first_count
+unfolding answer_of
+returns-in-Some-first_count c =
+    let s = some_first _ c.in-Some-first_count.ensures in
+    left_right c.args.net.now refl (none_first _ c.in_default.ensures) (count_wrong c.args.net.now s.1 s.0)
 
 pub returns : goal.returns
 unfolding answer_of
-returns c = left_right c.args.net.now c.first_left-n.ensures (omega arith) (count_right c.args.net.now c.first_count-t.ensures (omega arith))
+returns c =
+    left_right c.args.net.now refl (none_first _ c.in_default.ensures) (count_right c.args.net.now refl (none_first _ c.in_default-first_count.ensures))

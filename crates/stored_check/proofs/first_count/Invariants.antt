@@ -1,5 +1,4 @@
 -- `stored_check::first_count` meets its contract. Assumes nothing.
-use Prim.Native.Nat.{◌≤◌, ◌-◌}
 use mathlib.Core.Path.{◌≡◌}
 use Rattle.spec_tests.specs.Rules.{first}
 use Rattle.spec_tests.specs.Laws.{from}
@@ -7,4 +6,4 @@ use Rattle.spec_netlist.specs.Accept.{wrong_count}
 use Rattle.stored_check.proofs.first_count.Given as goal
 
 abbrev pub invariant-loop-t : goal.invariant-loop-t
-invariant-loop-t l = (l.t ≤ 5) × (first (wrong_count l.net) 5 ≡ from (wrong_count l.net) 5 l.t)
+invariant-loop-t l = first (wrong_count l.net) 5 ≡ from (wrong_count l.net) 5 l.t

@@ -3,10 +3,10 @@ use Rattle.spec_call.specs.Call.{numbers_of}
 use Rattle.stored_check.specs.Answer.{answer_of}
 use Rattle.stored_check.proofs.numbers.Goals as goal
 
-pub returns-in-Right : goal.returns-in-Right
+pub returns-in-Ok : goal.returns-in-Ok
 unfolding answer_of numbers_of
-returns-in-Right c = rw c.in-Right.is
+returns-in-Ok c = rw c.in-Ok.is
 
-pub returns-in-Wrong : goal.returns-in-Wrong
+pub returns-in-Err : goal.returns-in-Err
 unfolding answer_of numbers_of
-returns-in-Wrong c = rw c.in-Wrong.is
+returns-in-Err c = rw c.in-Err.is

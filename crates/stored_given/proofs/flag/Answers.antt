@@ -1,10 +1,8 @@
 -- `stored_given::flag` meets its contract. Assumes nothing.
-use mathlib.Core.Path.{refl}
-use Rattle.spec_tests.specs.Laws.{pick_hit, pick_skip}
+use Rattle.std.proofs.Common.{◌∙◌, refl, Bool, true, false, ◌≡◌}
+use Rattle.spec_tests.specs.Rules.{pick}
 use Rattle.stored_given.proofs.flag.Goals as goal
 
-pub returns-then-given : goal.returns-then-given
-returns-then-given c = pick_hit _ c.if-given.true refl
-
 pub returns : goal.returns
-returns c = pick_skip _ c.if-given.false refl
+unfolding pick
+returns c = c.from.ensures ∙ elim c.args.given as (λ (b : Bool). mir.Val.bool_byte b ≡ pick b 1 0) [ true ↦ refl | false ↦ refl ]

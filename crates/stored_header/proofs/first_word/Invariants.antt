@@ -1,5 +1,4 @@
 -- `stored_header::first_word` meets its contract. The loop's invariant: no header word below i is wrong. Assumes nothing.
-use Prim.Native.Nat.{◌≤◌, ◌-◌}
 use mathlib.Core.Path.{◌≡◌}
 use Rattle.spec_tests.specs.Rules.{first}
 use Rattle.spec_tests.specs.Laws.{from}
@@ -7,4 +6,4 @@ use Rattle.spec_netlist.specs.Accept.{wrong_header}
 use Rattle.stored_header.proofs.first_word.Given as goal
 
 abbrev pub invariant-loop-i : goal.invariant-loop-i
-invariant-loop-i l = (l.i ≤ l.n) × (first (wrong_header l.net) l.n ≡ from (wrong_header l.net) l.n l.i)
+invariant-loop-i l = first (wrong_header l.net) l.n ≡ from (wrong_header l.net) l.n l.i

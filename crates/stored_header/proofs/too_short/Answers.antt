@@ -9,15 +9,6 @@ pub returns-then-net-lt-HEADER_LENGTH : goal.returns-then-net-lt-HEADER_LENGTH
 unfolding too_short
 returns-then-net-lt-HEADER_LENGTH c = or_hit _ (lt_yes _ _ (omega arith))
 
-pub overflow_cast-result : goal.overflow_cast-result
-overflow_cast-result c = omega (arith, c.shared_slice_known-1.given 4)
-
-pub overflow_cast-result-2 : goal.overflow_cast-result-2
-overflow_cast-result-2 c = omega (arith, c.shared_slice_known-2-1.given 3)
-
-pub overflow_add-result : goal.overflow_add-result
-overflow_add-result c = omega (arith, c.shared_slice_known-2-1.given 3, c.shared_slice_known-2-1.given 4)
-
 pub returns : goal.returns
 unfolding too_short
 returns c = or_skip (lt_no _ _ (omega arith)) (lt_same refl refl)

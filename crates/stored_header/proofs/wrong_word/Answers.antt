@@ -6,33 +6,33 @@ use Rattle.spec_netlist.specs.Accept.{wrong_header}
 use Rattle.stored_header.specs.Header.{word_4_read}
 use Rattle.stored_header.proofs.wrong_word.Goals as goal
 
-pub returns-then-i-eq0 : goal.returns-then-i-eq0
+pub returns-in-0 : goal.returns-in-0
 unfolding wrong_header
-returns-then-i-eq0 c = pick_hit _ (eq_yes _ _ (omega arith)) (ne_same c.word_at-w.ensures refl)
+returns-in-0 c = pick_hit _ (eq_yes _ _ (omega arith)) (ne_same c.word_at-w.ensures refl)
 
-pub returns-then-i-eq1 : goal.returns-then-i-eq1
+pub returns-in-1 : goal.returns-in-1
 unfolding wrong_header
-returns-then-i-eq1 c = pick_skip _ (eq_no _ _ (omega arith)) (pick_hit _ (eq_yes _ _ (omega arith)) (lt_same refl c.word_at-w.ensures))
+returns-in-1 c = pick_skip _ (eq_no _ _ (omega arith)) (pick_hit _ (eq_yes _ _ (omega arith)) (lt_same refl c.word_at-w.ensures))
 
-pub returns-then-i-eq2 : goal.returns-then-i-eq2
+pub returns-in-2 : goal.returns-in-2
 unfolding wrong_header
-returns-then-i-eq2 c = pick_skip _ (eq_no _ _ (omega arith)) (pick_skip _ (eq_no _ _ (omega arith)) (pick_hit _ (eq_yes _ _ (omega arith)) (ne_same c.word_at-w.ensures refl)))
+returns-in-2 c = pick_skip _ (eq_no _ _ (omega arith)) (pick_skip _ (eq_no _ _ (omega arith)) (pick_hit _ (eq_yes _ _ (omega arith)) (ne_same c.word_at-w.ensures refl)))
 
-pub returns-then-i-eq3 : goal.returns-then-i-eq3
+pub returns-in-3 : goal.returns-in-3
 unfolding wrong_header
-returns-then-i-eq3 c = pick_skip _ (eq_no _ _ (omega arith)) (pick_skip _ (eq_no _ _ (omega arith)) (pick_skip _ (eq_no _ _ (omega arith)) (pick_hit _ (eq_yes _ _ (omega arith)) (lt_same refl c.word_at-w.ensures))))
+returns-in-3 c = pick_skip _ (eq_no _ _ (omega arith)) (pick_skip _ (eq_no _ _ (omega arith)) (pick_skip _ (eq_no _ _ (omega arith)) (pick_hit _ (eq_yes _ _ (omega arith)) (lt_same refl c.word_at-w.ensures))))
 
-pub returns-then-i-eq4 : goal.returns-then-i-eq4
-returns-then-i-eq4 c = word_4_read _ _ (omega arith) c.word_at.ensures c.word_at-w.ensures c.wrong_offset.ensures
+pub returns-in-4 : goal.returns-in-4
+returns-in-4 c = word_4_read _ _ (omega arith) c.word_at.ensures c.word_at-w.ensures c.wrong_offset.ensures
 
-pub returns-then-i-lt10 : goal.returns-then-i-lt10
+pub returns-in-5-to-9 : goal.returns-in-5-to-9
 unfolding wrong_header
-returns-then-i-lt10 c =
+returns-in-5-to-9 c =
     pick_skip _ (eq_no _ _ (omega arith)) (pick_skip _ (eq_no _ _ (omega arith)) (pick_skip _ (eq_no _ _ (omega arith)) (pick_skip _ (eq_no _ _ (omega arith))
     (pick_skip _ (eq_no _ _ (omega arith)) (pick_hit _ (lt_yes _ _ (omega arith)) refl)))))
 
-pub returns : goal.returns
+pub returns-in_default : goal.returns-in_default
 unfolding wrong_header
-returns c =
+returns-in_default c =
     pick_skip _ (eq_no _ _ (omega arith)) (pick_skip _ (eq_no _ _ (omega arith)) (pick_skip _ (eq_no _ _ (omega arith)) (pick_skip _ (eq_no _ _ (omega arith))
     (pick_skip _ (eq_no _ _ (omega arith)) (pick_skip _ (lt_no _ _ (omega arith)) (ne_same c.word_at-w.ensures refl))))))

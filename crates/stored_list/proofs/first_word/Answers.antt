@@ -1,53 +1,45 @@
 -- `stored_list::first_word` meets its contract. Assumes nothing.
-use Prim.Native.Nat.{◌-◌}
-use mathlib.Core.Path.{refl, sym, ◌∙◌}
-use native.Mathlib.Omega.{arith}
-use Rattle.stored_list.specs.Walking.{start, met_some, met_short, met_wrong, met_inside, met_fits, met_some_more, met_sort, met_next, last_answer, last_marked, last_counted, counts_room}
+use Rattle.std.proofs.Common.{refl, true≢false, arith}
+use Rattle.stored_view.specs.Clear.{cleared_word}
+use Rattle.stored_list.specs.Walking.{start, met_found, met_room, met_clean, met_fits, met_some_more, met_sort, met_next, last_told, last_marked, last_counted, counts_room}
 use Rattle.stored_list.proofs.first_word.Goals as goal
 
-pub clear-requires : goal.clear-requires
-clear-requires c = c.requires.2
-
 pub loop-p-init : goal.loop-p-init
-loop-p-init c =
-    (refl, refl, start c.args.net.now c.clear.new.table c.args.counts.now c.clear.ensures c.requires.3)
-
-pub first_in_record-i-requires : goal.first_in_record-i-requires
-first_in_record-i-requires c = (sym c.loop-p.invariant.1 ∙ c.requires.0, c.requires.1, omega (arith, c.loop-p.invariant.0, c.clear.auto.table), met_some c.loop-p.invariant.2 c.requires.1 (omega arith) c.stretch-l.ensures, met_short c.loop-p.invariant.2 c.requires.1 (omega arith) c.stretch-l.ensures)
+loop-p-init c = start c.args.net.now _ c.args.counts.now (λ x h. cleared_word c.args.marks.now _ _ x c.requires.1 (c.fill.ensures.after (λ y e. e)) h) c.requires.2
 
 pub overflow_add-result : goal.overflow_add-result
-overflow_add-result c = omega (arith, c.requires.1.few_words_of, met_inside c.loop-p.invariant.2 c.requires.1 (omega arith) c.stretch-l.ensures c.record_length-length.ensures (c.first_in_record-i.ensures c.loop-p.invariant.2.earlier c.loop-p.invariant.2.marked c.loop-p.invariant.2.counted) c.if-i-length.true)
+overflow_add-result c = let w = c.loop-p.invariant in omega (arith, c.requires.0.few_words_of, met_room w c.requires.0 (omega arith) c.stretch-l.ensures (c.in-Some.ensures w.earlier w.marked w.counted))
 
-pub shape_of-marks-then-i-length : goal.shape_of-marks-then-i-length
-shape_of-marks-then-i-length c =
-    sym c.loop-p.invariant.0 ∙ c.clear.auto.table
-
-pub shape_of-counts-then-i-length : goal.shape_of-counts-then-i-length
-shape_of-counts-then-i-length c =
-    sym c.loop-p.invariant.1
-
-pub returns-then-i-length : goal.returns-then-i-length
-returns-then-i-length c = (met_wrong c.loop-p.invariant.2 c.requires.1 (omega arith) c.stretch-l.ensures c.record_length-length.ensures (c.first_in_record-i.ensures c.loop-p.invariant.2.earlier c.loop-p.invariant.2.marked c.loop-p.invariant.2.counted) c.if-i-length.true, (λ b. absurd (omega (arith, met_inside c.loop-p.invariant.2 c.requires.1 (omega arith) c.stretch-l.ensures c.record_length-length.ensures (c.first_in_record-i.ensures c.loop-p.invariant.2.earlier c.loop-p.invariant.2.marked c.loop-p.invariant.2.counted) c.if-i-length.true))))
+pub returns-in-Some : goal.returns-in-Some
+returns-in-Some c =
+    let w = c.loop-p.invariant in
+    let wrong = c.in-Some.ensures w.earlier w.marked w.counted in
+    (met_found w c.requires.0 (omega arith) c.stretch-l.ensures wrong, (λ b. absurd (true≢false b)), met_room w c.requires.0 (omega arith) c.stretch-l.ensures wrong)
 
 pub keep-requires : goal.keep-requires
-keep-requires c = (met_sort c.loop-p.invariant.2 c.requires.1 (omega arith) c.stretch-l.ensures c.record_length-length.ensures (c.first_in_record-i.ensures c.loop-p.invariant.2.earlier c.loop-p.invariant.2.marked c.loop-p.invariant.2.counted) (omega arith) c.stretch.ensures, sym c.loop-p.invariant.1 ∙ c.requires.0, counts_room c.loop-p.invariant.2 c.requires.1)
+keep-requires c =
+    let w = c.loop-p.invariant in
+    let clean = met_clean w c.requires.0 (omega arith) c.stretch-l.ensures c.record_length-length.ensures (c.in_default.ensures w.earlier w.marked w.counted) in
+    (met_sort w c.requires.0 (omega arith) c.stretch-l.ensures c.record_length-length.ensures refl clean c.stretch.ensures, counts_room w c.requires.0)
 
 pub overflow_add-p : goal.overflow_add-p
-overflow_add-p c = omega (arith, c.requires.1.few_words_of, met_fits c.loop-p.invariant.2 c.requires.1 (omega arith) c.stretch-l.ensures c.record_length-length.ensures (c.first_in_record-i.ensures c.loop-p.invariant.2.earlier c.loop-p.invariant.2.marked c.loop-p.invariant.2.counted) (omega arith) c.stretch.ensures)
+overflow_add-p c =
+    let w = c.loop-p.invariant in
+    let clean = met_clean w c.requires.0 (omega arith) c.stretch-l.ensures c.record_length-length.ensures (c.in_default.ensures w.earlier w.marked w.counted) in
+    omega (arith, c.requires.0.few_words_of, met_fits w c.requires.0 (omega arith) c.stretch-l.ensures c.record_length-length.ensures refl clean c.stretch.ensures)
 
 pub loop-p-smaller : goal.loop-p-smaller
-loop-p-smaller c = omega (arith, met_fits c.loop-p.invariant.2 c.requires.1 (omega arith) c.stretch-l.ensures c.record_length-length.ensures (c.first_in_record-i.ensures c.loop-p.invariant.2.earlier c.loop-p.invariant.2.marked c.loop-p.invariant.2.counted) (omega arith) c.stretch.ensures, met_some_more c.loop-p.invariant.2 c.requires.1 (omega arith) c.stretch-l.ensures c.record_length-length.ensures (c.first_in_record-i.ensures c.loop-p.invariant.2.earlier c.loop-p.invariant.2.marked c.loop-p.invariant.2.counted) (omega arith) c.stretch.ensures)
+loop-p-smaller c =
+    let w = c.loop-p.invariant in
+    let clean = met_clean w c.requires.0 (omega arith) c.stretch-l.ensures c.record_length-length.ensures (c.in_default.ensures w.earlier w.marked w.counted) in
+    omega (arith, met_fits w c.requires.0 (omega arith) c.stretch-l.ensures c.record_length-length.ensures refl clean c.stretch.ensures, met_some_more w c.requires.0 (omega arith) c.stretch-l.ensures c.record_length-length.ensures refl clean c.stretch.ensures)
 
 pub loop-p-preserved : goal.loop-p-preserved
 loop-p-preserved c =
-    let kept = c.keep.ensures c.args.net.now c.loop-p.invariant.2.earlier (omega (arith, c.requires.2, c.loop-p.invariant.0, c.clear.auto.table)) c.loop-p.invariant.2.marked c.loop-p.invariant.2.counted in
-    (c.loop-p.invariant.0 ∙ sym c.keep.auto.marks, c.loop-p.invariant.1 ∙ sym c.keep.auto.counts, met_next c.loop-p.invariant.2 c.requires.1 (omega arith) c.stretch-l.ensures c.record_length-length.ensures (c.first_in_record-i.ensures c.loop-p.invariant.2.earlier c.loop-p.invariant.2.marked c.loop-p.invariant.2.counted) (omega arith) c.stretch.ensures kept.0 kept.1)
-
-pub shape_of-marks : goal.shape_of-marks
-shape_of-marks c = sym c.loop-p.invariant.0 ∙ c.clear.auto.table
-
-pub shape_of-counts : goal.shape_of-counts
-shape_of-counts c = sym c.loop-p.invariant.1
+    let w = c.loop-p.invariant in
+    let clean = met_clean w c.requires.0 (omega arith) c.stretch-l.ensures c.record_length-length.ensures (c.in_default.ensures w.earlier w.marked w.counted) in
+    let kept = c.keep.ensures c.args.net.now w.earlier (omega arith) w.marked w.counted in
+    met_next w c.requires.0 (omega arith) c.stretch-l.ensures c.record_length-length.ensures refl clean c.stretch.ensures kept.0 kept.1
 
 pub returns : goal.returns
-returns c = (last_answer c.loop-p.invariant.2 c.requires.1 (omega arith), (λ b. (last_marked c.loop-p.invariant.2 c.requires.1 (omega arith), last_counted c.loop-p.invariant.2 c.requires.1 (omega arith))))
+returns c = let w = c.loop-p.invariant in (last_told w c.requires.0 (omega arith), (λ b. (last_marked w c.requires.0 (omega arith), last_counted w c.requires.0 (omega arith))), tt)

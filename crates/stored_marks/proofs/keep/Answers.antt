@@ -10,9 +10,6 @@ use Rattle.stored_view.specs.Opened.{Counted}
 use Rattle.stored_marks.specs.Keep.{marked_more, counted_more}
 use Rattle.stored_marks.proofs.keep.Goals as goal
 
-pub overflow_add-counts : goal.overflow_add-counts
-overflow_add-counts c = omega (arith, c.requires.2 c.word_at-sort.result (omega (arith, c.word_at-sort.ensures)))
-
 pub returns : goal.returns
 returns c = λ ws earlier n m k.
     let r = c.args.r.now in

@@ -1,67 +1,52 @@
 -- `stored_memories::first_in_memory` meets its contract. Assumes nothing.
-use mathlib.Core.Path.{◌≡◌}
-use native.Mathlib.Omega.{arith}
-use lib.ListN.{get_or}
-use Rattle.stored_memories.specs.Ports.{port_long}
-use Rattle.stored_memories.specs.Memory.{fields_fit, width_fits, first_room, second_room, fields_wrong, fields_right, first_wrong_law, first_alone, second_answers}
+use Rattle.std.proofs.Common.{◌≡◌, ◌∙◌, refl, arith, get_or}
+use Rattle.stored_memories.specs.Memory.{fields_fit, width_fits, first_room, second_room, fields_found, fields_clean, first_found, alone_clean, second_found, second_clean}
 use Rattle.stored_memories.proofs.first_in_memory.Goals as goal
 
-pub first_field-i-requires : goal.first_field-i-requires
-first_field-i-requires c = fields_fit _ c.requires.2 c.requires.3
+pub first_field-requires : goal.first_field-requires
+first_field-requires c = fields_fit _ c.requires.2 c.requires.3
 
-pub returns-then-i-lt6 : goal.returns-then-i-lt6
-returns-then-i-lt6 c = λ earlier m. fields_wrong _ _ _ c.requires.2 (c.first_field-i.ensures.0 _ earlier) c.if-i-lt6.true
+pub returns-in-Some : goal.returns-in-Some
+returns-in-Some c = λ earlier m. fields_found _ _ _ c.requires.2 (c.in-Some.ensures.0 _ earlier)
 
 pub bounds-l-7 : goal.bounds-l-7
 bounds-l-7 c =
-    omega (arith, width_fits c.args.l.now c.requires.2 c.requires.3 (c.first_field-i.ensures.1 c.if-i-lt6.false))
+    omega (arith, width_fits c.args.l.now c.requires.2 c.requires.3 (c.in_default.ensures.1 refl))
 
-pub bounds-l-1 : goal.bounds-l-1
-bounds-l-1 c =
-    omega (arith, fields_fit c.args.l.now c.requires.2 c.requires.3)
-
-pub first_in_port-i-requires : goal.first_in_port-i-requires
-first_in_port-i-requires c =
-    let room = first_room c.args.l.now c.requires.2 c.requires.3 (c.first_field-i.ensures.1 c.if-i-lt6.false) c.part-one.ensures in
+pub first_in_port-requires : goal.first_in_port-requires
+first_in_port-requires c =
+    let room = first_room c.args.l.now c.requires.2 c.requires.3 (c.in_default.ensures.1 refl) c.part-one.ensures in
     (c.requires.0, c.requires.1, room.0, omega (arith, room.1, c.requires.4), omega arith)
 
-pub overflow_add-i : goal.overflow_add-i
-overflow_add-i c = omega (arith, c.first_in_port-i.ensures.2)
-
-pub returns-then-i-second : goal.returns-then-i-second
-returns-then-i-second c =
+pub returns-in-Some-first_in_port : goal.returns-in-Some-first_in_port
+returns-in-Some-first_in_port c =
     λ earlier m.
-    fields_right _ _ _ c.requires.2 (c.first_field-i.ensures.0 _ earlier) c.if-i-lt6.false
-    (first_wrong_law _ _ _ c.requires.2 c.part-one.ensures c.port_length-second.ensures.0 (c.first_in_port-i.ensures.0 earlier m) c.if-i-second.true)
-
-pub bounds-l-5 : goal.bounds-l-5
-bounds-l-5 c =
-    omega (arith, fields_fit c.args.l.now c.requires.2 c.requires.3)
+    fields_clean _ _ _ c.requires.2 (c.in_default.ensures.0 _ earlier)
+    (first_found _ _ _ c.requires.2 c.part-one.ensures (c.in-Some-first_in_port.ensures.0 earlier m))
 
 pub returns-then-l-eq1 : goal.returns-then-l-eq1
 returns-then-l-eq1 c =
     λ earlier m.
-    fields_right _ _ _ c.requires.2 (c.first_field-i.ensures.0 _ earlier) c.if-i-lt6.false
-    (first_alone _ _ _ c.requires.2 c.part-one.ensures c.port_length-second.ensures.0 (c.first_in_port-i.ensures.0 earlier m) c.if-i-second.false c.if-l-eq1.true)
+    fields_clean _ _ _ c.requires.2 (c.in_default.ensures.0 _ earlier)
+    (alone_clean _ _ _ c.requires.2 c.part-one.ensures (c.in_default-first_in_port.ensures.0 earlier m) c.if-l-eq1.true)
 
-pub bounds-l-1-2 : goal.bounds-l-1-2
-bounds-l-1-2 c =
-    omega (arith, fields_fit c.args.l.now c.requires.2 c.requires.3)
-
-pub first_in_port-requires : goal.first_in_port-requires
-first_in_port-requires c =
-    let two : get_or c.args.l.now 5 0 ≡ 2 = omega (arith, c.first_field-i.ensures.1 c.if-i-lt6.false, c.if-l-eq1.false) in
+pub first_in_port-requires-2 : goal.first_in_port-requires-2
+first_in_port-requires-2 c =
+    let two : get_or c.args.l.now 5 0 ≡ 2 = omega (arith, c.in_default.ensures.1 refl, c.if-l-eq1.false) in
     let room = second_room c.args.l.now c.requires.2 c.requires.3 two c.part-one.ensures c.port_length-second.ensures.0 c.part.ensures in
-    let low = c.first_in_port-i.ensures.1 (omega (arith, c.if-i-second.false, c.port_length-second.ensures.0, port_long c.part-one.result.now)) in
-    (c.requires.0, c.requires.1, room.0, omega (arith, room.1, c.requires.4), omega (arith, low))
+    (c.requires.0, c.requires.1, room.0, omega (arith, room.1, c.requires.4), omega (arith, c.in_default-first_in_port.ensures.1 refl))
 
-pub overflow_add-result : goal.overflow_add-result
-overflow_add-result c =
-    omega (arith, c.port_length-second.ensures.1, c.first_in_port.ensures.2)
+pub returns-in_err-i : goal.returns-in_err-i
+returns-in_err-i c =
+    let two : get_or c.args.l.now 5 0 ≡ 2 = omega (arith, c.in_default.ensures.1 refl, c.if-l-eq1.false) in
+    λ earlier m.
+    c.from_residual.ensures
+    ∙ fields_clean _ _ _ c.requires.2 (c.in_default.ensures.0 _ earlier)
+    (second_clean _ _ _ c.requires.2 c.part-one.ensures (c.in_default-first_in_port.ensures.0 earlier m) c.port_length-second.ensures.0 c.part.ensures two (c.in_err-i.ensures.0 earlier m))
 
 pub returns : goal.returns
 returns c =
-    let two : get_or c.args.l.now 5 0 ≡ 2 = omega (arith, c.first_field-i.ensures.1 c.if-i-lt6.false, c.if-l-eq1.false) in
+    let two : get_or c.args.l.now 5 0 ≡ 2 = omega (arith, c.in_default.ensures.1 refl, c.if-l-eq1.false) in
     λ earlier m.
-    fields_right _ _ _ c.requires.2 (c.first_field-i.ensures.0 _ earlier) c.if-i-lt6.false
-    (second_answers _ _ _ c.requires.2 c.part-one.ensures c.port_length-second.ensures.0 (c.first_in_port-i.ensures.0 earlier m) c.part.ensures c.if-i-second.false two (c.first_in_port.ensures.0 earlier m))
+    fields_clean _ _ _ c.requires.2 (c.in_default.ensures.0 _ earlier)
+    (second_found _ _ _ c.requires.2 c.part-one.ensures (c.in_default-first_in_port.ensures.0 earlier m) c.port_length-second.ensures.0 c.part.ensures two (c.in_ok-i.ensures.0 earlier m))

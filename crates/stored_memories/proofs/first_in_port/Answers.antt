@@ -1,49 +1,53 @@
 -- `stored_memories::first_in_port` meets its contract. Assumes nothing.
-use native.Mathlib.Omega.{arith}
-use Rattle.stored_memories.specs.Ports.{widths_wrong, widths_right, address_wrong, address_right, read_wrong, read_right, write_wrong, write_right, controls_answer}
+use Rattle.std.proofs.Common.{refl, true≢false, arith, []}
+use Rattle.stored_view.specs.Found.{some_below}
+use Rattle.stored_memories.specs.Ports.{within, stretch_within, widths_found, widths_clean, address_found, address_clean, read_found, read_clean, write_found, write_clean}
 use Rattle.stored_memories.proofs.first_in_port.Goals as goal
 
-pub returns-then-i-lt4 : goal.returns-then-i-lt4
-returns-then-i-lt4 c = (λ earlier m. widths_wrong _ _ _ _ _ _ (c.first_width-i.ensures.0 _ earlier _ _) c.if-i-lt4.true, λ h. absurd (omega arith), omega arith)
-
-pub returns-then-i-data : goal.returns-then-i-data
-returns-then-i-data c = (
-  λ earlier m.
-      widths_right _ _ _ _ _ _ (c.first_width-i.ensures.0 _ earlier _ _) c.if-i-lt4.false
-      (address_wrong _ _ _ _ _ _ c.first_no_net-i.ensures c.if-i-data.true),
-  λ h. c.first_width-i.ensures.1 c.if-i-lt4.false,
-  omega arith,
+pub returns-in-Some : goal.returns-in-Some
+returns-in-Some c = (
+  λ earlier m. widths_found _ _ _ _ _ _ (c.in-Some.ensures.0 _ earlier _ _),
+  λ h. absurd (true≢false h),
+  omega (arith, (some_below (c.in-Some.ensures.0 [] [] 0 0)).0),
 )
 
-pub returns-then-i-write : goal.returns-then-i-write
-returns-then-i-write c = (
+pub returns-in-Some-first_no_net : goal.returns-in-Some-first_no_net
+returns-in-Some-first_no_net c = (
   λ earlier m.
-      widths_right _ _ _ _ _ _ (c.first_width-i.ensures.0 _ earlier _ _) c.if-i-lt4.false
-      (address_right _ _ _ _ _ _ c.first_no_net-i.ensures c.if-i-data.false
-      (read_wrong _ _ _ _ _ _ (c.first_not_own-i.ensures earlier m) c.if-i-write.true)),
-  λ h. c.first_width-i.ensures.1 c.if-i-lt4.false,
-  omega arith,
+      widths_clean _ _ _ _ _ _ (c.in_default.ensures.0 _ earlier _ _)
+      (address_found _ _ _ _ _ _ c.requires.2 c.in-Some-first_no_net.ensures),
+  λ h. absurd (true≢false h),
+  omega (arith, stretch_within _ c.args.p.now _ _ (omega arith) (omega arith) c.in-Some-first_no_net.ensures),
 )
 
-pub returns-then-i-end : goal.returns-then-i-end
-returns-then-i-end c = (
+pub returns-in-Some-first_not_own : goal.returns-in-Some-first_not_own
+returns-in-Some-first_not_own c = (
   λ earlier m.
-      widths_right _ _ _ _ _ _ (c.first_width-i.ensures.0 _ earlier _ _) c.if-i-lt4.false
-      (address_right _ _ _ _ _ _ c.first_no_net-i.ensures c.if-i-data.false
-      (read_right _ _ _ _ _ _ (c.first_not_own-i.ensures earlier m) c.if-i-write.false
-      (write_wrong _ _ _ _ _ _ c.first_no_net-i-2.ensures c.if-i-end.true))),
-  λ h. c.first_width-i.ensures.1 c.if-i-lt4.false,
-  omega arith,
+      widths_clean _ _ _ _ _ _ (c.in_default.ensures.0 _ earlier _ _)
+      (address_clean _ _ _ _ _ _ c.requires.2 c.in_default-first_no_net.ensures
+      (read_found _ _ _ _ _ _ c.requires.2 (c.in-Some-first_not_own.ensures.0 earlier m))),
+  λ h. absurd (true≢false h),
+  omega (arith, c.in-Some-first_not_own.ensures.1),
+)
+
+pub returns-in-Some-first_no_net-2 : goal.returns-in-Some-first_no_net-2
+returns-in-Some-first_no_net-2 c = (
+  λ earlier m.
+      widths_clean _ _ _ _ _ _ (c.in_default.ensures.0 _ earlier _ _)
+      (address_clean _ _ _ _ _ _ c.requires.2 c.in_default-first_no_net.ensures
+      (read_clean _ _ _ _ _ _ c.requires.2 (c.in_default-first_not_own.ensures.0 earlier m)
+      (write_found _ _ _ _ _ _ c.requires.2 c.in-Some-first_no_net-2.ensures))),
+  λ h. absurd (true≢false h),
+  omega (arith, stretch_within _ c.args.p.now _ _ (omega arith) (omega arith) c.in-Some-first_no_net-2.ensures),
 )
 
 pub returns : goal.returns
 returns c = (
   λ earlier m.
-      widths_right _ _ _ _ _ _ (c.first_width-i.ensures.0 _ earlier _ _) c.if-i-lt4.false
-      (address_right _ _ _ _ _ _ c.first_no_net-i.ensures c.if-i-data.false
-      (read_right _ _ _ _ _ _ (c.first_not_own-i.ensures earlier m) c.if-i-write.false
-      (write_right _ _ _ _ _ _ c.first_no_net-i-2.ensures c.if-i-end.false
-      (controls_answer _ _ _ _ _ _ (c.first_control.ensures.0 earlier _ _ _))))),
-  λ h. c.first_width-i.ensures.1 c.if-i-lt4.false,
-  omega arith,
+      widths_clean _ _ _ _ _ _ (c.in_default.ensures.0 _ earlier _ _)
+      (address_clean _ _ _ _ _ _ c.requires.2 c.in_default-first_no_net.ensures
+      (read_clean _ _ _ _ _ _ c.requires.2 (c.in_default-first_not_own.ensures.0 earlier m)
+      (write_clean _ _ _ _ _ _ c.requires.2 c.in_default-first_no_net-2.ensures (c.first_control.ensures earlier _ _ _)))),
+  λ h. c.in_default.ensures.1 refl,
+  within _ _ (c.first_control.ensures [] 0 0 0) (omega arith),
 )

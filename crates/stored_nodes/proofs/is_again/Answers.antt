@@ -4,12 +4,6 @@ use native.Mathlib.Omega.{arith}
 use Rattle.stored_nodes.specs.Lookup.{again_yes, again_no, again_placed}
 use Rattle.stored_nodes.proofs.is_again.Goals as goal
 
-pub find-at-requires : goal.find-at-requires
-find-at-requires c = c.requires
-
-pub bounds-table-at : goal.bounds-table-at
-bounds-table-at c = omega (arith, c.find-at.ensures.1)
-
 pub returns-then-table-at-ne0 : goal.returns-then-table-at-ne0
 returns-then-table-at-ne0 c =
     (again_yes _ _ c.requires.4 c.find-at.ensures.0 (omega arith), λ e. absurd (true≢false e))

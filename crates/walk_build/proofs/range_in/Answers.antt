@@ -1,5 +1,6 @@
 -- `walk_build::range_in` meets its contract. Assumes nothing.
 use native.Mathlib.Omega.{arith}
+use lib.Seq.{length-take-le}
 use Rattle.walk_build.proofs.Ways.{plain_nots, asked_range, fits_at, room, job_model, small, built_range}
 use Rattle.walk_invariant.specs.Makes.{range_makes}
 use Rattle.walk_build.proofs.range_in.Goals as goal
@@ -22,7 +23,7 @@ keep_range-requires c =
     let p = job_model _ _ _ _ _ _ _ _ _ _ _ _ _ rd c.make-made.ensures in
     let m = range_makes a.image.now a.net.now a.scr.now c.requires.0.accepted c.requires.1 a.e c.requires.2 a.lsb a.w c.requires.4 c.requires.5 in
     let fit = room _ _ c.make-made.new.xs c.read_range-job.new.xs rd.fits.most c.make-made.auto.xs c.read_range-job.auto.xs in
-    (p.ready.laid, c.requires.2, c.requires.4, fit, small _ _ _ _ _ _ _ _ _ fit m p)
+    (p.ready.laid, c.requires.2, omega (arith, c.requires.4, length-take-le c.args.w c.make-made.new.xs fit), small _ _ _ _ _ _ _ _ _ fit m p)
 
 pub returns : goal.returns
 returns c =

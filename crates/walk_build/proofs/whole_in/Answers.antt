@@ -1,5 +1,7 @@
 -- `walk_build::whole_in` meets its contract. Assumes nothing.
 use native.Mathlib.Omega.{arith}
+use mathlib.Core.Path.{◌∙◌}
+use lib.Seq.{length-take-le}
 use Rattle.walk_build.proofs.Ways.{plain_nots, asked, read_at, fits_at, room, job_model, small, built_whole}
 use Rattle.walk_invariant.specs.Makes.{whole_makes}
 use Rattle.walk_build.proofs.whole_in.Goals as goal
@@ -22,7 +24,7 @@ keep_whole-requires c =
     let p = job_model _ _ _ _ _ _ _ _ _ _ _ _ _ rd c.make-made.ensures in
     let m = whole_makes a.image.now a.net.now a.scr.now c.requires.0.accepted c.requires.1 a.e c.requires.2 c.requires.3 in
     let fit = room _ _ c.make-made.new.xs c.read_whole-job.new.xs rd.fits.most c.make-made.auto.xs c.read_whole-job.auto.xs in
-    (p.ready.laid, c.requires.2, c.expr_width-w.ensures, fit, small _ _ _ _ _ _ _ _ _ fit m p)
+    (p.ready.laid, c.requires.2, length-take-le c.expr_width-w.result c.make-made.new.xs fit ∙ c.expr_width-w.ensures, small _ _ _ _ _ _ _ _ _ fit m p)
 
 pub returns : goal.returns
 returns c =

@@ -1,5 +1,4 @@
 -- `walk_job_parts::put_bits` meets its contract. Assumes nothing.
-use Prim.Native.Nat.{◌-◌}
 use native.Mathlib.Omega.{arith}
 use Rattle.walk_job_parts.proofs.Bits.{put_start, put_more, put_all}
 use Rattle.walk_job_parts.proofs.put_bits.Goals as goal

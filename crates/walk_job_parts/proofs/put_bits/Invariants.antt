@@ -1,6 +1,4 @@
 -- `walk_job_parts::put_bits` meets its contract. Assumes nothing.
-use Prim.Native.Nat.{◌-◌}
-use lib.ListN.{length}
 use Rattle.walk_job_parts.proofs.Bits.{Put}
 use Rattle.walk_job_parts.proofs.put_bits.Given as goal
 

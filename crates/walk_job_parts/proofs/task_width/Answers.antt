@@ -6,4 +6,4 @@ pub overflow_sub-k : goal.overflow_sub-k
 overflow_sub-k c = let f = rw c.in-Constant.is at c.requires in omega (arith, f.0)
 
 pub returns-in-Constant : goal.returns-in-Constant
-returns-in-Constant c = rw c.in-Constant.is c.smaller.ensures
+returns-in-Constant c = rw c.in-Constant.is c.min.ensures

@@ -1,5 +1,6 @@
 -- `walk_left::next_bit` meets its contract. Assumes nothing.
-use Prim.Native.Nat.{◌-◌}
+use mathlib.Core.Path.{ap, ◌∙◌}
+use mathlib.Core.Bool.{not}
 use native.Mathlib.Omega.{arith}
 use Rattle.walk_left.proofs.Lefts.{bits_begin, bits_on, bits_found, bits_over, bit_met}
 use Rattle.walk_left.proofs.next_bit.Goals as goal
@@ -20,11 +21,11 @@ signal_net-requires c =
 pub overflow_add-result : goal.overflow_add-result
 overflow_add-result c = let pre = c.requires in omega (arith, pre.1.most, c.loop-k-test.true)
 
-pub overflow_add-result-in_default : goal.overflow_add-result-in_default
-overflow_add-result-in_default c = let pre = c.requires in omega (arith, pre.1.most, c.loop-k-test.true)
+pub overflow_add-result-then-is_none : goal.overflow_add-result-then-is_none
+overflow_add-result-then-is_none c = let pre = c.requires in omega (arith, pre.1.most, c.loop-k-test.true)
 
-pub returns-in_default : goal.returns-in_default
-returns-in_default c =
+pub returns-then-is_none : goal.returns-then-is_none
+returns-then-is_none c =
     let a = c.args in
     let q = c.loop-k in
     bits_found a.image.now a.scr.now a.p a.first a.n a.from q.k q.invariant.0 q.invariant.1 c.loop-k-test.true (omega (arith, c.requires.1.most))
@@ -35,7 +36,7 @@ loop-k-preserved c =
     let q = c.loop-k in
     let net = c.signal_net in (
       bits_on a.image.now a.scr.now a.p a.first a.n a.from q.k q.invariant.0 c.loop-k-test.true
-          (bit_met a.image.now a.scr.now a.p _ net.result _ net.ensures c.in-Net.is),
+          (bit_met a.image.now a.scr.now a.p _ net.result net.ensures (c.is_none.ensures ∙ ap not c.if-is_none.false)),
       omega (arith, q.invariant.1),
     )
 

@@ -1,5 +1,5 @@
 -- `walk_left::next_bit` meets its contract. Assumes nothing.
-use Prim.Native.Nat.{◌-◌, ◌≤◌}
+use Prim.Native.Nat.{◌≤◌}
 use lib.ListN.{drop}
 use Rattle.walk_plan.specs.Plan.{bits_needs}
 use Rattle.walk_left.specs.Left.{Skips}

@@ -4,6 +4,3 @@ use Rattle.walk_operands.proofs.copy_parts.Given as goal
 
 abbrev pub invariant-loop-i : goal.invariant-loop-i
 invariant-loop-i l = PartsAt l.image l.scr l.start l.count l.initial.out l.out l.at l.i
-
-abbrev pub decreases-loop-i : goal.decreases-loop-i
-decreases-loop-i l = l.i

@@ -4,6 +4,3 @@ use Rattle.walk_operands.proofs.copy_pieces.Given as goal
 
 abbrev pub invariant-loop-i : goal.invariant-loop-i
 invariant-loop-i l = PiecesAt l.image l.scr l.start l.count l.lsb l.n l.initial.out l.out l.at l.to l.i
-
-abbrev pub decreases-loop-i : goal.decreases-loop-i
-decreases-loop-i l = l.i

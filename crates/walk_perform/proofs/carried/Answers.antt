@@ -1,7 +1,6 @@
 -- `walk_perform::carried` meets its contract. Assumes nothing.
 use mathlib.Core.Path.{refl, sym, ◌∙◌}
 use lib.Seq.{length-take-le}
-use Rattle.walk_perform.proofs.Carry.{carry_net}
 use Rattle.walk_job_parts.proofs.Lent.{back_whole}
 use Rattle.walk_perform.proofs.carried.Goals as goal
 
@@ -19,4 +18,4 @@ arithmetic-requires c =
 
 pub returns : goal.returns
 returns c =
-    back_whole _ _ _ _ _ _ _ c.args.k (c.arithmetic.auto.xs ∙ length-take-le c.args.k c.args.xs.now c.requires.3) (rw (carry_net c.args.c c.requires.5) at c.arithmetic.ensures)
+    back_whole _ _ _ _ _ _ _ c.args.k (c.arithmetic.auto.xs ∙ length-take-le c.args.k c.args.xs.now c.requires.3) c.arithmetic.ensures

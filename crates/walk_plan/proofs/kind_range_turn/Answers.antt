@@ -1,5 +1,6 @@
 -- `walk_plan::kind_range_turn` meets its contract. Assumes nothing.
 use native.Mathlib.Omega.{arith}
+use Rattle.std.specs.Prelude.{Some}
 use Rattle.walk_plan.specs.Kinds.{turn_list, turn_as, rest_signal, rest_constant, rest_unary, rest_binary, rest_mux, rest_concat, rest_slice}
 use Rattle.walk_plan.proofs.kind_range_turn.Goals as goal
 
@@ -35,7 +36,7 @@ returns-in-Constant c =
 pub returns-in-Unary : goal.returns-in-Unary
 returns-in-Unary c =
     let a = c.args in
-    turn_list a.image.now _ _ a.k a.at c.one.result (rest_unary a.image.now a.e a.lsb a.w a.kind _ _ c.unary_range_need.result c.in-Unary.is c.unary_range_need.ensures) (c.one.ensures a.image.now)
+    turn_list a.image.now _ _ a.k a.at c.one.result (rest_unary a.image.now a.e a.lsb a.w a.kind _ _ (Some c.unary_range_need.result) c.in-Unary.is c.unary_range_need.ensures) (c.one.ensures a.image.now)
 
 pub returns-in-Binary : goal.returns-in-Binary
 returns-in-Binary c =

@@ -6,7 +6,7 @@ use Rattle.walk_plan.proofs.part.Goals as goal
 pub returns-then-k-count : goal.returns-then-k-count
 returns-then-k-count c = λ s.
     let a = c.args in
-    (part_next a.image.now a.start a.count a.k _ c.if-k-count.true c.list_word.ensures, omega arith)
+    (part_next a.image.now a.start a.count a.k _ c.if-k-count.true c.list_word-part.ensures, omega arith)
 
 pub returns : goal.returns
 returns c = λ s.

@@ -8,10 +8,10 @@ pub kind_need-requires : goal.kind_need-requires
 kind_need-requires c =
     let a = c.args in
     let pre = c.requires in
-    rw c.expression_at-x.ensures.fields (asked a.image.now pre.0 a.e pre.1)
+    rw c.expression_at-width.ensures.fields (asked a.image.now pre.0 a.e pre.1)
 
 pub returns : goal.returns
 returns c =
     let a = c.args in
     let pre = c.requires in
-    rw (whole_read a.image.now (readable a.image.now pre.0) a.e pre.1 _ c.expression_at-x.ensures) at c.kind_need.ensures
+    rw (whole_read a.image.now (readable a.image.now pre.0) a.e pre.1 _ c.expression_at-width.ensures) at c.kind_need.ensures

@@ -24,14 +24,14 @@ decreases-lower_whole l = 3 * cost_of l.image.now l.scr.now (M.Whole l.e) + 1
 abbrev pub decreases-resolve_signal_bit : goal.decreases-resolve_signal_bit
 decreases-resolve_signal_bit l = 3 * cost_of l.image.now l.scr.now (M.Bit l.p l.b)
 
-abbrev pub invariant-lower_expression-loop-x : goal.invariant-lower_expression-loop-x
-invariant-lower_expression-loop-x l = At l.image l.initial.net l.initial.scr (P.Whole l.e) l.k 0 l.net l.scr
+abbrev pub invariant-lower_expression-loop-left : goal.invariant-lower_expression-loop-left
+invariant-lower_expression-loop-left l = At l.image l.initial.net l.initial.scr (P.Whole l.e) l.k 0 l.net l.scr
 
-abbrev pub decreases-lower_expression-loop-x : goal.decreases-lower_expression-loop-x
-decreases-lower_expression-loop-x l = 4294967295 - l.k
+abbrev pub decreases-lower_expression-loop-left : goal.decreases-lower_expression-loop-left
+decreases-lower_expression-loop-left l = 4294967295 - l.k
 
-abbrev pub invariant-lower_expression_range-loop-x : goal.invariant-lower_expression_range-loop-x
-invariant-lower_expression_range-loop-x l = At l.image l.initial.net l.initial.scr (P.Range l.e l.lsb l.w) l.k l.at l.net l.scr
+abbrev pub invariant-lower_expression_range-loop-left : goal.invariant-lower_expression_range-loop-left
+invariant-lower_expression_range-loop-left l = At l.image l.initial.net l.initial.scr (P.Range l.e l.lsb l.w) l.k l.at l.net l.scr
 
-abbrev pub decreases-lower_expression_range-loop-x : goal.decreases-lower_expression_range-loop-x
-decreases-lower_expression_range-loop-x l = 4294967295 - l.k
+abbrev pub decreases-lower_expression_range-loop-left : goal.decreases-lower_expression_range-loop-left
+decreases-lower_expression_range-loop-left l = 4294967295 - l.k

@@ -1,0 +1,2 @@
+-- Chains of iterators that search.
+pub mod Chains
