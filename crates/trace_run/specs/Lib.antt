@@ -2,3 +2,4 @@
 pub mod Ran
 pub mod Held
 pub mod Calls
+pub mod Bundles

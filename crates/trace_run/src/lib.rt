@@ -3,20 +3,33 @@
 
 ghost use Rattle.std.specs.Prelude.{◌≡◌, not, ◌+◌, ◌≤◌, length, take, drop};
 ghost use Rattle.spec_tests.specs.Rules.{◌<?◌};
-ghost use Rattle.trace_answer.specs.Lines.{Underway};
 ghost use Rattle.listing_text.specs.Text.{Wrote};
-ghost use Rattle.trace_run.specs.Ran.{roomy, Ran, Stopped};
+ghost use Rattle.trace_line.specs.Bundles.{SameTables};
+ghost use Rattle.trace_keep.specs.Bundles.{SameKept};
+ghost use Rattle.trace_answer.specs.Bundles.{Runs};
+ghost use Rattle.trace_run.specs.Ran.{roomy, Stopped};
 ghost use Rattle.trace_run.specs.Held.{end_text};
+ghost use Rattle.trace_run.specs.Bundles.{RanBy, wait_of, stop_of};
 
-// How many bytes are used up, where the text ends, the next line's number; whether the next line must still come, and whether the text is
-// the last.
+use trace_keep::Moments;
+use trace_line::{State, Tables};
+use trace_lines::Progress;
+
+// Why no more lines were taken: there may be no room for the next one's text; it must still come; or the text is the last.
+#[derive(Clone, Copy)]
+pub enum End {
+    Full,
+    Wait,
+    Last,
+}
+
+// How many bytes are used up, where the text ends, the next line's number, and why no more were taken.
 #[derive(Clone, Copy)]
 pub struct Run {
     pub used: usize,
     pub at: usize,
     pub line: u32,
-    pub wait: bool,
-    pub stop: bool,
+    pub end: End,
 }
 
 // A line of n characters and its end fit in from a place on, and so does a refusal.
@@ -35,79 +48,51 @@ fn has_room(out: &[u8], at: usize, n: usize) -> bool
 
 // Lines from line k on.
 pub fn take_lines(
-    net: &[u32],
-    steps: &[u32],
-    count: usize,
-    inputs: &[u32],
-    outputs: &[u32],
-    registers: &[u32],
-    nr: usize,
-    memories: &[u32],
-    nm: usize,
+    tables: &Tables,
+    state: &mut State,
+    kept: &mut Moments,
     k: u32,
     bytes: &[u8],
-    values: &mut [u32],
-    old: &mut [u32],
-    memory: &mut [u32],
-    names: &mut [u64],
-    kept: &mut [u32],
     out: &mut [u8],
 ) -> Run
-    requires { (Underway net.now steps.now count inputs.now outputs.now registers.now nr memories.now nm k values.old memory.old names.old kept.old) × (length old.old ≡ length values.old) }
-    ensures { Ran net.now steps.now count inputs.now outputs.now registers.now nr memories.now nm k bytes.now values.old memory.old names.old kept.old result.used result.at result.line result.wait result.stop out.new values.new memory.new names.new kept.new × Stopped out.new result.at (length outputs.now) result.wait result.stop }
+    requires { Runs tables.now k state.old kept.old }
+    ensures same { SameTables state.old state.new × SameKept kept.old kept.new }
+    ensures ran { RanBy tables.now k bytes.now state.old kept.old result.used result.at result.line (wait_of result.end) (stop_of result.end) out.new state.new kept.new }
+    ensures stopped { Stopped out.new result.at (length tables.now.outputs.now) (wait_of result.end) (stop_of result.end) }
 {
     let mut used: usize = 0;
     let mut at: usize = 0;
     let mut line = k;
-    while has_room(out, at, outputs.len()) {
-        let p = trace_lines::next_line(
-            net,
-            steps,
-            count,
-            inputs,
-            outputs,
-            registers,
-            nr,
-            memories,
-            nm,
-            line,
-            &bytes[used..],
-            values,
-            old,
-            memory,
-            names,
-            kept,
-            out,
-            at,
-        );
-        at = p.at;
-        if p.stop {
-            return Run {
-                used: used,
-                at: at,
-                line: line,
-                wait: false,
-                stop: true,
-            };
+    'lines: while has_room(out, at, tables.outputs.len()) {
+        match trace_lines::next_line(tables, state, kept, line, &bytes[used..], out, at) {
+            Err(last) => {
+                return Run {
+                    used,
+                    at: last.at,
+                    line,
+                    end: End::Last,
+                };
+            }
+            Ok(Progress::Wait) => {
+                return Run {
+                    used,
+                    at,
+                    line,
+                    end: End::Wait,
+                };
+            }
+            Ok(Progress::Line { used: n, at: to }) => {
+                used += n;
+                at = to;
+                line += 1;
+            }
         }
-        if p.used == 0 {
-            return Run {
-                used: used,
-                at: at,
-                line: line,
-                wait: true,
-                stop: false,
-            };
-        }
-        used += p.used;
-        line += 1;
     }
     Run {
-        used: used,
-        at: at,
-        line: line,
-        wait: false,
-        stop: false,
+        used,
+        at,
+        line,
+        end: End::Full,
     }
 }
 
@@ -116,9 +101,7 @@ pub fn move_down(bytes: &mut [u8], from: usize, n: usize)
     requires { from + n ≤ length bytes.old }
     ensures { (take n bytes.new ≡ take n (drop from bytes.old)) × (length bytes.new ≡ length bytes.old) }
 {
-    for i in 0..n {
-        bytes[i] = bytes[from + i];
-    }
+    bytes.copy_within(from..from + n, 0);
 }
 
 // At the input's end: where bytes are left, refuses the line that they are. The next place.
