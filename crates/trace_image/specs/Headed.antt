@@ -1,11 +1,11 @@
 -- What is judged by the first sixteen words: refusal 11 of a word, 12 of N and of the list words, 11 where they are not all there. Where
 -- they pass, the rest is judged as any netlist image is. Assumes nothing.
-use Rattle.std.specs.Prelude.{ℕ, ◌+◌, ◌*◌, ◌-◌, ◌≤◌, ◌<◌, min, ◌≡◌, Bool, List, length}
+use Rattle.std.specs.Prelude.{ℕ, ◌+◌, ◌*◌, ◌≤◌, ◌<◌, min, ◌≡◌, Bool, List, length}
 use native.Mathlib.Omega.{arith}
 use Rattle.std.proofs.Math.Path.{refl, sym, ap}
 use Rattle.std.proofs.Common.{◌∙◌}
 use Rattle.std.proofs.Math.Bool.{true, false, not}
-use Rattle.spec_tests.specs.Rules.{◌<?◌, ◌or◌, ◌and◌, pick, first, Answer, Fine, Refused, and_then}
+use Rattle.spec_tests.specs.Rules.{◌<?◌, pick, first, Answer, Fine, Refused, and_then}
 use Rattle.spec_tests.specs.Laws.{pick_hit, pick_skip, or_hit, or_skip, or_no, and_miss, and_skip, lt_yes, lt_no, yes_lt, no_lt, ne_yes, ne_no, no_ne, first_most}
 use Rattle.spec_rules.specs.Checks.{refuse}
 use Rattle.spec_netlist.specs.Accept.{nets, used, list_at_of, limit, wrong_header, first_wrong, header_answer, length_answer, body_answer, accepts}

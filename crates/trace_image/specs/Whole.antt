@@ -1,12 +1,12 @@
 -- The image ends where its first sixteen words say: what stands behind does not matter. Assumes nothing.
-use Prim.Native.Nat.{ℕ, ◌+◌, ◌*◌, ◌-◌, ◌≤◌, ◌<◌, min}
+use Prim.Native.Nat.{ℕ, ◌+◌, ◌*◌, ◌≤◌, ◌<◌, min}
 use Rattle.std.proofs.Common.{arith, ◌∙◌, take-append-drop, take_all}
 use Rattle.std.proofs.Math.Decide.{dec_lt}
 use Rattle.std.specs.Prelude.{◌≡◌, List, length, take, drop, get_or}
 use Rattle.std.proofs.Math.Path.{refl, sym, ap, ap₂}
 use Rattle.std.proofs.Math.ListN.{length-take}
 use Rattle.std.proofs.Math.Seq.{get_or-take}
-use Rattle.spec_tests.specs.Rules.{◌<?◌, ◌or◌, ◌and◌, pick, Answer, Fine, Refused, and_then}
+use Rattle.spec_tests.specs.Rules.{◌<?◌, pick, Answer, Fine, Refused, and_then}
 use Rattle.spec_tests.specs.Laws.{lt_no}
 use Rattle.spec_netlist.specs.Accept.{used, list_at_of, wrong_header, first_wrong, header_answer, accepts}
 use Rattle.spec_trace.specs.Opened.{word_count, other_limits, opened}

@@ -2,34 +2,40 @@
 #![tactic(auto)]
 
 ghost use Rattle.std.specs.Prelude.{◌≡◌, ◌-◌, ◌/◌, ◌≤◌, ◌<◌, length};
-ghost use Rattle.spec_trace.specs.Opened.{other_limits, opened};
-ghost use Rattle.stored_check.specs.Answer as stored;
-ghost use Rattle.trace_image.specs.Words.{ReadWords};
+ghost use Rattle.spec_trace.specs.Opened.{words_of, other_limits, opened};
+ghost use Rattle.trace_image.specs.declared.Refusal.TheVariants.{Wrong};
 ghost use Rattle.trace_image.specs.Answer.{answer_of};
 ghost use Rattle.trace_image.specs.Headed.{headed};
 ghost use Rattle.trace_image.specs.Whole.{image_words};
 
 use image_numbers::*;
-use stored_check::Stored;
+use stored_check::WrongWord;
 
-// Nothing is wrong; a word is, by refusal 11; or the image is none for the trace program, refusal 12.
+// A word is wrong, refusal 11; or the image is none for the trace program, refusal 12.
 #[derive(Clone, Copy)]
-pub enum Judged {
-    Right,
+pub enum Refusal {
     Wrong(u32),
     Unfit,
 }
 
-// Bytes as words, four a word, low first; how many. A cut word counts as none.
-pub fn read_words(bytes: &[u8], net: &mut [u32]) -> usize
+impl From<WrongWord> for Refusal {
+    ghost from_gives = { λ w r. r ≡ Wrong w.0 };
+
+    fn from(word: WrongWord) -> Refusal {
+        Refusal::Wrong(word.0)
+    }
+}
+
+// Bytes as words, four a word, low first, at the front of a lent table. A cut word counts as none.
+pub fn read_words<'a>(bytes: &[u8], net: &'a mut [u32]) -> &'a [u32]
     requires { (length bytes.now / 4 ≤ length net.old) × (length bytes.now < 18446744073709551612) }
-    ensures { ReadWords bytes.now net.new result }
+    ensures { result.now ≡ words_of bytes.now }
 {
     let n = bytes.len() / 4;
     for i in 0..n {
         net[i] = image_fields::word(bytes, 4 * i);
     }
-    n
+    &net[..n]
 }
 
 // N of a list offset.
@@ -56,20 +62,19 @@ fn is_other(net: &[u32]) -> bool
 }
 
 // What the first sixteen words say.
-fn judge_header(net: &[u32]) -> Judged
+fn judge_header(net: &[u32]) -> Result<(), Refusal>
     ensures { answer_of result ≡ headed 1024 2048 net.now }
 {
-    let i = stored_header::first_word(net);
-    if i < stored_header::header_words(net) {
-        return Judged::Wrong(i as u32);
+    if let Some(i) = stored_header::first_word(net) {
+        return Err(Refusal::Wrong(i as u32));
     }
     if is_other(net) {
-        return Judged::Unfit;
+        return Err(Refusal::Unfit);
     }
     if net.len() < HEADER_LENGTH {
-        return Judged::Wrong(net.len() as u32);
+        return Err(Refusal::Wrong(net.len() as u32));
     }
-    Judged::Right
+    Ok(())
 }
 
 // How many words the image has by its first sixteen; as many as are given where these are refused.
@@ -77,30 +82,19 @@ pub fn image_words(net: &[u32]) -> usize
     ensures { result ≡ image_words 1024 2048 net.now }
 {
     match judge_header(net) {
-        Judged::Right => {
+        Ok(()) => {
             net_words::word_at(net, LIST_AT) as usize + net_words::word_at(net, LIST_USED) as usize
         }
-        Judged::Wrong(_) => net.len(),
-        Judged::Unfit => net.len(),
-    }
-}
-
-fn of_stored(s: Stored) -> Judged
-    ensures { answer_of result ≡ stored.answer_of s }
-{
-    match s {
-        Stored::Right => Judged::Right,
-        Stored::Wrong(p) => Judged::Wrong(p),
+        Err(_) => net.len(),
     }
 }
 
 // The judgement: refusal 11, and 12 of N and of list words.
-pub fn judge(net: &[u32]) -> Judged
+pub fn judge(net: &[u32]) -> Result<(), Refusal>
     ensures { answer_of result ≡ opened 1024 2048 net.now }
 {
-    match judge_header(net) {
-        Judged::Right => of_stored(stored_check::check_small(net)),
-        Judged::Wrong(p) => Judged::Wrong(p),
-        Judged::Unfit => Judged::Unfit,
-    }
+    judge_header(net)?;
+    // Three words for each of 1,024 nets.
+    stored_check::check::<3072>(net)?;
+    Ok(())
 }

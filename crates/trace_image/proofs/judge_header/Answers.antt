@@ -1,25 +1,31 @@
 -- `trace_image::judge_header` meets its contract. Assumes nothing.
-use mathlib.Core.Path.{sym, ◌∙◌}
+use mathlib.Core.Path.{refl, sym, ◌∙◌}
 use native.Mathlib.Omega.{arith}
-use Rattle.trace_image.specs.Answer.{answer_of}
+use Rattle.std.proofs.Common.{length, min}
+use Rattle.spec_netlist.specs.Accept.{wrong_header}
+use Rattle.spec_chains.specs.Search.{some_tells, none_tells}
 use Rattle.trace_image.specs.Headed.{head_wrong, head_other, head_short, head_right}
 use Rattle.trace_image.proofs.judge_header.Goals as goal
 
 pub overflow_cast-result : goal.overflow_cast-result
-overflow_cast-result c = omega (arith, c.if-i-header_words.true, c.header_words.ensures)
+overflow_cast-result c = omega (arith, (some_tells (wrong_header c.args.net.now) (min 16 (length c.args.net.now)) _ (sym c.in-Some.ensures)).0)
 
-pub returns-then-i-header_words : goal.returns-then-i-header_words
-unfolding answer_of
-returns-then-i-header_words c = head_wrong 1024 2048 _ c.first_word-i.ensures (omega (arith, c.if-i-header_words.true, c.header_words.ensures))
+pub returns-in-Some : goal.returns-in-Some
+returns-in-Some c =
+    let t = some_tells (wrong_header c.args.net.now) (min 16 (length c.args.net.now)) _ (sym c.in-Some.ensures) in
+    head_wrong 1024 2048 _ (sym t.1) t.0
 
 pub returns-then-is_other : goal.returns-then-is_other
-unfolding answer_of
-returns-then-is_other c = head_other 1024 2048 _ c.first_word-i.ensures (omega (arith, c.if-i-header_words.false, c.header_words.ensures)) (sym c.is_other.ensures ∙ c.if-is_other.true)
+returns-then-is_other c =
+    let t = none_tells (wrong_header c.args.net.now) (min 16 (length c.args.net.now)) (sym c.in_default.ensures) in
+    head_other 1024 2048 _ refl (omega (arith, t)) (sym c.is_other.ensures ∙ c.if-is_other.true)
 
 pub returns-then-net-lt-HEADER_LENGTH : goal.returns-then-net-lt-HEADER_LENGTH
-unfolding answer_of
-returns-then-net-lt-HEADER_LENGTH c = head_short 1024 2048 _ c.first_word-i.ensures (omega (arith, c.if-i-header_words.false, c.header_words.ensures)) (sym c.is_other.ensures ∙ c.if-is_other.false) (omega (arith, c.if-net-lt-HEADER_LENGTH.true))
+returns-then-net-lt-HEADER_LENGTH c =
+    let t = none_tells (wrong_header c.args.net.now) (min 16 (length c.args.net.now)) (sym c.in_default.ensures) in
+    head_short 1024 2048 _ refl (omega (arith, t)) (sym c.is_other.ensures ∙ c.if-is_other.false) (omega (arith, c.if-net-lt-HEADER_LENGTH.true))
 
 pub returns : goal.returns
-unfolding answer_of
-returns c = head_right 1024 2048 _ c.first_word-i.ensures (omega (arith, c.if-i-header_words.false, c.header_words.ensures)) (sym c.is_other.ensures ∙ c.if-is_other.false) (omega (arith, c.if-net-lt-HEADER_LENGTH.false))
+returns c =
+    let t = none_tells (wrong_header c.args.net.now) (min 16 (length c.args.net.now)) (sym c.in_default.ensures) in
+    head_right 1024 2048 _ refl (omega (arith, t)) (sym c.is_other.ensures ∙ c.if-is_other.false) (omega (arith, c.if-net-lt-HEADER_LENGTH.false))
