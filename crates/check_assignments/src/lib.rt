@@ -12,6 +12,7 @@ ghost use Rattle.check_assignments.specs.Assign.{bad_assign_of};
 use check_drivers::Signals;
 
 // An assignment of w bits of signal p from at on by expression e breaks a rule; the bits that the assignments before it drive are marked.
+#[tactic(auto, using(spec_chains::proofs::Tests::chained), unfolding(crate::specs::Assign::bad_assign_of))]
 fn bad_assign_of(signals: Signals, taken: &[u8], p: u32, at: u32, w: u32, e: u32) -> bool
     requires { signal_bits signals.image.now ≤ length taken.now }
     ensures { let s = signals.entry.image.now in (r : ℕ) → Marks s r 0 0 taken.now → result ≡ bad_assign_of s r p at w e }
@@ -26,16 +27,10 @@ fn bad_assign_of(signals: Signals, taken: &[u8], p: u32, at: u32, w: u32, e: u32
     if check_references::below_sum(image_fields::signal_width(image, p), at, w) {
         return true;
     }
-    if check_references::no_expr(image, e) {
-        return true;
-    }
-    if image_fields::expr_width(image, e) != w {
-        return true;
-    }
-    if check_drivers::is_input(image, p) {
-        return true;
-    }
-    signals.is_assigned(taken, p, at, w)
+    check_references::no_expr(image, e)
+        || image_fields::expr_width(image, e) != w
+        || check_drivers::is_input(image, p)
+        || signals.is_assigned(taken, p, at, w)
 }
 
 // Assignment record r breaks a rule; the bits of one that breaks none are marked.

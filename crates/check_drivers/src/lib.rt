@@ -47,6 +47,7 @@ fn mark(taken: &mut [u8], at: usize, n: u32)
 }
 
 // Signal p is an input.
+#[tactic(auto, using(spec_chains::proofs::Tests::chained), unfolding(spec_rules::specs::Checks::is_input))]
 pub fn is_input(image: &[u8], p: u32) -> bool
     ensures { result ≡ is_input image.now p }
 {
@@ -79,14 +80,13 @@ impl<'a> Signals<'a> {
     }
 
     // Signal p has a driver, where all assignments have been marked.
+    #[tactic(auto, using(spec_chains::proofs::Tests::chained), unfolding(spec_rules::specs::Checks::driven))]
     pub fn is_driven(self, taken: &[u8], p: u32) -> bool
         requires { (signal_bits self.image.now ≤ length taken.now) × (p < count_at_of self.image.now 0) }
         ensures { (i j : ℕ) → Marks self.entry.image.now (count_at_of self.entry.image.now 3) i j taken.now → result ≡ driven self.entry.image.now i j p }
     {
-        if is_input(self.image, p) {
-            return true;
-        }
-        self.is_marked(taken, p, 0, image_fields::signal_width(self.image, p))
+        is_input(self.image, p)
+            || self.is_marked(taken, p, 0, image_fields::signal_width(self.image, p))
     }
 
     // Marks w bits of signal p from at on.

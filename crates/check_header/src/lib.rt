@@ -29,6 +29,7 @@ pub fn start(image: &[u8], k: u32) -> u64
     at
 }
 
+#[tactic(auto, using(spec_chains::proofs::Tests::chained), unfolding(spec_rules::specs::Checks::wrong_count))]
 fn wrong_count(image: &[u8], k: u32) -> bool
     requires { k < 7 }
     ensures { result ≡ wrong_count image.now k }
@@ -43,6 +44,7 @@ fn wrong_count(image: &[u8], k: u32) -> bool
 }
 
 // Header field i is wrong.
+#[tactic(auto, using(spec_chains::proofs::Tests::chained), unfolding(spec_rules::specs::Checks::wrong_field))]
 fn wrong_field(image: &[u8], i: u32) -> bool
     requires { i < 16 }
     ensures { result ≡ wrong_field image.now i }
@@ -70,6 +72,7 @@ pub fn first_field(image: &[u8]) -> Option<u32>
 }
 
 // The caller's limits are outside what is allowed.
+#[tactic(auto, using(spec_chains::proofs::Tests::chained))]
 pub fn bad_limits(n: u32, p: u32) -> bool
     ensures { result ≡ (outside n 1 65535 or outside p 0 65535) }
 {
@@ -77,6 +80,7 @@ pub fn bad_limits(n: u32, p: u32) -> bool
 }
 
 // The netlist buffer of this many words is too small for limits n and p.
+#[tactic(auto, using(spec_chains::proofs::Tests::chained), unfolding(spec_rules::specs::Checks::netlist_need))]
 pub fn netlist_short(n: u32, p: u32, words: usize) -> bool
     ensures { result ≡ (words <? netlist_need n p) }
 {
@@ -110,6 +114,7 @@ pub fn expr_bits(image: &[u8]) -> u64
 }
 
 // The scratch of this many words is too small for the image and limit n.
+#[tactic(auto, using(spec_chains::proofs::Tests::chained), unfolding(spec_rules::specs::Checks::scratch_need))]
 pub fn scratch_short(image: &[u8], n: u32, words: usize) -> bool
     requires { (signal_bits image.now ≤ 4096) × (expr_bits image.now ≤ 32768) }
     ensures { result ≡ (words <? scratch_need image.now n) }

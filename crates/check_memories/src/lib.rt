@@ -12,63 +12,47 @@ ghost use Rattle.check_memories.specs.Memory.{bad_read, bad_write, bad_shape, ba
 use check_drivers::Signals;
 
 // Expression e is not there or no address.
+#[tactic(auto, using(spec_chains::proofs::Tests::chained), unfolding(spec_rules::specs::Checks::bad_address))]
 fn bad_address(image: &[u8], e: u32) -> bool
     ensures { result ≡ bad_address image.now e }
 {
-    if check_references::no_expr(image, e) {
-        return true;
-    }
-    image_fields::is_outside(image_fields::expr_width(image, e), 1, 32)
+    check_references::no_expr(image, e)
+        || image_fields::is_outside(image_fields::expr_width(image, e), 1, 32)
 }
 
 // What the port of memory r whose fields begin at f reads, into signal p of width w.
+#[tactic(auto, using(spec_chains::proofs::Tests::chained), unfolding(crate::specs::Memory::bad_read))]
 fn bad_read(image: &[u8], r: u32, f: u32, w: u32, p: u32) -> bool
     requires { f ≤ 17 }
     ensures { result ≡ bad_read image.now r f w p }
 {
-    if bad_address(
+    bad_address(
         image,
         image_fields::record_field(image, image_fields::MEMORIES, r, f),
-    ) {
-        return true;
-    }
-    if check_references::no_signal(image, p) {
-        return true;
-    }
-    if image_fields::signal_width(image, p) != w {
-        return true;
-    }
-    check_references::bad_optional(image, image_fields::MEMORIES, r, f + 2)
+    ) || check_references::no_signal(image, p)
+        || image_fields::signal_width(image, p) != w
+        || check_references::bad_optional(image, image_fields::MEMORIES, r, f + 2)
 }
 
 // What that port writes, and its clock.
+#[tactic(auto, using(spec_chains::proofs::Tests::chained), unfolding(crate::specs::Memory::bad_write))]
 fn bad_write(image: &[u8], r: u32, f: u32, w: u32) -> bool
     requires { f ≤ 17 }
     ensures { result ≡ bad_write image.now r f w }
 {
-    if bad_address(
+    bad_address(
         image,
         image_fields::record_field(image, image_fields::MEMORIES, r, f + 4),
-    ) {
-        return true;
-    }
-    if check_references::bad_value(
+    ) || check_references::bad_value(
         image,
         image_fields::record_field(image, image_fields::MEMORIES, r, f + 5),
         w,
-    ) {
-        return true;
-    }
-    if check_references::bad_control(image, image_fields::MEMORIES, r, f + 6) {
-        return true;
-    }
-    if check_references::bad_bit(
-        image,
-        image_fields::record_field(image, image_fields::MEMORIES, r, f + 8),
-    ) {
-        return true;
-    }
-    1 < image_fields::record_field(image, image_fields::MEMORIES, r, f + 9)
+    ) || check_references::bad_control(image, image_fields::MEMORIES, r, f + 6)
+        || check_references::bad_bit(
+            image,
+            image_fields::record_field(image, image_fields::MEMORIES, r, f + 8),
+        )
+        || 1 < image_fields::record_field(image, image_fields::MEMORIES, r, f + 9)
 }
 
 // The port of memory r whose fields begin at f; the bits that the assignments, the registers and the memories before it drive are marked.
@@ -88,6 +72,7 @@ fn bad_port(signals: Signals, taken: &[u8], r: u32, f: u32, w: u32) -> bool
 }
 
 // The second port of memory r, where k says whether it is there.
+#[tactic(auto, using(spec_chains::proofs::Tests::chained), unfolding(spec_rules::specs::Checks::bad_second))]
 fn bad_second(signals: Signals, taken: &[u8], r: u32, k: u32, w: u32) -> bool
     requires { let s = signals.image.now in Marks s (count_at_of s 3) (count_at_of s 4) r taken.now }
     ensures { result ≡ bad_second signals.entry.image.now r k w }
@@ -102,37 +87,27 @@ fn bad_second(signals: Signals, taken: &[u8], r: u32, k: u32, w: u32) -> bool
             10,
         );
     }
-    if k != 1 {
-        return true;
-    }
-    if bad_port(signals, taken, r, image_fields::SECOND_PORT, w) {
-        return true;
-    }
-    image_fields::record_field(image, image_fields::MEMORIES, r, image_fields::SECOND_DATA)
-        == image_fields::record_field(image, image_fields::MEMORIES, r, image_fields::FIRST_DATA)
+    let a = image_fields::record_field(image, image_fields::MEMORIES, r, image_fields::FIRST_DATA);
+    let b = image_fields::record_field(image, image_fields::MEMORIES, r, image_fields::SECOND_DATA);
+    k != 1 || bad_port(signals, taken, r, image_fields::SECOND_PORT, w) || a == b
 }
 
 // The depth, word width, style and latency of memory r, whose read data have w bits.
+#[tactic(auto, using(spec_chains::proofs::Tests::chained), unfolding(crate::specs::Memory::bad_shape))]
 fn bad_shape(image: &[u8], r: u32, w: u32) -> bool
     ensures { result ≡ bad_shape image.now r w }
 {
-    if image_fields::is_outside(
+    image_fields::is_outside(
         image_fields::record_field(image, image_fields::MEMORIES, r, 2),
         1,
         65536,
-    ) {
-        return true;
-    }
-    if image_fields::record_field(image, image_fields::MEMORIES, r, image_fields::WORD_WIDTH) != w {
-        return true;
-    }
-    if 2 < image_fields::record_field(image, image_fields::MEMORIES, r, image_fields::STYLE) {
-        return true;
-    }
-    image_fields::record_field(image, image_fields::MEMORIES, r, image_fields::LATENCY) != 1
+    ) || image_fields::record_field(image, image_fields::MEMORIES, r, image_fields::WORD_WIDTH) != w
+        || 2 < image_fields::record_field(image, image_fields::MEMORIES, r, image_fields::STYLE)
+        || image_fields::record_field(image, image_fields::MEMORIES, r, image_fields::LATENCY) != 1
 }
 
 // Memory r but for its name.
+#[tactic(auto, using(spec_chains::proofs::Tests::chained), unfolding(crate::specs::Memory::bad_rest))]
 fn bad_rest(signals: Signals, taken: &[u8], r: u32) -> bool
     requires { let s = signals.image.now in Marks s (count_at_of s 3) (count_at_of s 4) r taken.now }
     ensures { result ≡ bad_rest signals.entry.image.now r }
@@ -142,14 +117,10 @@ fn bad_rest(signals: Signals, taken: &[u8], r: u32) -> bool
         image,
         image_fields::record_field(image, image_fields::MEMORIES, r, image_fields::FIRST_DATA),
     );
-    if bad_shape(image, r, w) {
-        return true;
-    }
-    if bad_port(signals, taken, r, image_fields::FIRST_PORT, w) {
-        return true;
-    }
     let k = image_fields::record_field(image, image_fields::MEMORIES, r, image_fields::HAS_SECOND);
-    bad_second(signals, taken, r, k, w)
+    bad_shape(image, r, w)
+        || bad_port(signals, taken, r, image_fields::FIRST_PORT, w)
+        || bad_second(signals, taken, r, k, w)
 }
 
 // Marks the read data of memory r, which breaks no rule.

@@ -18,18 +18,15 @@ fn bad_bytes(t: &[u8], n: u32) -> bool
 }
 
 // The name of record r of section k breaks a rule of its own.
+#[tactic(auto, using(spec_chains::proofs::Tests::chained), unfolding(spec_rules::specs::Checks::bad_name, crate::specs::Names::bad_byte))]
 pub fn bad_name(image: &[u8], k: u32, r: u32) -> bool
     ensures { result ≡ bad_name image.now k r }
 {
     let at = image_fields::record_field(image, k, r, 0);
     let len = image_fields::record_field(image, k, r, 1);
-    if image_fields::is_outside(len, 1, 64) {
-        return true;
-    }
-    if (image_fields::count(image, image_fields::NAMES) as u64) < (at as u64) + (len as u64) {
-        return true;
-    }
-    bad_bytes(image_fields::name(image, k, r), len)
+    image_fields::is_outside(len, 1, 64)
+        || (image_fields::count(image, image_fields::NAMES) as u64) < (at as u64) + (len as u64)
+        || bad_bytes(image_fields::name(image, k, r), len)
 }
 
 // Two texts are equal.

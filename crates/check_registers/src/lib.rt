@@ -12,26 +12,24 @@ ghost use Rattle.check_registers.specs.Register.{bad_rest, bad_rest_of};
 use check_drivers::Signals;
 
 // The reset of register r, whose target is w wide.
+#[tactic(auto, using(spec_chains::proofs::Tests::chained), unfolding(spec_rules::specs::Checks::bad_reset))]
 fn bad_reset(image: &[u8], r: u32, w: u32) -> bool
     ensures { result ≡ bad_reset image.now r w }
 {
     if image_fields::record_field(image, image_fields::REGISTERS, r, 8) == image_numbers::ABSENT {
         return check_references::not_zero(image, image_fields::REGISTERS, r, 9, 3);
     }
-    if check_references::bad_control(image, image_fields::REGISTERS, r, 8) {
-        return true;
-    }
-    if 1 < image_fields::record_field(image, image_fields::REGISTERS, r, 10) {
-        return true;
-    }
-    check_references::bad_value(
-        image,
-        image_fields::record_field(image, image_fields::REGISTERS, r, 11),
-        w,
-    )
+    check_references::bad_control(image, image_fields::REGISTERS, r, 8)
+        || 1 < image_fields::record_field(image, image_fields::REGISTERS, r, 10)
+        || check_references::bad_value(
+            image,
+            image_fields::record_field(image, image_fields::REGISTERS, r, 11),
+            w,
+        )
 }
 
 // Register r, whose target is signal p, but for its name; the bits that the assignments and the registers before it drive are marked.
+#[tactic(auto, using(spec_chains::proofs::Tests::chained), unfolding(crate::specs::Register::bad_rest_of))]
 fn bad_rest_of(signals: Signals, taken: &[u8], r: u32, p: u32) -> bool
     requires { let s = signals.image.now in Marks s (count_at_of s 3) r 0 taken.now }
     ensures { result ≡ bad_rest_of signals.entry.image.now r p }
@@ -41,29 +39,17 @@ fn bad_rest_of(signals: Signals, taken: &[u8], r: u32, p: u32) -> bool
         return true;
     }
     let w = image_fields::signal_width(image, p);
-    if check_references::bad_value(
+    check_references::bad_value(
         image,
         image_fields::record_field(image, image_fields::REGISTERS, r, 3),
         w,
-    ) {
-        return true;
-    }
-    if check_references::bad_bit(
+    ) || check_references::bad_bit(
         image,
         image_fields::record_field(image, image_fields::REGISTERS, r, 4),
-    ) {
-        return true;
-    }
-    if 1 < image_fields::record_field(image, image_fields::REGISTERS, r, 5) {
-        return true;
-    }
-    if check_references::bad_optional(image, image_fields::REGISTERS, r, 6) {
-        return true;
-    }
-    if bad_reset(image, r, w) {
-        return true;
-    }
-    signals.is_driven(taken, p)
+    ) || 1 < image_fields::record_field(image, image_fields::REGISTERS, r, 5)
+        || check_references::bad_optional(image, image_fields::REGISTERS, r, 6)
+        || bad_reset(image, r, w)
+        || signals.is_driven(taken, p)
 }
 
 // Register r breaks another rule than that of names; the bits of the target of one that breaks none are marked.

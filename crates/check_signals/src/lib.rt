@@ -9,6 +9,7 @@ ghost use Rattle.spec_rules.specs.Checks.{bad_signal};
 ghost use Rattle.check_signals.specs.Signals.{wrong_signal};
 
 // Record r breaks a rule other than those of its name; sum is what the widths before it come to.
+#[tactic(auto, using(spec_chains::proofs::Tests::chained), unfolding(crate::specs::Signals::wrong_signal))]
 fn wrong_signal(image: &[u8], r: u32, sum: u32) -> bool
     requires { (sum ≡ sum_to (signal_width image.now) r) × (sum ≤ 4096) }
     ensures { result ≡ wrong_signal image.now r }
@@ -17,10 +18,7 @@ fn wrong_signal(image: &[u8], r: u32, sum: u32) -> bool
     if image_fields::is_outside(width, 1, 1024) {
         return true;
     }
-    if 2 < image_fields::record_field(image, image_fields::SIGNALS, r, 3) {
-        return true;
-    }
-    4096 < sum + width
+    2 < image_fields::record_field(image, image_fields::SIGNALS, r, 3) || 4096 < sum + width
 }
 
 // The first record that breaks a rule other than those of names.
