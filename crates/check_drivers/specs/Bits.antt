@@ -1,7 +1,7 @@
 -- Driven bits as a table with a byte for each bit of a signal, 1 where the bit has a driver: what the table holds (`MarksSay`, `Marks`), that its
 -- answers are those of the image (`answers`), and what it holds once more bits are marked (`holds_more`).
 use Rattle.std.specs.Prelude.{ℕ, zero, suc, ◌+◌, ◌-◌, ◌≤◌, ◌<◌, Bool, true, false, List, ◌⊎◌, ◌≡◌, refl, length, get_or, set, replicate}
-use Rattle.std.proofs.Common.{inl, inr, ⊎_elim, sym, ap, ap₂, ◌∙◌, arith, eq-or-lt_of_le, get_or-set_same, get_or-set_other}
+use Rattle.std.proofs.Common.{true≢false, inl, inr, ⊎_elim, sym, ap, ap₂, ◌∙◌, subst, arith, eq-or-lt_of_le, length-set, get_or-set_same, get_or-set_other}
 use Rattle.std.proofs.lemmas.List.{length-replicate}
 use Rattle.spec_tests.specs.Rules.{◌<?◌, ◌≡?◌, ◌or◌, ◌and◌, any, sum_to}
 use Rattle.spec_tests.specs.Any.{same_bool, any_empty, any_at, any_found, any_more}
@@ -264,6 +264,31 @@ marks_none s n h = record {
 }
 
 -- ---- the tables filled ----
+
+pub mark_none : (at : ℕ) (t : List ℕ) → Marked at 0 t t
+unfolding within
+mark_none at t = record { long = refl; bits = λ k. sym (ap (λ (x : Bool). marked t k or x) (apart k) ∙ or_false _) }
+  where
+    apart : (k : ℕ) → (at <? k + 1 and k <? at + 0) ≡ false
+    apart k = same_bool (λ e. let x = yes_lt _ _ (and_yes e).0 in let y = yes_lt _ _ (and_yes e).1 in absurd (omega arith)) (λ e. absurd (true≢false (sym e)))
+
+pub mark_more : (at i : ℕ) (t t' : List ℕ) → at + i < length t → Marked at i t t' → Marked at (i + 1) t (set t' (at + i) 1)
+unfolding within marked
+mark_more at i t t' h m = record { long = simp length-set m.long; bits = λ k. ⊎_elim (λ (e : k ≡ at + i). same k e) (λ o. other k (⊎_elim (λ (l : k < at + i). λ z. omega arith) (λ (l : at + i < k). λ z. omega arith) o)) (same_or k (at + i)) }
+  where
+    same : (k : ℕ) → k ≡ at + i → (get_or (set t' (at + i) 1) k 0 ≡? 1) ≡ ((get_or t k 0 ≡? 1) or (at <? k + 1 and k <? at + (i + 1)))
+    same k e = eq_yes _ _ (ap (λ (x : ℕ). get_or (set t' (at + i) 1) x 0) e ∙ get_or-set_same t' (at + i) 1 0 (omega (arith, m.long))) ∙ sym (or_right _ (both (lt_yes _ _ (omega arith)) (lt_yes _ _ (omega arith))))
+
+    other : (k : ℕ) → (k ≡ at + i → ⊥) → (get_or (set t' (at + i) 1) k 0 ≡? 1) ≡ ((get_or t k 0 ≡? 1) or (at <? k + 1 and k <? at + (i + 1)))
+    other k o =
+        ap (λ (x : ℕ). x ≡? 1) (get_or-set_other t' (at + i) k 1 0 o)
+        ∙ m.bits k
+        ∙ ap (λ (x : Bool). (get_or t k 0 ≡? 1) or x)
+        (same_bool (λ e. let x = yes_lt _ _ (and_yes e).0 in let y = yes_lt _ _ (and_yes e).1 in both (lt_yes _ _ (omega arith)) (lt_yes _ _ (omega arith)))
+        (λ e. let x = yes_lt _ _ (and_yes e).0 in let y = yes_lt _ _ (and_yes e).1 in let z : k < at + i = ⊎_elim (λ (q : k ≡ at + i). absurd (o q)) (λ (q : k < at + i). q) (eq-or-lt_of_le (omega arith)) in both (lt_yes _ _ (omega arith)) (lt_yes _ _ (omega arith))))
+
+pub mark_end : (at n i : ℕ) (t t' : List ℕ) → i ≤ n → n ≤ i → Marked at i t t' → Marked at n t t'
+mark_end at n i t t' h l m = let e : i ≡ n = omega arith in subst (λ (k : ℕ). Marked at k t t') e m
 
 -- the n bytes from at on are 1, the others are as before
 pub mark_where : (at n : ℕ) (t t' : List ℕ) → length t' ≡ length t → ((k : ℕ) → k < at → get_or t' k 0 ≡ get_or t k 0) → ((k : ℕ) → k < n → get_or t' (at + k) 0 ≡ 1) → ((k : ℕ) → at + n ≤ k → get_or t' k 0 ≡ get_or t k 0) → Marked at n t t'

@@ -1,8 +1,8 @@
 -- Names: the rule of their bytes, the hash that tells unequal names apart, and what the search for a bad or equal name answers.
-use Rattle.std.specs.Prelude.{ℕ, zero, suc, ◌+◌, ◌*◌, ◌%◌, ◌≤◌, ◌<◌, Bool, true, false, List, [], ◌∷◌, ◌≡◌, refl, fold, length, take, get_or, set}
-use Rattle.std.proofs.Common.{true≢false, sym, ap, ◌∙◌, arith, length-set, get_or-set_same, get_or-set_other, ⊎_elim, eq-or-lt_of_le}
+use Rattle.std.specs.Prelude.{ℕ, zero, suc, ◌+◌, ◌*◌, ◌%◌, ◌≤◌, ◌<◌, Bool, true, false, List, [], ◌∷◌, ◌≡◌, refl, fold, length, take, drop, get_or, set}
+use Rattle.std.proofs.Common.{true≢false, sym, ap, ◌∙◌, arith, add-one, drop_of_length-le, length-set, drop-cons, get_or-set_same, get_or-set_other, ⊎_elim, eq-or-lt_of_le}
 use Rattle.spec_tests.specs.Rules.{◌≡?◌, ◌or◌, outside, pick, up_to, first, any, same_text}
-use Rattle.spec_tests.specs.Laws.{and_yes, lt_no, yes_eq, no_eq}
+use Rattle.spec_tests.specs.Laws.{and_yes, and_miss, and_skip, lt_no, eq_yes, eq_no, yes_eq, no_eq}
 use Rattle.spec_rules.specs.Image.{name_of}
 use Rattle.spec_rules.specs.Checks.{bad_name, name_taken}
 
@@ -36,6 +36,14 @@ unfolding hash_from
 hash_fold h [] = refl
 hash_fold h (b ∷ bs) = hash_fold (mixed h b) bs
 
+pub hash_end : (h i : ℕ) (t : List ℕ) → length t ≤ i → hash_from h (drop i t) ≡ h
+unfolding hash_from
+hash_end h i t e = ap (hash_from h) (drop_of_length-le t e)
+
+pub hash_more : (h i : ℕ) (t : List ℕ) → i < length t → hash_from h (drop i t) ≡ hash_from (mixed h (get_or t i 0)) (drop (i + 1) t)
+unfolding hash_from
+hash_more h i t e = rw (add-one, drop-cons t i 0)
+
 -- ---- equal texts ----
 
 pub same_equal : (a b : List ℕ) → same_text a b ≡ true → a ≡ b
@@ -47,6 +55,29 @@ same_equal (a ∷ as') (b ∷ bs) e = go (and_yes e) (same_equal as' bs)
   where
     go : ((a ≡? b) ≡ true) × (same_text as' bs ≡ true) → (same_text as' bs ≡ true → as' ≡ bs) → a ∷ as' ≡ b ∷ bs
     go p ih = let q = yes_eq a b p.0 in let r = ih p.1 in cc
+
+pub same_length : (a b : List ℕ) → (length a ≡ length b → ⊥) → same_text a b ≡ false
+same_length a b h = go (same_text a b) refl
+  where
+    go : (t : Bool) → same_text a b ≡ t → t ≡ false
+    go true e = absurd (h (ap length (same_equal a b e)))
+    go false e = refl
+
+pub same_end : (a b : List ℕ) (i : ℕ) → length a ≡ length b → length a ≤ i → same_text (drop i a) (drop i b) ≡ true
+unfolding same_text
+same_end a b i e h =
+    let x : drop i a ≡ [] = drop_of_length-le a h in
+    let l : length b ≤ i = omega arith in
+    let y : drop i b ≡ [] = drop_of_length-le b l in
+    rw (x, y)
+
+pub same_more : (a b : List ℕ) (i : ℕ) → i < length a → i < length b → get_or a i 0 ≡ get_or b i 0 → same_text (drop i a) (drop i b) ≡ same_text (drop (i + 1) a) (drop (i + 1) b)
+unfolding same_text
+same_more a b i ha hb e = rw (add-one, drop-cons a i 0, drop-cons b i 0) (sym (and_skip (eq_yes _ _ e) refl))
+
+pub same_other : (a b : List ℕ) (i : ℕ) → i < length a → i < length b → (get_or a i 0 ≡ get_or b i 0 → ⊥) → same_text (drop i a) (drop i b) ≡ false
+unfolding same_text
+same_other a b i ha hb e = rw (drop-cons a i 0, drop-cons b i 0) (sym (and_miss _ (eq_no _ _ e)))
 
 -- names with other hashes are not equal
 pub other_hash : (s : List ℕ) (k r j : ℕ) → (hash_at s k j ≡ hash_at s k r → ⊥) → same_name s k r j ≡ false

@@ -1,6 +1,6 @@
 -- Laws of tests: a comparison that code answers with, and what a failed `not` or a choice tells.
-use Rattle.std.specs.Prelude.{ℕ, ◌+◌, Bool, true, false, not, List, ◌≡◌, refl, leb}
-use Rattle.std.proofs.Common.{true≢false, sym, ap, leb-true, leb-false}
+use Rattle.std.specs.Prelude.{ℕ, ◌+◌, ◌≤◌, Bool, true, false, not, List, ◌≡◌, refl, leb}
+use Rattle.std.proofs.Common.{true≢false, sym, ap, arith, leb-true, leb-false}
 use Rattle.spec_tests.specs.Rules.{◌<?◌, ◌≢?◌, pick}
 use Rattle.spec_tests.specs.Laws.{lt_yes, lt_no}
 use Rattle.spec_rules.specs.Image.{field}
@@ -24,6 +24,10 @@ pick_yes b e q = rw e at q
 pub pick_no : {A : Type 0} {t : Bool} {b r : A} (a : A) → t ≡ false → pick t a b ≡ r → b ≡ r
 unfolding pick
 pick_no a e q = rw e at q
+
+-- a number that is at least n and not n
+pub beyond : (n k : ℕ) → n ≤ k → (k ≡ n → ⊥) → n + 1 ≤ k
+beyond n k l h = omega arith
 
 -- field f + i of a record is not 0
 unfoldable pub non_zero : List ℕ → ℕ → ℕ → ℕ → ℕ → Bool
