@@ -42,7 +42,7 @@ fn node_word(net: &[u32], k: u32, f: usize) -> u32
     ABSENT
 }
 
-// The kind of net k; past the end none.
+// The kind of net k, a word of the netlist image; past the end none.
 pub fn kind_of(net: &[u32], k: u32) -> u32
     requires { NodesWithin net.now }
     ensures { (n : ℕ) → result ≡ (node_for_net (netlist_of n net.now) k).kind }

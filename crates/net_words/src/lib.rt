@@ -55,7 +55,7 @@ fn memory_length(l: &[u32]) -> usize
     6 + port_length(p) + second_length(l, p)
 }
 
-// The words of the record that a list begins with.
+// The words of the record that a list begins with. A record's kind is a number: its first word in the netlist image.
 pub fn record_length(l: &[u32]) -> usize
     ensures { result ≡ image.record_length l.now }
 {
