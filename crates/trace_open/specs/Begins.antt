@@ -1,5 +1,6 @@
 -- Where a run begins that was opened: all nets and memory bits hold 0, and no name is held. Assumes nothing.
-use Rattle.std.specs.Prelude.{ℕ, zero, suc, ◌≤◌, ◌≡◌, refl, List, length, take, get_or, replicate}
+use Rattle.std.specs.Prelude.{ℕ, zero, suc, ◌≤◌, ◌≡◌, refl, List, length, get_or, replicate, Result, Ok}
+use Rattle.spec_netlist.specs.Accept.{nets}
 use Rattle.std.proofs.Common.{arith, ◌∙◌}
 use Rattle.std.proofs.Math.Path.{sym, ap}
 use Rattle.std.proofs.lemmas.List.{length-replicate}
@@ -12,9 +13,9 @@ use Rattle.trace_pass.specs.Steps.{size_is}
 use Rattle.trace_line.specs.State.{Prepared}
 use Rattle.trace_answer.specs.Lines.{Underway}
 use Rattle.trace_run.specs.Calls.{at_start}
-use Rattle.trace_tables.specs.declared.Tables.{Tables}
-use Rattle.trace_open.specs.declared.Opened.{Opened}
-use Rattle.trace_open.specs.declared.Opened.TheVariants as O
+use Rattle.trace_line.specs.declared.Tables.{Tables}
+use Rattle.trace_line.specs.Bundles.{steps_of}
+use Rattle.trace_image.specs.declared.Refusal.{Refusal}
 use Rattle.trace_open.specs.Opens.{answer_of, judgement, accepted, Opens}
 
 pub zeros : (n j : ℕ) → get_or {A = ℕ} (replicate n 0) j 0 ≡ 0
@@ -41,16 +42,21 @@ underway_at {ws} {steps} {count} {inputs} {outputs} {registers = registers} {nr 
     rw (i, o) (at_start ws steps count inputs outputs registers nr memories nm x.prepared (omega arith) (record { low = λ j. let q = zero_at 1024 e j in omega arith })
     (record { values_long = lv; memory_long = omega arith; four = ln; slots_long = omega arith }) (zero_at 1024 e) (zero_at 65536 f) (zero_at 4 g))
 
-module _ {ws steps inputs outputs registers memories : List ℕ} {o : Opened} (r : Opens ws steps inputs outputs registers memories o) {t : Tables} (e : o ≡ O.Run t) where
+-- the same of the struct of the code
+abbrev pub FreshBy : Tables → Type 0
+FreshBy t = Fresh t.net.now (steps_of t) (length t.steps.now) t.inputs.now t.outputs.now t.registers.now (length t.registers.now) t.memories.now (length t.memories.now)
+
+module _ {ws : List ℕ} {o : Result Tables Refusal} (r : Opens ws o) {t : Tables} (e : o ≡ Ok t) where
   -- nothing is wrong with the image
   pub judged_fine : judgement ws ≡ Fine
-  unfolding answer_of
   judged_fine = sym r.answers ∙ ap answer_of e
 
-  pub opened_fresh : Fresh ws steps t.steps (take t.inputs inputs) (take t.outputs outputs) registers t.registers memories t.memories
+  pub opened_fresh : FreshBy t
   unfolding judgement
   opened_fresh =
       let f = then_both (opened 1024 2048 ws) (refuse (unfit 65536 ws) 12) judged_fine in
       let a = accepted ws (sym f.0) in
-      let z = size_is ws in
-      record { prepared = (r.tables t e).prepared; nets = omega (arith, a.1) }
+      let z = size_is t.net.now in
+      let y = r.tables t e in
+      let g = ap nets y.net in
+      record { prepared = y.prepared; nets = omega (arith, a.1) }

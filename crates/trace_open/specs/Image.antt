@@ -25,3 +25,10 @@ module _ (input : List ℕ) where
 
   pub all_are : {s net : List ℕ} {m : ℕ} (n : ℕ) → s ≡ take (4 * n) (drop 0 input) → ReadWords s net m → take m net ≡ take n (words_of input)
   all_are n e r = r.words ∙ ap words_of e ∙ words_take n input
+
+  -- the same of the words by themselves
+  pub first_words : {s t : List ℕ} {k : ℕ} → s ≡ take 64 (drop 0 input) → t ≡ words_of s → k ≡ image_words 1024 2048 t → k ≡ words
+  first_words e r q = q ∙ ap (image_words 1024 2048) (r ∙ ap words_of e ∙ words_take 16 input)
+
+  pub all_words : {s t : List ℕ} (n : ℕ) → s ≡ take (4 * n) (drop 0 input) → t ≡ words_of s → t ≡ take n (words_of input)
+  all_words n e r = r ∙ ap words_of e ∙ words_take n input

@@ -4,18 +4,11 @@
 ghost use Rattle.std.specs.Prelude.{◌≡◌, ◌*◌, ◌≤◌, length, take, replicate};
 ghost use Rattle.spec_trace.specs.Opened.{words_of};
 ghost use Rattle.trace_image.specs.Whole.{image_words};
-ghost use Rattle.trace_open.specs.Opens.{Opens, if_fit};
+ghost use Rattle.trace_open.specs.Opens.{Opens};
 
-use trace_image::Judged;
-use trace_tables::Tables;
-
-// The tables of a run; a word is wrong, by refusal 11; or the image is none for the trace program, refusal 12.
-#[derive(Clone, Copy)]
-pub enum Opened {
-    Run(Tables),
-    Wrong(u32),
-    Unfit,
-}
+use trace_image::Refusal;
+use trace_line::Tables;
+use trace_pass::Step;
 
 // An image's words, for 1,024 nets and 2,048 list words.
 pub fn image_table() -> [u32; 8208]
@@ -24,11 +17,11 @@ pub fn image_table() -> [u32; 8208]
     [0; 8208]
 }
 
-// The steps of a plan, five words each.
-pub fn step_table() -> [u32; 5120]
-    ensures { 5120 ≡ length result }
+// The steps of a plan.
+pub fn step_table() -> [Step; 1024]
+    ensures { 1024 ≡ length result }
 {
-    [0; 5120]
+    [Step::Arithmetic { place: 0 }; 1024]
 }
 
 // A word for each list word.
@@ -71,46 +64,30 @@ pub fn words_by_header(input: &[u8], net: &mut [u32]) -> usize
     requires { 8208 ≤ length net.old }
     ensures { result ≡ image_words 1024 2048 (take 16 (words_of input.now)) }
 {
-    let n = trace_image::read_words(image_fields::stretch(input, 0, 64), net);
-    trace_image::image_words(net_words::stretch(net, 0, n))
+    let words = trace_image::read_words(image_fields::stretch(input, 0, 64), net);
+    trace_image::image_words(words)
 }
 
-// So many words of an image; how many are there.
-pub fn read_image(input: &[u8], words: usize, net: &mut [u32]) -> usize
+// So many words of an image, or as many as are there, at the front of a lent table.
+pub fn read_image<'a>(input: &[u8], words: usize, net: &'a mut [u32]) -> &'a [u32]
     requires { (words ≤ 8208) × (8208 ≤ length net.old) }
-    ensures { take result net.new ≡ take words (words_of input.now) }
+    ensures { result.now ≡ take words (words_of input.now) }
 {
     trace_image::read_words(image_fields::stretch(input, 0, 4 * words), net)
 }
 
-// A run, if the netlist is fit for one.
-fn if_fit(t: Tables) -> Opened
-    ensures { result ≡ if_fit t.fit t }
-{
-    if t.fit {
-        return Opened::Run(t);
-    }
-    Opened::Unfit
-}
-
 // The image's judgement, and its tables.
-pub fn open(
-    net: &[u32],
-    steps: &mut [u32],
-    inputs: &mut [u32],
-    outputs: &mut [u32],
-    registers: &mut [u32],
-    memories: &mut [u32],
-) -> Opened
-    requires { (5120 ≤ length steps.old) × (2048 ≤ length inputs.old) × (2048 ≤ length outputs.old) × (2048 ≤ length registers.old) × (2048 ≤ length memories.old) }
-    ensures { Opens net.now steps.new inputs.new outputs.new registers.new memories.new result }
+pub fn open<'a>(
+    net: &'a [u32],
+    steps: &'a mut [Step],
+    inputs: &'a mut [u32],
+    outputs: &'a mut [u32],
+    registers: &'a mut [u32],
+    memories: &'a mut [u32],
+) -> Result<Tables<'a>, Refusal>
+    requires { (1024 ≤ length steps.old) × (2048 ≤ length inputs.old) × (2048 ≤ length outputs.old) × (2048 ≤ length registers.old) × (2048 ≤ length memories.old) }
+    ensures { Opens net.now result }
 {
-    match trace_image::judge(net) {
-        Judged::Right => {
-            let t = trace_tables::prepare(net, steps, inputs, outputs, registers, memories);
-            if_fit(t)
-        }
-        Judged::Wrong(p) => Opened::Wrong(p),
-        Judged::Unfit => Opened::Unfit,
-    }
+    trace_image::judge(net)?;
+    trace_tables::prepare(net, steps, inputs, outputs, registers, memories).ok_or(Refusal::Unfit)
 }

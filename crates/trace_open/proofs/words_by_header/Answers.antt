@@ -1,9 +1,9 @@
 -- `trace_open::words_by_header` meets its contract. Assumes nothing.
-use Rattle.trace_open.specs.Image.{first_fit, first_are}
+use Rattle.trace_open.specs.Image.{first_fit, first_words}
 use Rattle.trace_open.proofs.words_by_header.Goals as goal
 
-pub read_words-n-requires : goal.read_words-n-requires
-read_words-n-requires c = first_fit c.args.input.now c.args.net.now c.stretch.ensures c.requires
+pub read_words-words-requires : goal.read_words-words-requires
+read_words-words-requires c = first_fit c.args.input.now c.args.net.now c.stretch.ensures c.requires
 
 pub returns : goal.returns
-returns c = first_are c.args.input.now c.stretch.ensures c.read_words-n.ensures c.stretch-2.ensures c.image_words.ensures
+returns c = first_words c.args.input.now c.stretch.ensures c.read_words-words.ensures c.image_words.ensures
