@@ -18,8 +18,8 @@ use Rattle.image_records.specs.declared.Memory.{Memory}
 use Rattle.image_records.specs.Others.{port_means, memory_means}
 use Rattle.walk_view.specs.Met.{AllMet, all_append}
 use Rattle.walk_view.specs.View.{walk_state, Ready, Sure, Gives}
-use Rattle.walk_view.specs.declared.Lowered.{Lowered}
-use Rattle.walk_view.specs.declared.Lowered.TheVariants.{Done}
+use Rattle.std.specs.Prelude.{Ok}
+use Rattle.walk_view.specs.Refusals.{Lowered}
 use Rattle.walk_view.specs.Answers.{Refused}
 use Rattle.walk_invariant.specs.Steps.{GivesAll, gives_one}
 use Rattle.walk_view.specs.Turns.{in_turn}
@@ -84,7 +84,7 @@ module _ (s net w : List ℕ) where
         second = second_whole x.second h.second a.1;
       }
 
-pub memory_whole : {s net₀ w₀ net w : List ℕ} {x : R.Memory} {y : Lowered} → MemoryThere s x → GivesAll s net₀ w₀ (memory_steps x) y net w → y ≡ Done → MemoryWhole s w x
+pub memory_whole : {s net₀ w₀ net w : List ℕ} {x : R.Memory} {y : Lowered} → MemoryThere s x → GivesAll s net₀ w₀ (memory_steps x) y net w → y ≡ Ok tt → MemoryWhole s w x
 memory_whole {s} {net₀} {w₀} {net} {w} {x} h g d = all_whole s net w x h (g.meets d)
 
 -- ---- addresses and data of a port, in turn: x, y are the answers ----
@@ -99,7 +99,7 @@ module _ (s net w : List ℕ) (p : MemoryPort) (r : Ready s net w) (i : Sure s n
   unfolding port_means
   read_out q = gives_out (wholes (p.write_address ∷ p.write_data ∷ [])) read_given q
 
-  module _ (d₁ : x ≡ Done) (y : Lowered) (net₂ w₂ : List ℕ) (g₂ : Gives s net₁ w₁ (Whole p.write_address) y net₂ w₂) where
+  module _ (d₁ : x ≡ Ok tt) (y : Lowered) (net₂ w₂ : List ℕ) (g₂ : Gives s net₁ w₁ (Whole p.write_address) y net₂ w₂) where
     pub write_given : GivesAll s net w (wholes (p.read_address ∷ p.write_address ∷ [])) y net₂ w₂
     unfolding port_means
     write_given = gives_then (wholes (p.write_address ∷ [])) read_given d₁
@@ -109,7 +109,7 @@ module _ (s net w : List ℕ) (p : MemoryPort) (r : Ready s net w) (i : Sure s n
     unfolding port_means
     write_out q = gives_out (wholes (p.write_data ∷ [])) write_given q
 
-    pub data_given : y ≡ Done → (z : Lowered) (net₃ w₃ : List ℕ) → Gives s net₂ w₂ (Whole p.write_data) z net₃ w₃ → GivesAll s net w (word_steps (port_means p)) z net₃ w₃
+    pub data_given : y ≡ Ok tt → (z : Lowered) (net₃ w₃ : List ℕ) → Gives s net₂ w₂ (Whole p.write_data) z net₃ w₃ → GivesAll s net w (word_steps (port_means p)) z net₃ w₃
     unfolding port_means
     data_given d₂ z net₃ w₃ g₃ = gives_then (wholes (p.write_data ∷ [])) write_given d₂
         (gives_one s net₂ w₂ (Whole p.write_data) z net₃ w₃ write_given.ready (write_given.sure d₂) h.write_data g₃)

@@ -23,15 +23,17 @@ use Rattle.image_records.specs.declared.Signal.{Signal}
 use Rattle.image_records.specs.declared.Direction.{Direction}
 use Rattle.image_records.specs.declared.Direction.TheVariants as D
 use Rattle.image_records.specs.Others.{signal_means, direction_means}
-use Rattle.net_nodes.specs.declared.Added.{Added}
-use Rattle.net_nodes.specs.declared.Added.TheVariants.{Net, TooManyNets, ListFull}
+use Rattle.std.specs.Prelude.{◌⊎◌, Result, Ok, Err}
+use Rattle.std.proofs.Math.Logic.{⊎_elim}
+use Rattle.net_nodes.specs.declared.Full.{Full}
+use Rattle.net_nodes.specs.declared.Full.TheVariants.{Nets, List as NoRoom}
 use Rattle.net_ports.specs.Runs.{run_of, Runs}
 use Rattle.walk_view.specs.View.{index_of, walk_state, Ready, Sure, out_of}
-use Rattle.walk_view.specs.declared.Lowered.TheVariants as L
+use Rattle.walk_view.specs.Refusals.{Lowered, refusal_of}
 use Rattle.walk_view.specs.Answers.{not_done}
 use Rattle.walk_view.specs.Turns.{in_turn}
 use Rattle.phase_parts.specs.Ran.{Ran}
-use Rattle.phase_outputs.specs.Outputs.{output_turn, port_turn, lowered}
+use Rattle.phase_outputs.specs.Outputs.{output_turn, port_turn}
 
 -- what was copied to the front of an array
 pub copied : (xs out : List ℕ) (k : ℕ) → k ≤ 1024 → length xs ≡ k → out ≡ paste (replicate 1024 0) 0 xs k → take k out ≡ xs
@@ -48,26 +50,27 @@ module _ (s net w : List ℕ) (p k : ℕ) (r : Ready s net w) (i : Sure s net w)
   abbrev here : Netlist
   here = netlist_of (limit_of w) net
 
-  ended : (x : Added) (b : ℕ) (net₁ : List ℕ)
-      → and_then (run_of x b (netlist_of (limit_of w) net₁)) (λ (ns, l). done (with_netlist (walk_state s net w) l)) ≡ out_of (lowered x) (walk_state s net₁ w)
-  ended (Net n) b net₁ = refl
-  ended TooManyNets b net₁ = refl
-  ended ListFull b net₁ = refl
+  module _ (b : ℕ) (net₁ : List ℕ) (long : length net₁ ≡ length net) where
+    -- the port's bits are nets, so it is one
+    met : Meets Limit (OutputPort p nets here) (add_output_port p nets here)
+    met = output_port_run p nets here i.sound (read_bits (decode s) (walk_state s net w) i false p 0 k h).there
 
-  still : (x : Added) (b : ℕ) (net₁ : List ℕ) → Meets Limit (OutputPort p nets here) (run_of x b (netlist_of (limit_of w) net₁)) → lowered x ≡ L.Done → Sure s net₁ w
-  still (Net n) b net₁ m e = inv_netlist (decode s) (walk_state s net w) (netlist_of (limit_of w) net₁) i m.later
-  still TooManyNets b net₁ m e = not_done L.TooManyNets tt e
-  still ListFull b net₁ m e = not_done L.ListFull tt e
+    module _ (x : Result ℕ Full) (g : Runs (add_output_port p nets here) (limit_of w) b x net net₁) where
+      ran : (y : Lowered) → and_then (run_of x b (netlist_of (limit_of w) net₁)) (λ (ns, l). done (with_netlist (walk_state s net w) l)) ≡ out_of y (walk_state s net₁ w) → (y ≡ Ok tt → Sure s net₁ w)
+          → Ran (port_turn p k (walk_state s net w)) s net w y net₁ w
+      ran y e u = record {
+        says = ap (λ (o : Made (List ℕ)). and_then o (λ (ns, l). done (with_netlist (walk_state s net w) l))) g.says ∙ e;
+        ready = record { accepted = r.accepted; laid = r.laid; held = g.held (index_of w) r.held; narrowed = r.narrowed };
+        kept = record { net_long = long; long = refl; fixed = refl; fewer = omega arith };
+        sure = u;
+      }
 
-  pub port_made : (x : Added) (b : ℕ) (net₁ : List ℕ) → Runs (add_output_port p nets here) (limit_of w) b x net net₁ → length net₁ ≡ length net
-      → Ran (port_turn p k (walk_state s net w)) s net w (lowered x) net₁ w
-  port_made x b net₁ g long = record {
-    says = ap (λ (o : Made (List ℕ)). and_then o (λ (ns, l). done (with_netlist (walk_state s net w) l))) g.says ∙ ended x b net₁;
-    ready = record { accepted = r.accepted; laid = r.laid; held = g.held (index_of w) r.held; narrowed = r.narrowed };
-    kept = record { net_long = long; long = refl; fixed = refl; fewer = omega arith };
-    sure = still x b net₁ (subst (Meets Limit (OutputPort p nets here)) g.says
-        (output_port_run p nets here i.sound (read_bits (decode s) (walk_state s net w) i false p 0 k h).there));
-  }
+    pub port_made : (n : ℕ) → Runs (add_output_port p nets here) (limit_of w) b (Ok n) net net₁ → Ran (port_turn p k (walk_state s net w)) s net w (Ok tt) net₁ w
+    port_made n g = ran (Ok n) g (Ok tt) refl (λ e. inv_netlist (decode s) (walk_state s net w) (netlist_of (limit_of w) net₁) i (subst (Meets Limit (OutputPort p nets here)) g.says met).later)
+
+    pub no_room : (e : Full) → Runs (add_output_port p nets here) (limit_of w) b (Err e) net net₁ → Ran (port_turn p k (walk_state s net w)) s net w (Err (refusal_of e)) net₁ w
+    no_room Nets g = ran (Err Nets) g (Err (refusal_of Nets)) refl (λ q. not_done (Err (refusal_of Nets)) tt q)
+    no_room NoRoom g = ran (Err NoRoom) g (Err (refusal_of NoRoom)) refl (λ q. not_done (Err (refusal_of NoRoom)) tt q)
 
 -- ---- a signal by its direction ----
 
@@ -83,13 +86,9 @@ module _ (s : List ℕ) (p : ℕ) (x : Signal) (e : signal_means x ≡ signal_at
   by_direction : (d : Direction) → x.direction ≡ d → output_turn s p st ≡ connect_output (decode s) false (direction_means d) p x.width st
   by_direction d q = turn_as ∙ ap (λ (y : Direction). connect_output (decode s) false (direction_means y) p x.width st) q
 
-  pub internal : x.direction ≡ D.Internal → output_turn s p st ≡ done st
+  pub no_output : (x.direction ≡ D.Internal) ⊎ (x.direction ≡ D.Input) → output_turn s p st ≡ done st
   unfolding direction_means
-  internal q = by_direction D.Internal q
-
-  pub input : x.direction ≡ D.Input → output_turn s p st ≡ done st
-  unfolding direction_means
-  input q = by_direction D.Input q
+  no_output q = ⊎_elim (λ e. by_direction D.Internal e) (λ e. by_direction D.Input e) q
 
   pub output : x.direction ≡ D.Output → output_turn s p st ≡ connect_output (decode s) false R.Output p x.width st
   unfolding direction_means

@@ -18,8 +18,8 @@ use Rattle.image_records.specs.declared.Reset.{Reset}
 use Rattle.image_records.specs.Others.{enable_means, reset_means, register_means}
 use Rattle.walk_view.specs.Met.{AllMet, all_append}
 use Rattle.walk_view.specs.View.{walk_state, Ready, Sure, Gives}
-use Rattle.walk_view.specs.declared.Lowered.{Lowered}
-use Rattle.walk_view.specs.declared.Lowered.TheVariants.{Done}
+use Rattle.std.specs.Prelude.{Ok}
+use Rattle.walk_view.specs.Refusals.{Lowered}
 use Rattle.walk_view.specs.Answers.{Refused}
 use Rattle.walk_invariant.specs.Steps.{GivesAll, gives_one}
 use Rattle.walk_view.specs.Turns.{in_turn}
@@ -63,7 +63,7 @@ module _ (s net w : List ℕ) where
       let a = all_append (walk_state s net w) (wholes (r.next ∷ []) ++ bit_step r.clock ++ control_steps r.enable) (reset_steps r.reset) m in
       record { next = met_whole s net w r.next h.next.there m.0; reset = reset_whole r.reset h.reset a.1 }
 
-pub register_whole : {s net₀ w₀ net w : List ℕ} {r : R.Register} {x : Lowered} → There s r → GivesAll s net₀ w₀ (register_steps r) x net w → x ≡ Done → Wholes s w r
+pub register_whole : {s net₀ w₀ net w : List ℕ} {r : R.Register} {x : Lowered} → There s r → GivesAll s net₀ w₀ (register_steps r) x net w → x ≡ Ok tt → Wholes s w r
 register_whole {s} {net₀} {w₀} {net} {w} {r} h g d = all_whole s net w r h (g.meets d)
 
 -- ---- the parts of a register, in turn: y, z, u are the answers ----
@@ -78,7 +78,7 @@ module _ (s net w : List ℕ) (x : Register) (r : Ready s net w) (i : Sure s net
   unfolding register_means
   next_out q = gives_out (bit_step x.clock ++ control_steps (enable_means x.enable) ++ reset_steps (reset_means x.reset)) next_given q
 
-  module _ (d₁ : y ≡ Done) (z : Lowered) (net₂ w₂ : List ℕ) (g₂ : Gives s net₁ w₁ (Bit x.clock 0) z net₂ w₂) where
+  module _ (d₁ : y ≡ Ok tt) (z : Lowered) (net₂ w₂ : List ℕ) (g₂ : Gives s net₁ w₁ (Bit x.clock 0) z net₂ w₂) where
     pub clock_given : GivesAll s net w (wholes (x.next ∷ []) ++ bit_step x.clock) z net₂ w₂
     unfolding register_means
     clock_given = gives_then (bit_step x.clock) next_given d₁
@@ -88,7 +88,7 @@ module _ (s net w : List ℕ) (x : Register) (r : Ready s net w) (i : Sure s net
     unfolding register_means
     clock_out q = gives_out (control_steps (enable_means x.enable) ++ reset_steps (reset_means x.reset)) clock_given q
 
-    module _ (d₂ : z ≡ Done) (u : Lowered) (net₃ w₃ : List ℕ) (g₃ : GivesAll s net₂ w₂ (control_steps (enable_means x.enable)) u net₃ w₃) where
+    module _ (d₂ : z ≡ Ok tt) (u : Lowered) (net₃ w₃ : List ℕ) (g₃ : GivesAll s net₂ w₂ (control_steps (enable_means x.enable)) u net₃ w₃) where
       pub enable_given : GivesAll s net w (wholes (x.next ∷ []) ++ bit_step x.clock ++ control_steps (enable_means x.enable)) u net₃ w₃
       enable_given = gives_then (control_steps (enable_means x.enable)) clock_given d₂ g₃
 
@@ -96,7 +96,7 @@ module _ (s net w : List ℕ) (x : Register) (r : Ready s net w) (i : Sure s net
       unfolding register_means
       enable_out q = gives_out (reset_steps (reset_means x.reset)) enable_given q
 
-      pub reset_given : u ≡ Done → (v : Lowered) (net₄ w₄ : List ℕ) → GivesAll s net₃ w₃ (reset_steps (reset_means x.reset)) v net₄ w₄
+      pub reset_given : u ≡ Ok tt → (v : Lowered) (net₄ w₄ : List ℕ) → GivesAll s net₃ w₃ (reset_steps (register_means x).reset) v net₄ w₄
           → GivesAll s net w (register_steps (register_means x)) v net₄ w₄
       unfolding register_means
       reset_given d₃ v net₄ w₄ g₄ = gives_then (reset_steps (reset_means x.reset)) enable_given d₃ g₄

@@ -1,7 +1,7 @@
 -- `phase_register_records::push_bits` meets its contract. Assumes nothing.
 use mathlib.Core.Path.{refl, sym, ◌∙◌}
 use Rattle.std.specs.Prelude.{Err}
-use Rattle.std.proofs.lemmas.Result.{err_from_is_err_and}
+use Rattle.walk_view.proofs.Errors.{err_is}
 use native.Mathlib.Omega.{arith}
 use Rattle.image_records.specs.Others.{register_means}
 use Rattle.scratch_view.specs.Bounds.{signal_width_law}
@@ -28,9 +28,8 @@ push_bit-requires c =
 pub returns-in_err-push_bit : goal.returns-in_err-push_bit
 unfolding register_means
 returns-in_err-push_bit c =
-    let p = err_from_is_err_and c.from_residual.result c.from_residual.ensures.1 in
     let x = Err c.in_err-push_bit.field-0.0 in
-    rw (p.1, p.2) (phase_ran (turning_out _ _ _ _ _ _ _ _ _ c.loop-b.invariant.0 x _ _ c.loop-b-test.true tt (ran_phase c.in_err-push_bit.ensures)) (λ e. not_done x tt e))
+    rw (err_is _ _ c.from_residual.ensures) (phase_ran (turning_out _ _ _ _ _ _ _ _ _ c.loop-b.invariant.0 x _ _ c.loop-b-test.true tt (ran_phase c.in_err-push_bit.ensures)) (λ e. not_done x tt e))
 
 pub loop-b-preserved : goal.loop-b-preserved
 unfolding register_means

@@ -10,19 +10,19 @@ pub resolve_signal_bit-requires : goal.resolve_signal_bit-requires
 resolve_signal_bit-requires c =
     let pre = c.requires in
     let a = c.args in
-    let h = there_present a.e a.image.now c.in-Present.c c.in-Present.is pre.2 in
+    let h = there_present a.e a.image.now c.in-Some.c c.in-Some.is pre.2 in
     (pre.0, pre.1, h.there, omega (arith, h.one))
 
-pub returns-in-Absent : goal.returns-in-Absent
-returns-in-Absent c =
+pub returns-in-None : goal.returns-in-None
+returns-in-None c =
     let pre = c.requires in
     let a = c.args in
-    rw (steps_absent a.e c.in-Absent.is) (gives_none a.image.now a.net.now a.scr.now pre.0 pre.1)
+    rw (steps_absent a.e c.in-None.is) (gives_none a.image.now a.net.now a.scr.now pre.0 pre.1)
 
-pub returns-in-Present : goal.returns-in-Present
-returns-in-Present c =
+pub returns-in-Some : goal.returns-in-Some
+returns-in-Some c =
     let pre = c.requires in
     let a = c.args in
-    let h = there_present a.e a.image.now c.in-Present.c c.in-Present.is pre.2 in
-    rw (steps_present a.e c.in-Present.c c.in-Present.is)
-    (gives_one a.image.now a.net.now a.scr.now (Bit c.in-Present.c.signal 0) _ _ _ pre.0 pre.1 (h.there, omega (arith, h.one)) c.resolve_signal_bit.ensures)
+    let h = there_present a.e a.image.now c.in-Some.c c.in-Some.is pre.2 in
+    rw (steps_present a.e c.in-Some.c c.in-Some.is)
+    (gives_one a.image.now a.net.now a.scr.now (Bit c.in-Some.c.signal 0) _ _ _ pre.0 pre.1 (h.there, omega (arith, h.one)) c.resolve_signal_bit.ensures)

@@ -1,12 +1,12 @@
 -- `phase_sources::reserve_bits` meets its contract. Assumes nothing.
-use Rattle.std.proofs.lemmas.Result.{err_from_is_err_and}
+use Rattle.walk_view.proofs.Errors.{err_is}
 use Rattle.phase_sources.proofs.Laws.{reserved, no_room, bits_as}
 use Rattle.phase_sources.proofs.reserve_bits.Goals as goal
 
 pub returns-in_err-first : goal.returns-in_err-first
 returns-in_err-first c =
     let a = c.args in
-    let p = err_from_is_err_and c.from_residual.result c.from_residual.ensures.1 in rw (p.1, p.2) (bits_as a.kind a.owner a.b a.p _ _ _ _ _ _ _ c.requires.1 c.signal_width-n.ensures
+    rw (err_is _ _ c.from_residual.ensures) (bits_as a.kind a.owner a.b a.p _ _ _ _ _ _ _ c.requires.1 c.signal_width-n.ensures
     (no_room _ a.p _ _ _ _ _ c.requires.0 c.add_nodes.auto.net c.in_err-first.field-0.0 c.in_err-first.ensures))
 
 pub returns : goal.returns

@@ -1,6 +1,6 @@
 -- `phase_sources::reserve_memories` meets its contract. Assumes nothing.
 use mathlib.Core.Path.{refl}
-use Rattle.std.proofs.lemmas.Result.{err_from_is_err_and}
+use Rattle.walk_view.proofs.Errors.{err_is}
 use Rattle.walk_view.specs.Turns.{turning_start, turning_more, turning_out, turning_end}
 use Rattle.phase_sources.specs.Reserves.{memories_turn}
 use Rattle.phase_sources.proofs.reserve_memories.Goals as goal
@@ -10,7 +10,7 @@ loop-k-init c = turning_start _ _ _ _ _ _ _ c.count-count.ensures (memories_turn
 
 pub returns-in_err-reserve_memory : goal.returns-in_err-reserve_memory
 returns-in_err-reserve_memory c =
-    let p = err_from_is_err_and c.from_residual.result c.from_residual.ensures.1 in rw (p.1, p.2) (turning_out _ _ _ _ _ _ _ _ _ c.loop-k.invariant _ _ _ c.loop-k-test.true tt c.in_err-reserve_memory.ensures)
+    rw (err_is _ _ c.from_residual.ensures) (turning_out _ _ _ _ _ _ _ _ _ c.loop-k.invariant _ _ _ c.loop-k-test.true tt c.in_err-reserve_memory.ensures)
 
 pub loop-k-preserved : goal.loop-k-preserved
 loop-k-preserved c =

@@ -2,7 +2,7 @@
 use native.Mathlib.Omega.{arith}
 use mathlib.Core.Path.{refl}
 use Rattle.net_index.specs.Index.{is_gate}
-use Rattle.std.proofs.lemmas.Result.{err_from_is_err_and}
+use Rattle.walk_view.proofs.Errors.{err_is}
 use Rattle.phase_sources.proofs.Laws.{first_there, memory_out, memory_both}
 use Rattle.phase_sources.proofs.reserve_memory.Goals as goal
 
@@ -13,7 +13,7 @@ reserve_bits-requires c =
 
 pub returns-in_err-reserve_bits : goal.returns-in_err-reserve_bits
 returns-in_err-reserve_bits c =
-    let p = err_from_is_err_and c.from_residual.result c.from_residual.ensures.1 in rw (p.1, p.2) (memory_out _ _ _ _ _ c.args.k _ _ c.record_field-p.ensures c.in_err-reserve_bits.ensures tt)
+    rw (err_is _ _ c.from_residual.ensures) (memory_out _ _ _ _ _ c.args.k _ _ c.record_field-p.ensures c.in_err-reserve_bits.ensures tt)
 
 pub returns : goal.returns
 returns c =
