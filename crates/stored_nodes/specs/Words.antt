@@ -1,11 +1,10 @@
 -- The words of the nodes one after the other: word j of all is word j % 6 of node j / 6. Assumes nothing.
-use Rattle.std.specs.Prelude.{ℕ, suc, ◌+◌, ◌*◌, ◌-◌, ◌/◌, ◌%◌, ◌<◌, ◌≤◌, Bool, true, false, not, ◌&&◌, eqb, ◌≡◌, refl, List, [], ◌∷◌, length, take, drop, get_or, position, Option, Some, None}
-use Rattle.std.specs.Cmp.Lexicographic.{pointwise}
-use Rattle.std.proofs.Common.{sym, ap, ap₂, ◌∙◌, arith, drop-cons}
-use Rattle.spec_tests.specs.Rules.{◌<?◌, ◌≡?◌, ◌≢?◌, ◌and◌, pick, first}
+use Rattle.std.specs.Prelude.{ℕ, ◌+◌, ◌*◌, ◌-◌, ◌/◌, ◌%◌, ◌<◌, ◌≤◌, Bool, true, false, not, eqb, ◌≡◌, refl, List, length, take, drop, get_or, position, Option, Some, None}
+use Rattle.std.proofs.Common.{sym, ap, ap₂, ◌∙◌, arith}
+use Rattle.spec_tests.specs.Rules.{◌<?◌, ◌≡?◌, ◌≢?◌, pick, first}
 use Rattle.spec_tests.specs.Laws.{from, begins, lt_yes, lt_no}
 use Rattle.spec_rules.specs.NetlistImage.{node_word}
-use Rattle.spec_netlist.specs.Accept.{nets, limit, same_node, wrong_owner, wrong_bit, wrong_input, wrong_node_word}
+use Rattle.spec_netlist.specs.Accept.{nets, limit, wrong_owner, wrong_bit, wrong_input, wrong_node_word}
 use Rattle.stored_view.specs.Opened.{Opened, node_at}
 use Rattle.spec_tests.specs.Options.{first_of, first_some}
 use Rattle.stored_view.specs.Found.{below, some_below, none_below, first_of_below, position_first, part_long, part_word, run_hit, run_skip, nothing_left}
@@ -181,35 +180,3 @@ module _ {ws : List ℕ} (o : Opened ws) (e : first (wrong_node ws) (6 * limit w
       run_skip (wrong_node ws) (6 * limit ws) (6 * nets ws) (λ j. not_zero (get_or unused j 0)) (6 * limit ws - 6 * nets ws) (omega (arith, o.list_starts, o.nodes_fit)) by_word (found_in t)
       (nothing_left (wrong_node ws) (6 * limit ws) ∙ ap (λ (k : ℕ). below (6 * limit ws) (from (wrong_node ws) (6 * limit ws) k)) (sym z))
       ∙ whole
-
--- ---- kind, owner and bit of two nodes compared at once ----
-
-three : (l : List ℕ) (a : ℕ) → a + 3 ≤ length l → take (a + 3 - a) (drop a l) ≡ get_or l a 0 ∷ get_or l (a + 1) 0 ∷ get_or l (a + 2) 0 ∷ []
-three l a h =
-    let z : a + 3 - a ≡ 3 = omega arith in
-    let b : suc a ≡ a + 1 = omega arith in
-    let c : suc (a + 1) ≡ a + 2 = omega arith in
-    let d1 = drop-cons l a 0 (omega arith) ∙ ap (λ (k : ℕ). get_or l a 0 ∷ drop k l) b in
-    let d2 = drop-cons l (a + 1) 0 (omega arith) ∙ ap (λ (k : ℕ). get_or l (a + 1) 0 ∷ drop k l) c in
-    let d3 = drop-cons l (a + 2) 0 (omega arith) in
-    ap₂ (λ (k : ℕ) (xs : List ℕ). take k xs) z (d1 ∙ (ap (λ (xs : List ℕ). get_or l a 0 ∷ xs) (d2 ∙ ap (λ (xs : List ℕ). get_or l (a + 1) 0 ∷ xs) d3)))
-
-and_three : (a b c : Bool) → (a && (b && (c && true))) ≡ (a and b and c)
-unfolding ◌and◌
-and_three true true true = refl
-and_three true true false = refl
-and_three true false c = refl
-and_three false b c = refl
-
-three_same : (a b c x y z : ℕ) → pointwise eqb (a ∷ b ∷ c ∷ []) (x ∷ y ∷ z ∷ []) ≡ (a ≡? x and b ≡? y and c ≡? z)
-unfolding ◌≡?◌
-three_same a b c x y z = and_three (eqb a x) (eqb b y) (eqb c z)
-
-pub same_three : {ws : List ℕ} → Opened ws → (j n : ℕ) → j < nets ws → n < nets ws
-    → pointwise eqb (take (16 + 6 * j + 3 - (16 + 6 * j)) (drop (16 + 6 * j) ws)) (take (16 + 6 * n + 3 - (16 + 6 * n)) (drop (16 + 6 * n) ws)) ≡ same_node ws j n
-unfolding same_node
-same_three {ws} o j n h g =
-    ap₂ (pointwise eqb) (three ws (16 + 6 * j) (omega (arith, o.nodes_fit, o.list_fits))) (three ws (16 + 6 * n) (omega (arith, o.nodes_fit, o.list_fits)))
-    ∙ (three_same (get_or ws (16 + 6 * j) 0) (get_or ws (16 + 6 * j + 1) 0) (get_or ws (16 + 6 * j + 2) 0) (get_or ws (16 + 6 * n) 0) (get_or ws (16 + 6 * n + 1) 0) (get_or ws (16 + 6 * n + 2) 0)
-    ∙ ap₂ (λ (a b : Bool). a and b) (ap₂ (λ (x y : ℕ). x ≡? y) (sym (node_kind o j)) (sym (node_kind o n)))
-    (ap₂ (λ (a b : Bool). a and b) (ap₂ (λ (x y : ℕ). x ≡? y) (sym (node_at o j 1)) (sym (node_at o n 1))) (ap₂ (λ (x y : ℕ). x ≡? y) (sym (node_at o j 2)) (sym (node_at o n 2)))))

@@ -108,7 +108,14 @@ fn is_same(net: &[u32], j: u32, n: u32) -> bool
 {
     let a = HEADER_LENGTH + NODE_LENGTH * (j as usize);
     let b = HEADER_LENGTH + NODE_LENGTH * (n as usize);
-    net[a..a + INPUT_0] == net[b..b + INPUT_0]
+    // Word by word: == of slices is a call of its own, here at each step of a search.
+    if net[a] != net[b] {
+        return false;
+    }
+    if net[a + OWNER] != net[b + OWNER] {
+        return false;
+    }
+    net[a + BIT] == net[b + BIT]
 }
 
 // Of the two slots of a node, whose number and 1 is c, the one for a key with this rest.
