@@ -1,2 +1,3 @@
 -- A register's records.
 pub mod Registers
+pub mod Resets
