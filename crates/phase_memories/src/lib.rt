@@ -26,7 +26,12 @@ fn lower_words(image: &[u8], net: &mut [u32], scr: &mut [u32], p: MemoryPort) ->
     walk_recursion::lower_expression(image, net, scr, p.write_data)
 }
 
-fn lower_enables(image: &[u8], net: &mut [u32], scr: &mut [u32], p: MemoryPort) -> Result<(), Refusal>
+fn lower_enables(
+    image: &[u8],
+    net: &mut [u32],
+    scr: &mut [u32],
+    p: MemoryPort,
+) -> Result<(), Refusal>
     requires { (Ready image.now net.old scr.old) × (Sure image.now net.old scr.old) × (PortThere image.now (port_means p)) }
     ensures { GivesAll image.now net.old scr.old (model.enable_steps (port_means p)) result net.new scr.new }
 {

@@ -25,7 +25,13 @@ fn add_port(image: &[u8], net: &mut [u32], scr: &[u32], p: u32, n: u32) -> Resul
 }
 
 // Output signal p, n bits wide.
-fn connect_port(image: &[u8], net: &mut [u32], scr: &mut [u32], p: u32, n: u32) -> Result<(), Refusal>
+fn connect_port(
+    image: &[u8],
+    net: &mut [u32],
+    scr: &mut [u32],
+    p: u32,
+    n: u32,
+) -> Result<(), Refusal>
     requires { (Ready image.now net.old scr.old) × (Sure image.now net.old scr.old) × (p < count_at_of image.now 0) × (n ≡ signal_width image.now p) }
     ensures { Ran (model.connect_output (decode image.now) false R.Output p n (walk_state image.now net.old scr.old)) image.now net.old scr.old result net.new scr.new }
 {

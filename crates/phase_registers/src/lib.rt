@@ -47,12 +47,7 @@ fn lower_register(
 
 // ---- registers ----
 
-fn connect_register(
-    image: &[u8],
-    net: &mut [u32],
-    scr: &mut [u32],
-    k: u32,
-) -> Result<(), Refusal>
+fn connect_register(image: &[u8], net: &mut [u32], scr: &mut [u32], k: u32) -> Result<(), Refusal>
     requires { (Ready image.now net.old scr.old) × (Sure image.now net.old scr.old) × (k < count_at_of image.now 4) }
     ensures { Ran (register_turn image.now k (walk_state image.now net.old scr.old)) image.now net.old scr.old result net.new scr.new }
 {

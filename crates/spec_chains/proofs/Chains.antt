@@ -56,4 +56,3 @@ module _ {F : Type 0} (n : ℕ) (p : ℕ → Bool) where
           let l : h.0 < n = omega (arith, length-range_with_len 0 n, h.1) in
           sym (any_at p n h.0 l (ap p (sym (at h.0 l)) ∙ h.2 0))
       by false h = sym (any_none p n (λ k l. ap p (sym (at k l)) ∙ h k 0 (omega arith) (omega (arith, length-range_with_len 0 n))))
-
