@@ -3,24 +3,25 @@
 // input, and that the text goes to standard output, is said here alone.
 #![tactic(auto)]
 
-ghost use Rattle.std.specs.Prelude.{◌≡◌, true, not, ◌+◌, ◌-◌, ◌≤◌, ◌<◌, length, take};
-ghost use Rattle.spec_tests.specs.Rules.{◌and◌};
-ghost use Rattle.trace_answer.specs.Lines.{Underway};
-ghost use Rattle.trace_open.specs.Begins.{Fresh};
-ghost use Rattle.trace.specs.Turn.{held, Came, Turned};
+ghost use Rattle.std.specs.Prelude.{◌≡◌, ◌+◌, ◌-◌, ◌≤◌, ◌<◌, length, IfSome};
+ghost use Rattle.trace_answer.specs.Bundles.{Runs};
+ghost use Rattle.trace_open.specs.Begins.{FreshBy};
+ghost use Rattle.trace.specs.Turn.{held, Came};
+ghost use Rattle.trace.specs.Bundles.{TurnedBy};
 
 use std::io::Read;
 use std::rt::Stdin;
-use trace_open::Opened;
-use trace_tables::Tables;
+use trace_image::Refusal;
+use trace_keep::Moments;
+use trace_line::{State, Tables};
+use trace_run::End;
 
-// Where the bytes that were read and are not used up begin and end in their buffer, the next line's number, and whether the run goes on.
+// Where the bytes that were read and are not used up begin and end in their buffer, and the next line's number.
 #[derive(Clone, Copy)]
 struct Held {
     from: usize,
     end: usize,
     line: u32,
-    go: bool,
 }
 
 // As many bytes as an image has at most.
@@ -47,8 +48,8 @@ fn read_up_to(bytes: &mut [u8], from: usize, to: usize) -> usize
     from + io::read_full(0, &mut bytes[from..to])
 }
 
-// Reads the image: sixteen words, and as many more as these say. How many there are.
-fn read_image(bytes: &mut [u8], net: &mut [u32]) -> usize
+// Reads the image: sixteen words, and as many more as these say.
+fn read_image<'a>(bytes: &mut [u8], net: &'a mut [u32]) -> &'a [u32]
     requires { (32832 ≤ length bytes.old) × (8208 ≤ length net.old) }
 {
     let first = read_up_to(bytes, 0, 64);
@@ -74,171 +75,102 @@ fn read_some(mut stdin: Stdin, bytes: &mut [u8]) -> usize
     }
 }
 
-// The bytes held move to the front, and more are read behind them.
-fn read_more(stdin: Stdin, h: Held, bytes: &mut [u8]) -> Held
+// The bytes held move to the front, and more are read behind them; at the input's end none are held any more.
+fn read_more(stdin: Stdin, h: Held, bytes: &mut [u8]) -> Option<Held>
     requires { (h.from ≤ h.end) × (h.end ≤ length bytes.old) × (h.end - h.from < length bytes.old) }
-    ensures { (result.line ≡ h.line) × (result.from ≤ result.end) × (result.end ≤ length bytes.new) × Came (held bytes.old h.from h.end) (held bytes.new result.from result.end) }
+    ensures { IfSome result (λ r. (r.line ≡ h.line) × (r.from ≤ r.end) × (r.end ≤ length bytes.new) × Came (held bytes.old h.from h.end) (held bytes.new r.from r.end)) }
 {
     let n = h.end - h.from;
     trace_run::move_down(bytes, h.from, n);
     let more = read_some(stdin, &mut bytes[n..]);
     if more == 0 {
         end(n, h.line);
+        return None;
     }
-    Held {
+    Some(Held {
         from: 0,
         end: n + more,
         line: h.line,
-        go: more != 0,
-    }
+    })
 }
 
-// The run goes on where its text was printed and is not the last.
-fn goes_on(written: bool, stop: bool) -> bool
-    ensures { result ≡ (written and not stop) }
-{
-    if written {
-        return !stop;
-    }
-    false
-}
-
-// Takes the lines among the bytes held and prints their text; reads on where the next line must still come.
+// Takes the lines among the bytes held and prints their text; reads on where the next line must still come. None where the run ends: the
+// text was the last, it could not be printed, or no more bytes come.
 fn turn(
     stdin: Stdin,
-    net: &[u32],
-    steps: &[u32],
-    count: usize,
-    inputs: &[u32],
-    outputs: &[u32],
-    registers: &[u32],
-    nr: usize,
-    memories: &[u32],
-    nm: usize,
+    tables: &Tables,
+    state: &mut State,
+    kept: &mut Moments,
     h: Held,
     bytes: &mut [u8],
-    values: &mut [u32],
-    old: &mut [u32],
-    memory: &mut [u32],
-    names: &mut [u64],
-    kept: &mut [u32],
     out: &mut [u8],
-) -> Held
-    requires { (Underway net.now steps.now count inputs.now outputs.now registers.now nr memories.now nm h.line values.old memory.old names.old kept.old) × (length old.old ≡ length values.old) × (h.from ≤ h.end) × (h.end ≤ length bytes.old) × (length inputs.now + 13 < length bytes.old) }
-    ensures { (result.go ≡ true → Underway net.now steps.now count inputs.now outputs.now registers.now nr memories.now nm result.line values.new memory.new names.new kept.new) × (result.from ≤ result.end) × (result.end ≤ length bytes.new) × (result.go ≡ true → Turned net.now steps.now count inputs.now outputs.now registers.now nr memories.now nm h.line (held bytes.old h.from h.end) values.old memory.old names.old kept.old result.line (held bytes.new result.from result.end) values.new memory.new names.new kept.new) }
+) -> Option<Held>
+    requires { Runs tables.now h.line state.old kept.old × (h.from ≤ h.end) × (h.end ≤ length bytes.old) × (length tables.now.inputs.now + 13 < length bytes.old) }
+    ensures { IfSome result (λ r. Runs tables.now r.line state.new kept.new × (r.from ≤ r.end) × (r.end ≤ length bytes.new) × TurnedBy tables.now h.line (held bytes.old h.from h.end) state.old kept.old r.line (held bytes.new r.from r.end) state.new kept.new) }
 {
     let from = h.from;
     let end = h.end;
-    let r = trace_run::take_lines(
-        net,
-        steps,
-        count,
-        inputs,
-        outputs,
-        registers,
-        nr,
-        memories,
-        nm,
-        h.line,
-        &bytes[from..end],
-        values,
-        old,
-        memory,
-        names,
-        kept,
-        out,
-    );
-    let written = io::write_all(1, image_fields::stretch(out, 0, r.at));
+    let r = trace_run::take_lines(tables, state, kept, h.line, &bytes[from..end], out);
+    if !io::write_all(1, image_fields::stretch(out, 0, r.at)) {
+        return None;
+    }
     let next = Held {
         from: from + r.used,
         end,
         line: r.line,
-        go: goes_on(written, r.stop),
     };
-    if next.go && r.wait {
-        return read_more(stdin, next, bytes);
+    match r.end {
+        End::Full => Some(next),
+        End::Wait => read_more(stdin, next, bytes),
+        End::Last => None,
     }
-    next
 }
 
 // The lines of a trace. A proved loop has to end, and nothing says that a trace does: so it takes as many turns as no run uses up.
 fn run(
     stdin: Stdin,
-    net: &[u32],
-    steps: &[u32],
-    count: usize,
-    inputs: &[u32],
-    outputs: &[u32],
-    registers: &[u32],
-    nr: usize,
-    memories: &[u32],
-    nm: usize,
-    values: &mut [u32],
-    old: &mut [u32],
-    memory: &mut [u32],
-    names: &mut [u64],
-    kept: &mut [u32],
+    tables: &Tables,
+    state: &mut State,
+    kept: &mut Moments,
     bytes: &mut [u8],
     out: &mut [u8],
 )
-    requires { (Underway net.now steps.now count inputs.now outputs.now registers.now nr memories.now nm 0 values.old memory.old names.old kept.old) × (length old.old ≡ length values.old) × (length inputs.now + 13 < length bytes.old) }
+    requires { Runs tables.now 0 state.old kept.old × (length tables.now.inputs.now + 13 < length bytes.old) }
 {
     let mut h = Held {
         from: 0,
         end: 0,
         line: 0,
-        go: true,
     };
     for _ in 0..u64::MAX {
-        if !h.go {
+        let Some(next) = turn(stdin, tables, state, kept, h, bytes, out) else {
             break;
-        }
-        h = turn(
-            stdin, net, steps, count, inputs, outputs, registers, nr, memories, nm, h, bytes,
-            values, old, memory, names, kept, out,
-        );
+        };
+        h = next;
     }
 }
 
 // A trace, by the tables of an image.
-fn take_trace(
-    stdin: Stdin,
-    net: &[u32],
-    t: Tables,
-    steps: &[u32],
-    inputs: &[u32],
-    outputs: &[u32],
-    registers: &[u32],
-    memories: &[u32],
-)
-    requires { (Fresh net.now steps.now t.steps (take t.inputs inputs.now) (take t.outputs outputs.now) registers.now t.registers memories.now t.memories) × (length inputs.now ≤ 2048) }
+fn take_trace(stdin: Stdin, tables: &Tables)
+    requires { FreshBy tables.now × (length tables.now.inputs.now ≤ 2048) }
 {
     let mut values = trace_open::value_table();
-    let mut old = trace_open::value_table();
+    let mut before = trace_open::value_table();
     let mut memory = trace_open::memory_table();
+    let mut state = State {
+        values: &mut values,
+        before: &mut before,
+        memory: &mut memory,
+    };
     let mut names = trace_open::name_table();
-    let mut kept = trace_open::kept_table();
+    let mut slots = trace_open::kept_table();
+    let mut kept = Moments {
+        names: &mut names,
+        slots: &mut slots,
+    };
     let mut bytes = io::large_buffer();
     let mut out = io::large_buffer();
-    run(
-        stdin,
-        net,
-        steps,
-        t.steps,
-        net_words::stretch(inputs, 0, t.inputs),
-        net_words::stretch(outputs, 0, t.outputs),
-        registers,
-        t.registers,
-        memories,
-        t.memories,
-        &mut values,
-        &mut old,
-        &mut memory,
-        &mut names,
-        &mut kept,
-        &mut bytes,
-        &mut out,
-    );
+    run(stdin, tables, &mut state, &mut kept, &mut bytes, &mut out);
 }
 
 // Refuses an image, or takes its trace.
@@ -256,17 +188,15 @@ fn start(stdin: Stdin, net: &[u32]) {
         &mut registers,
         &mut memories,
     ) {
-        Opened::Run(t) => take_trace(
-            stdin, net, t, &steps, &inputs, &outputs, &registers, &memories,
-        ),
-        Opened::Wrong(p) => refuse(11, p),
-        Opened::Unfit => refuse(12, 0),
+        Ok(tables) => take_trace(stdin, &tables),
+        Err(Refusal::Wrong(p)) => refuse(11, p),
+        Err(Refusal::Unfit) => refuse(12, 0),
     }
 }
 
 fn main(rt: HostRuntime) {
     let mut bytes = image_bytes();
-    let mut net = trace_open::image_table();
-    let n = read_image(&mut bytes, &mut net);
-    start(rt.stdin(), net_words::stretch(&net, 0, n));
+    let mut table = trace_open::image_table();
+    let net = read_image(&mut bytes, &mut table);
+    start(rt.stdin(), net);
 }

@@ -2,61 +2,53 @@
 #![tactic(auto)]
 
 ghost use Rattle.std.specs.Prelude.{◌+◌, length};
+ghost use Rattle.spec_trace.specs.Trace.{said};
 ghost use Rattle.spec_trace.specs.Named.{begun, text_from, program};
-ghost use Rattle.trace_open.specs.Begins.{Fresh};
+ghost use Rattle.trace_image.specs.Answer.{refusal_of};
+ghost use Rattle.trace_open.specs.Begins.{FreshBy};
 ghost use Rattle.trace_text.specs.Begins.{Begins};
 ghost use Rattle.trace_text.specs.Input.{judged_text};
 
-use trace_open::Opened;
+use trace_image::Refusal;
+use trace_keep::Moments;
+use trace_line::{State, Tables};
+use trace_run::End;
 
 // The text of a trace's lines.
-fn lines_text(
-    net: &[u32],
-    steps: &[u32],
-    count: usize,
-    inputs: &[u32],
-    outputs: &[u32],
-    registers: &[u32],
-    nr: usize,
-    memories: &[u32],
-    nm: usize,
-    trace: &[u8],
-    out: &mut [u8],
-) -> usize
-    requires { Fresh net.now steps.now count inputs.now outputs.now registers.now nr memories.now nm }
-    ensures { Begins (length outputs.now + 42) (text_from net.now 0 begun trace.now) out.new result }
+fn lines_text(tables: &Tables, trace: &[u8], out: &mut [u8]) -> usize
+    requires { FreshBy tables.now }
+    ensures { Begins (length tables.now.outputs.now + 42) (text_from tables.now.net.now 0 begun trace.now) out.new result }
 {
     let mut values = trace_open::value_table();
-    let mut old = trace_open::value_table();
+    let mut before = trace_open::value_table();
     let mut memory = trace_open::memory_table();
+    let mut state = State {
+        values: &mut values,
+        before: &mut before,
+        memory: &mut memory,
+    };
     let mut names = trace_open::name_table();
-    let mut kept = trace_open::kept_table();
-    let r = trace_run::take_lines(
-        net,
-        steps,
-        count,
-        inputs,
-        outputs,
-        registers,
-        nr,
-        memories,
-        nm,
-        0,
-        trace,
-        &mut values,
-        &mut old,
-        &mut memory,
-        &mut names,
-        &mut kept,
-        out,
-    );
-    if r.stop {
-        return r.at;
+    let mut slots = trace_open::kept_table();
+    let mut kept = Moments {
+        names: &mut names,
+        slots: &mut slots,
+    };
+    let r = trace_run::take_lines(tables, &mut state, &mut kept, 0, trace, out);
+    match r.end {
+        End::Wait => trace_run::put_end(out, r.at, trace.len() - r.used, r.line),
+        End::Full => r.at,
+        End::Last => r.at,
     }
-    if r.wait {
-        return trace_run::put_end(out, r.at, trace.len() - r.used, r.line);
+}
+
+// The text of an image's refusal.
+fn refusal_text(refusal: Refusal, out: &mut [u8]) -> usize
+    ensures { Begins 2090 (said (refusal_of refusal)) out.new result }
+{
+    match refusal {
+        Refusal::Wrong(p) => listing_text::put_refusal(out, 0, 11, p, 0),
+        Refusal::Unfit => listing_text::put_refusal(out, 0, 12, 0, 0),
     }
-    r.at
 }
 
 // The text for an image, which is judged, and a trace.
@@ -76,21 +68,8 @@ fn judged_text(net: &[u32], trace: &[u8], out: &mut [u8]) -> usize
         &mut registers,
         &mut memories,
     ) {
-        Opened::Run(t) => lines_text(
-            net,
-            &steps,
-            t.steps,
-            &inputs[..t.inputs],
-            &outputs[..t.outputs],
-            &registers,
-            t.registers,
-            &memories,
-            t.memories,
-            trace,
-            out,
-        ),
-        Opened::Wrong(p) => listing_text::put_refusal(out, 0, 11, p, 0),
-        Opened::Unfit => listing_text::put_refusal(out, 0, 12, 0, 0),
+        Ok(tables) => lines_text(&tables, trace, out),
+        Err(refusal) => refusal_text(refusal, out),
     }
 }
 
@@ -100,7 +79,7 @@ pub fn text(input: &[u8], out: &mut [u8]) -> usize
 {
     let mut net = trace_open::image_table();
     let words = trace_open::words_by_header(input, &mut net);
-    let n = trace_open::read_image(input, words, &mut net);
+    let image = trace_open::read_image(input, words, &mut net);
     let trace = image_fields::stretch(input, 4 * words, input.len());
-    judged_text(net_words::stretch(&net, 0, n), trace, out)
+    judged_text(image, trace, out)
 }
