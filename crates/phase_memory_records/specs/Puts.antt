@@ -1,9 +1,9 @@
 -- Words put at the front of a list, and more behind them. Assumes nothing.
-use Rattle.std.specs.Prelude.{◌≡◌, List, ◌++◌, ℕ, ◌+◌, ◌≤◌, length, take}
+use Rattle.std.specs.Prelude.{◌≡◌, refl, List, ◌++◌, ℕ, ◌+◌, ◌≤◌, length, take, drop}
 use Rattle.std.proofs.Common.{sym, ap, ◌∙◌, subst, arith, length-append, length-take, take_all}
 use Rattle.std.proofs.Math.Seq.{paste, take-append-add, take-append_seam}
 use Rattle.std.proofs.lemmas.List.{take-append-le}
-use Rattle.std.proofs.lemmas.List.Edits.{take-paste}
+use Rattle.std.proofs.lemmas.List.Edits.{sets, sets-eq, take-paste}
 
 -- the r words that out begins with are ws
 pub record Puts (ws : List ℕ) (r : ℕ) (out : List ℕ) : Type 0 where
@@ -39,6 +39,12 @@ puts_then {ws} {vs} {out} {part} {a} {n} rest p q =
 
 pub puts_as : {ws vs out : List ℕ} {r : ℕ} → ws ≡ vs → Puts ws r out → Puts vs r out
 puts_as {out} {r} e a = subst (λ (xs : List ℕ). Puts xs r out) e a
+
+pub puts_sets : (vs out : List ℕ) (r : ℕ) (out' : List ℕ) → length vs ≤ length out → r ≡ length vs → out' ≡ sets out 0 vs → Puts vs r out'
+puts_sets vs out r out' h e q = subst (λ (xs : List ℕ). Puts vs r xs) (sym (q ∙ sets-eq vs out 0 (omega arith))) (puts_front (drop (0 + length vs) out) refl e)
+
+pub puts_all : {ws out : List ℕ} {r : ℕ} → Puts ws r out → take r out ≡ ws
+puts_all a = a.says
 
 pub puts_long : {ws out : List ℕ} {r : ℕ} → Puts ws r out → r ≡ length (take r out)
 puts_long a = a.end ∙ sym (ap length a.says)
