@@ -1,5 +1,6 @@
 -- Two rules can be searched for one after the other: where either is first broken is the earlier of the two places.
 use Rattle.std.specs.Prelude.{ℕ, zero, suc, ◌≤◌, min, Bool, true, false, Option, Some, None, ◌≡◌, refl}
+use Rattle.std.specs.Option.{unwrap_or}
 use Rattle.std.proofs.Common.{sym, ap, ◌∙◌, arith}
 use Rattle.spec_tests.specs.Rules.{◌<?◌, ◌or◌, pick, up_to, first}
 use Rattle.spec_tests.specs.Laws.{yes_lt, no_lt, first_most}
@@ -78,6 +79,12 @@ pub earlier_none : (a b : Option ℕ) → earlier_of a b ≡ None → b ≡ None
 earlier_none (Some x) (Some y) e = cc
 earlier_none (Some x) None e = cc
 earlier_none None b e = e
+
+-- where the earlier place is there, the second is not before it
+pub earlier_second : (a b : Option ℕ) (i j : ℕ) → earlier_of a b ≡ Some i → b ≡ Some j → i ≤ j
+earlier_second (Some x) (Some y) i j e f = omega (arith, ap (λ (o : Option ℕ). unwrap_or o 0) e, ap (λ (o : Option ℕ). unwrap_or o 0) f)
+earlier_second (Some x) None i j e f = absurd cc
+earlier_second None b i j e f = omega (arith, ap (λ (o : Option ℕ). unwrap_or o 0) (sym e ∙ f))
 
 pub or_assoc : (a b c : Bool) → ((a or b) or c) ≡ (a or (b or c))
 unfolding ◌or◌

@@ -272,7 +272,7 @@ fn build(
 {
     let least = 16 + 6 * n as usize;
     if least <= net.len() && net.len() <= least + 65535 && idx.len() == 4 * n as usize {
-        idx.fill(0);
+        net_nodes::clear(idx);
         net_nodes::start(net, n);
         return run(net, idx, n, ops, turns, pool, results);
     }

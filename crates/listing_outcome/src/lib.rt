@@ -4,7 +4,7 @@
 ghost use Rattle.std.specs.Prelude.{ℕ, ◌≤◌, List, length};
 ghost use Rattle.spec_tests.specs.Rules.{Fine, Refused};
 ghost use Rattle.spec_rules.specs.Listing as text;
-ghost use Rattle.lower_outcome.specs.Answer.{answer_of};
+ghost use Rattle.lower_outcome.specs.Answer.{answer_of, refusal_of};
 ghost use Rattle.listing_outcome.specs.Written.{Written, Room};
 
 use lower_outcome::Refusal;
@@ -25,6 +25,25 @@ fn refused_text(out: &mut [u8], n: u32, a: u32, b: u32) -> usize
     listing_whole::refused(out, n, a, b)
 }
 
+// The text for a refusal; its length.
+fn refusal_text(out: &mut [u8], refusal: Refusal) -> usize
+    requires { 327680 ≤ length out.old }
+    ensures { (s ws : List ℕ) → Written (text.listing s (refusal_of refusal) ws) out.new result }
+{
+    match refusal {
+        Refusal::Limits => refused_text(out, 1, 0, 0),
+        Refusal::NetlistShort => refused_text(out, 2, 0, 0),
+        Refusal::Field(f) => refused_text(out, 3, f, 0),
+        Refusal::Record(k, r) => refused_text(out, 4, k, r),
+        Refusal::ScratchShort => refused_text(out, 5, 0, 0),
+        Refusal::Undriven(p, b) => refused_text(out, 6, p, b),
+        Refusal::Loop(p, b) => refused_text(out, 7, p, b),
+        Refusal::Reset(r, b) => refused_text(out, 8, r, b),
+        Refusal::TooManyNets => refused_text(out, 9, 0, 0),
+        Refusal::ListFull => refused_text(out, 10, 0, 0),
+    }
+}
+
 // The text for an answer of the lowering call and the netlist words that it left; its length.
 pub fn outcome_text(
     answer: Result<(), Refusal>,
@@ -37,9 +56,6 @@ pub fn outcome_text(
 {
     match answer {
         Ok(()) => accepted_text(image, netlist, out),
-        Err(_) => {
-            let [n, a, b] = lower_outcome::numbers(answer);
-            refused_text(out, n, a, b)
-        }
+        Err(refusal) => refusal_text(out, refusal),
     }
 }

@@ -43,7 +43,7 @@ fn clear_refused(r: Result<(), walk_view::Refusal>, net: &mut [u32])
     ensures { net.new ≡ kept_of r net.old }
 {
     if r.is_err() {
-        net.fill(0);
+        net_nodes::clear(net);
     }
 }
 
@@ -60,7 +60,7 @@ fn lower_accepted(
     prepare(image, n, net, scr);
     let r = phases(image, net, scr);
     clear_refused(r, net);
-    scr.fill(0);
+    net_nodes::clear(scr);
     r
 }
 
@@ -91,6 +91,6 @@ pub fn lower(
     check_image::check(image, n, p, netlist.len(), scratch.len())?;
     let words = 16 + 6 * (n as usize) + (p as usize);
     let need = scratch_need(image, n);
-    lower_accepted(image, n, &mut netlist[..words], &mut scratch[..need])?;
-    Ok(())
+    let r = lower_accepted(image, n, &mut netlist[..words], &mut scratch[..need]);
+    lower_outcome::of_walk(r)
 }

@@ -4,7 +4,7 @@
 ghost use Rattle.std.specs.Prelude.{◌≡◌};
 ghost use Rattle.spec_call.specs.Call.{numbers_of};
 ghost use Rattle.check_image.specs.Checked as checked;
-ghost use Rattle.lower_outcome.specs.Answer.{refusal_of, answer_of, walk_refusal_of};
+ghost use Rattle.lower_outcome.specs.Answer.{refusal_of, answer_of, walk_refusal_of, end_of};
 
 // A refusal with its place (docs/RULES.md): 1 to 10 in this order.
 #[derive(Clone, Copy)]
@@ -48,6 +48,16 @@ impl From<walk_view::Refusal> for Refusal {
             walk_view::Refusal::TooManyNets => Refusal::TooManyNets,
             walk_view::Refusal::ListFull => Refusal::ListFull,
         }
+    }
+}
+
+// The walk's answer, as the call's.
+pub fn of_walk(walk: Result<(), walk_view::Refusal>) -> Result<(), Refusal>
+    ensures { answer_of result ≡ end_of walk }
+{
+    match walk {
+        Ok(()) => Ok(()),
+        Err(refusal) => Err(refusal.into()),
     }
 }
 

@@ -208,7 +208,7 @@ fn compute(
     match net_cell_index::find_cell(net, idx, n, h, &cell[..k]) {
         Some(p) => {
             let end = p + out.len();
-            out.copy_from_slice(&net[p..end]);
+            net_nodes::copy(out, &net[p..end]);
             Ok(())
         }
         None => {
@@ -260,7 +260,7 @@ fn arithmetic_of<const W: usize, const R: usize>(
     let mut cell = [0u32; R];
     let w = xs.len();
     let len = 4 + 3 * w;
-    lhs[..w].copy_from_slice(xs);
+    net_nodes::copy(&mut lhs[..w], xs);
     arithmetic_in(
         net,
         idx,

@@ -1,7 +1,7 @@
 // Nodes of a netlist image in lent words: 16 header words, then six words a node.
 #![tactic(auto)]
 
-ghost use Rattle.std.specs.Prelude.{◌≡◌, false, ℕ, ◌+◌, ◌*◌, ◌≤◌, ◌<◌, length, get_or};
+ghost use Rattle.std.specs.Prelude.{◌≡◌, false, ℕ, ◌+◌, ◌*◌, ◌≤◌, ◌<◌, length, get_or, replicate};
 ghost use Rattle.spec_model.specs.Words.{absent, node};
 ghost use Rattle.spec_model.specs.Builder.{node_for_net, constant_value, add_node};
 ghost use Rattle.net_view.specs.View.{NodesWithin, room, netlist_of, Built};
@@ -19,12 +19,29 @@ pub enum Full {
     List,
 }
 
+// All words 0.
+pub fn clear(words: &mut [u32])
+    ensures { words.new ≡ replicate (length words.old) 0 }
+{
+    words.fill(0);
+}
+
+// The words of a slice of the same length. Word by word: the slice's own copy calls memmove, which the library for C doesn't need elsewhere.
+pub fn copy(to: &mut [u32], from: &[u32])
+    requires { length to.old ≡ length from.now }
+    ensures { to.new ≡ from.now }
+{
+    for i in 0..from.len() {
+        to[i] = from[i];
+    }
+}
+
 // The image of an empty netlist for n nets; the words behind the nodes are the list's.
 pub fn start(net: &mut [u32], n: u32)
     requires { (0 < n) × (n ≤ 65535) × (16 + 6 * n ≤ length net.old) × (room n net.old ≤ 65535) }
     ensures { Holds n (empty n (room n net.old)) net.new }
 {
-    net.fill(0);
+    clear(net);
     net[EDITION] = 1;
     net[NODES_AT] = NODES_START;
     net[LIST_AT] = 16 + 6 * n;

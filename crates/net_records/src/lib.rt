@@ -27,7 +27,7 @@ pub fn put_words(net: &mut [u32], at: usize, r: &[u32])
     requires { at + length r.now ≤ length net.old }
     ensures { net.new ≡ sets net.old at r.now }
 {
-    net[at..at + r.len()].copy_from_slice(r);
+    net_nodes::copy(&mut net[at..at + r.len()], r);
 }
 
 // A record, if there is room for it.

@@ -85,7 +85,7 @@ fn shift_stage(
 {
     let mut original = [0u32; 1024];
     let w = xs.len();
-    original[..w].copy_from_slice(xs);
+    net_nodes::copy(&mut original[..w], xs);
     mux_moved(net, idx, n, kind, z, distance, select, xs, &original[..w])
 }
 

@@ -59,5 +59,8 @@ pub fn push(image: &[u8], net: &mut [u32], scr: &[u32], r: &[u32]) -> Result<(),
     requires { (Ready image.now net.old scr.now) × (Sure image.now net.old scr.now) × (Formed r.now) × (0 < get_or r.now 0 0) × (get_or r.now 0 0 < 3) }
     ensures { Ran (push_record r.now (walk_state image.now net.old scr.now)) image.now net.old scr.now result net.new scr.now }
 {
-    net_records::push_record(net, scr[scratch_view::LIMIT], r).or(Err(Refusal::ListFull))
+    match net_records::push_record(net, scr[scratch_view::LIMIT], r) {
+        Ok(()) => Ok(()),
+        Err(_) => Err(Refusal::ListFull),
+    }
 }

@@ -99,7 +99,7 @@ pub fn lay(image: &[u8], n: u32, ob: bool, scr: &mut [u32])
     requires { (Sized image.now) × (n ≤ 65535) × (length scr.old ≡ scratch_need image.now n) }
     ensures { Started image.now n ob scr.new }
 {
-    scr.fill(0);
+    net_nodes::clear(scr);
     lay_fixed(image, n, ob, scr);
     lay_firsts(image, scr);
     lay_starts(image, scr);

@@ -3,7 +3,9 @@
 // input, and that the text goes to standard output, is said here alone.
 #![tactic(auto)]
 
-ghost use Rattle.std.specs.Prelude.{◌≡◌, ◌+◌, ◌-◌, ◌≤◌, ◌<◌, length, IfSome};
+ghost use Rattle.std.specs.Prelude.{◌≡◌, ◌+◌, ◌-◌, ◌≤◌, ◌<◌, not, length, IfSome};
+ghost use Rattle.spec_tests.specs.Rules.{◌and◌};
+ghost use Rattle.trace_run.specs.Bundles.{stop_of};
 ghost use Rattle.trace_answer.specs.Bundles.{Runs};
 ghost use Rattle.trace_open.specs.Begins.{FreshBy};
 ghost use Rattle.trace.specs.Turn.{held, Came};
@@ -94,6 +96,16 @@ fn read_more(stdin: Stdin, h: Held, bytes: &mut [u8]) -> Option<Held>
     })
 }
 
+// The run goes on where its text was printed and is not the last.
+fn goes_on(written: bool, end: End) -> bool
+    ensures { result ≡ (written and not (stop_of end)) }
+{
+    if written {
+        return !matches!(end, End::Last);
+    }
+    false
+}
+
 // Takes the lines among the bytes held and prints their text; reads on where the next line must still come. None where the run ends: the
 // text was the last, it could not be printed, or no more bytes come.
 fn turn(
@@ -111,7 +123,8 @@ fn turn(
     let from = h.from;
     let end = h.end;
     let r = trace_run::take_lines(tables, state, kept, h.line, &bytes[from..end], out);
-    if !io::write_all(1, image_fields::stretch(out, 0, r.at)) {
+    let written = io::write_all(1, image_fields::stretch(out, 0, r.at));
+    if !goes_on(written, r.end) {
         return None;
     }
     let next = Held {
@@ -120,9 +133,8 @@ fn turn(
         line: r.line,
     };
     match r.end {
-        End::Full => Some(next),
         End::Wait => read_more(stdin, next, bytes),
-        End::Last => None,
+        End::Full | End::Last => Some(next),
     }
 }
 

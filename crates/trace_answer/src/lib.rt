@@ -132,11 +132,25 @@ fn answer_line(
     ensures answers { AnswersOr tables.now k line.now out.old at state.old kept.old result out.new state.new kept.new }
 {
     if trace_names::is_named(line, b"keep ") {
-        trace_keep::keep(tables, state, kept, k, image_fields::part(line, 5))?;
+        let values = &mut *state.values;
+        let memory = &mut *state.memory;
+        trace_keep::keep(tables, values, memory, kept, k, image_fields::part(line, 5))?;
         return Ok(at);
     }
     if trace_names::is_named(line, b"back ") {
-        trace_keep::back(tables, state, kept, k, image_fields::part(line, 5))?;
+        let values = &mut *state.values;
+        let memory = &mut *state.memory;
+        let names = &mut *kept.names;
+        let slots = &mut *kept.slots;
+        trace_keep::back(
+            tables,
+            values,
+            memory,
+            names,
+            slots,
+            k,
+            image_fields::part(line, 5),
+        )?;
         return Ok(at);
     }
     settings_line(tables, state, k, line, out, at)

@@ -4,11 +4,11 @@
 ghost use Rattle.std.specs.Prelude.{◌≡◌, ◌+◌, ◌≤◌, ◌<◌, length};
 ghost use Rattle.trace_names.specs.Numbers.{Name};
 ghost use Rattle.trace_keep.specs.Copies.{Copied};
-ghost use Rattle.trace_keep.specs.Kept.{Stores, Loads};
-ghost use Rattle.trace_keep.specs.Bundles.{UsedBy, RoomyIn, SameKept, KeepsBy, BacksBy, done_of};
-ghost use Rattle.trace_line.specs.Bundles.{SameTables};
+ghost use Rattle.trace_keep.specs.Slots.{Roomy};
+ghost use Rattle.trace_keep.specs.Kept.{Stores, Loads, Keeps, Backs};
+ghost use Rattle.trace_keep.specs.Bundles.{UsedBy, SameKept, done_of};
 
-use trace_line::{State, Tables};
+use trace_line::Tables;
 
 // Words of a slot: 1,024 for the nets' values, and 65,536 for the memories' bits.
 const SLOT: usize = 66560;
@@ -57,14 +57,15 @@ fn load(tables: &Tables, kept: &[u32], slot: usize, values: &mut [u32], memory: 
 // Line k keeps the moment under a name.
 pub fn keep(
     tables: &Tables,
-    state: &State,
+    values: &[u32],
+    memory: &[u32],
     kept: &mut Moments,
     k: u32,
     name: &[u8],
 ) -> Result<(), NameRefused>
-    requires { UsedBy tables.now × RoomyIn state.now kept.old × Name name.now }
+    requires { UsedBy tables.now × Roomy values.now memory.now kept.old.names.now kept.old.slots.now × Name name.now }
     ensures same { SameKept kept.old kept.new }
-    ensures keeps { KeepsBy tables.now k name.now state.now kept.old (done_of result) kept.new }
+    ensures keeps { Keeps tables.now.net.now tables.now.memories.now k name.now values.now memory.now kept.old.names.now kept.old.slots.now (done_of result) kept.new.names.now kept.new.slots.now }
 {
     if k == 0 {
         return Err(NameRefused);
@@ -75,29 +76,30 @@ pub fn keep(
         return Err(NameRefused);
     };
     names[slot] = n;
-    store(tables, state.values, state.memory, kept.slots, slot);
+    store(tables, values, memory, kept.slots, slot);
     Ok(())
 }
 
 // Back to the moment under a name.
 pub fn back(
     tables: &Tables,
-    state: &mut State,
-    kept: &Moments,
+    values: &mut [u32],
+    memory: &mut [u32],
+    names: &[u64],
+    slots: &[u32],
     k: u32,
     name: &[u8],
 ) -> Result<(), NameRefused>
-    requires { UsedBy tables.now × RoomyIn state.old kept.now × Name name.now }
-    ensures same { SameTables state.old state.new }
-    ensures backs { BacksBy tables.now k name.now state.old kept.now (done_of result) state.new }
+    requires { UsedBy tables.now × Roomy values.old memory.old names.now slots.now × Name name.now }
+    ensures { Backs tables.now.net.now tables.now.memories.now k name.now values.old memory.old names.now slots.now (done_of result) values.new memory.new }
 {
     let n = trace_names::number_of(name);
-    let Some(held) = trace_names::place_of(kept.names, n) else {
+    let Some(held) = trace_names::place_of(names, n) else {
         return Err(NameRefused);
     };
-    if kept.names[held] != n {
+    if names[held] != n {
         return Err(NameRefused);
     }
-    load(tables, kept.slots, held, state.values, state.memory);
+    load(tables, slots, held, values, memory);
     Ok(())
 }

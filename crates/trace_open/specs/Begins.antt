@@ -1,6 +1,5 @@
 -- Where a run begins that was opened: all nets and memory bits hold 0, and no name is held. Assumes nothing.
 use Rattle.std.specs.Prelude.{ℕ, zero, suc, ◌≤◌, ◌≡◌, refl, List, length, get_or, replicate, Result, Ok}
-use Rattle.spec_netlist.specs.Accept.{nets}
 use Rattle.std.proofs.Common.{arith, ◌∙◌}
 use Rattle.std.proofs.Math.Path.{sym, ap}
 use Rattle.std.proofs.lemmas.List.{length-replicate}
@@ -51,12 +50,15 @@ module _ {ws : List ℕ} {o : Result Tables Refusal} (r : Opens ws o) {t : Table
   pub judged_fine : judgement ws ≡ Fine
   judged_fine = sym r.answers ∙ ap answer_of e
 
-  pub opened_fresh : FreshBy t
+  pub opened_fresh : Fresh ws (steps_of t) (length t.steps.now) t.inputs.now t.outputs.now t.registers.now (length t.registers.now) t.memories.now (length t.memories.now)
   unfolding judgement
   opened_fresh =
       let f = then_both (opened 1024 2048 ws) (refuse (unfit 65536 ws) 12) judged_fine in
       let a = accepted ws (sym f.0) in
-      let z = size_is t.net.now in
+      let z = size_is ws in
       let y = r.tables t e in
-      let g = ap nets y.net in
-      record { prepared = y.prepared; nets = omega (arith, a.1) }
+      record { prepared = rw y.net at y.prepared; nets = omega (arith, a.1) }
+
+  -- the same of the netlist that stands among the tables
+  pub tables_fresh : FreshBy t
+  tables_fresh = let y = r.tables t e in rw y.net opened_fresh

@@ -88,6 +88,12 @@ pub fn open<'a>(
     requires { (1024 ≤ length steps.old) × (2048 ≤ length inputs.old) × (2048 ≤ length outputs.old) × (2048 ≤ length registers.old) × (2048 ≤ length memories.old) }
     ensures { Opens net.now result }
 {
-    trace_image::judge(net)?;
-    trace_tables::prepare(net, steps, inputs, outputs, registers, memories).ok_or(Refusal::Unfit)
+    match trace_image::judge(net) {
+        Ok(()) => {
+            let tables = trace_tables::prepare(net, steps, inputs, outputs, registers, memories);
+            tables.ok_or(Refusal::Unfit)
+        }
+        Err(Refusal::Wrong(p)) => Err(Refusal::Wrong(p)),
+        Err(Refusal::Unfit) => Err(Refusal::Unfit),
+    }
 }

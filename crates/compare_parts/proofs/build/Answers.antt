@@ -5,4 +5,4 @@ use Rattle.compare_parts.proofs.build.Goals as goal
 
 pub run-requires : goal.run-requires
 run-requires c =
-    (held_empty _ _ _ _ _ c.if-idx-n.true c.start.ensures (c.fill.ensures.after (λ y e. e)), nots_empty _ _ _ c.start.ensures, search rules, search rules)
+    (held_empty _ _ _ _ _ c.if-idx-n.true c.start.ensures c.clear.ensures, nots_empty _ _ _ c.start.ensures, search rules, search rules)

@@ -3,7 +3,7 @@ use mathlib.Core.Path.{refl, sym, ap, ◌∙◌}
 use lib.Seq.{length-take-le}
 use Rattle.std.specs.Prelude.{Err}
 use Rattle.std.proofs.lemmas.Result.{err_from_is_err_and}
-use Rattle.lower_outcome.specs.Answer.{answer_of, end_of}
+use Rattle.lower_outcome.specs.Answer.{answer_of}
 use Rattle.lower.proofs.Ends.{not_fine, refused_way, good, netlist_fits, scratch_fits, lent, room_is, lowered_way}
 use Rattle.lower.proofs.lower.Goals as goal
 
@@ -38,24 +38,15 @@ slice_bounds-lower_accepted-end-4 c =
     let a = c.args in
     sym (length-take-le _ a.scratch.now (scratch_fits a.image.now a.n a.p a.netlist.now a.scratch.now (sym c.in_ok-check.ensures) _ c.scratch_need-need.ensures))
 
-pub lower_accepted-requires : goal.lower_accepted-requires
-lower_accepted-requires c =
+pub lower_accepted-r-requires : goal.lower_accepted-r-requires
+lower_accepted-r-requires c =
     let a = c.args in
     lent a.image.now a.n a.p a.netlist.now a.scratch.now (sym c.in_ok-check.ensures) _ _ refl c.scratch_need-need.ensures
 
 pub returns : goal.returns
 returns c =
     let a = c.args in
-    let y = c.lower_accepted in
+    let y = c.lower_accepted-r in
     let f = sym c.in_ok-check.ensures in
     lowered_way a.image.now a.n a.p a.netlist.now a.scratch.now f _ _ _ y.result _ y.new.net y.new.scr refl c.scratch_need-need.ensures
-    (room_is a.image.now a.n a.p a.netlist.now a.scratch.now f _ refl) y.ensures (sym (ap end_of c.in_ok-lower_accepted.was))
-
-pub returns-in_err-lower_accepted : goal.returns-in_err-lower_accepted
-returns-in_err-lower_accepted c =
-    let a = c.args in
-    let y = c.lower_accepted in
-    let f = sym c.in_ok-check.ensures in
-    let p = err_from_is_err_and c.from_residual-in_err-lower_accepted.result c.from_residual-in_err-lower_accepted.ensures.1 in
-    lowered_way a.image.now a.n a.p a.netlist.now a.scratch.now f _ _ _ y.result _ y.new.net y.new.scr refl c.scratch_need-need.ensures
-    (room_is a.image.now a.n a.p a.netlist.now a.scratch.now f _ refl) y.ensures (ap answer_of p.1 ∙ p.2 ∙ sym (ap end_of c.in_err-lower_accepted.was))
+    (room_is a.image.now a.n a.p a.netlist.now a.scratch.now f _ refl) y.ensures c.of_walk.ensures

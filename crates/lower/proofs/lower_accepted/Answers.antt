@@ -10,4 +10,4 @@ returns c =
     let x = c.prepare in
     let y = c.phases-r in
     ended_way a.image.now a.n _ x.new.net x.new.scr y.new.net y.new.scr _ _ y.result (omega (arith, p.sized)) (omega (arith, p.long)) x.ensures y.ensures
-    c.clear_refused.ensures (c.fill.ensures.after (λ y e. e))
+    c.clear_refused.ensures c.clear.ensures

@@ -33,9 +33,9 @@ pub find_cell-requires : goal.find_cell-requires
 find_cell-requires c =
     (c.requires.0, (key_of (goal.at.find_cell-requires c).After-hash_key-h).whole, c.hash_key-h.ensures.0, c.hash_key-h.ensures.1)
 
-pub slice_bounds-copy_from_slice-end : goal.slice_bounds-copy_from_slice-end
-slice_bounds-copy_from_slice-end c =
-    omega (arith, c.in-Some.ensures.within, (key_of (goal.at.slice_bounds-copy_from_slice-end c).After-hash_key-h).outs, c.requires.1.result)
+pub slice_bounds-copy-end : goal.slice_bounds-copy-end
+slice_bounds-copy-end c =
+    omega (arith, c.in-Some.ensures.within, (key_of (goal.at.slice_bounds-copy-end c).After-hash_key-h).outs, c.requires.1.result)
 
 pub returns-then-fold_constant_arithmetic : goal.returns-then-fold_constant_arithmetic
 returns-then-fold_constant_arithmetic c =
@@ -59,7 +59,7 @@ returns-in-Some c =
     let s = c.args in
     let e : c.in-Some.p + length s.out.now - c.in-Some.p ≡ length s.out.now = omega arith in
     shared (op_of s.op) s.lhs.now s.rhs.now (option_of s.carry) s.n s.net.now s.idx.now _ _ c.requires.0 (subst (λ (t : List ℕ). Outputs s.n t s.net.now c.in-Some.p) c.requires.3 c.in-Some.ensures)
-    (rw (e, c.requires.1.result) at c.copy_from_slice.ensures.after)
+    (rw (e, c.requires.1.result) at c.copy.ensures)
 
 pub returns-else-fold_constant_arithmetic : goal.returns-else-fold_constant_arithmetic
 returns-else-fold_constant_arithmetic c =

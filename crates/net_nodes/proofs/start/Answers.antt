@@ -6,4 +6,4 @@ pub returns : goal.returns
 returns c =
     let a = c.args in
     let w = a.net.now in
-    rw (c.fill.ensures.after (λ y e. e)) (started a.n w c.requires.0 c.requires.1 c.requires.2 c.requires.3)
+    rw c.clear.ensures (started a.n w c.requires.0 c.requires.1 c.requires.2 c.requires.3)

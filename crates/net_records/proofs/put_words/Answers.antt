@@ -9,4 +9,4 @@ use Rattle.net_records.proofs.put_words.Goals as goal
 pub returns : goal.returns
 returns c =
     let e : c.args.at + length c.args.r.now - c.args.at ≡ length c.args.r.now = omega arith in
-    rw (c.copy_from_slice.ensures.after, e) (put_mid-sets c.args.net.now c.args.r.now c.args.at c.requires)
+    rw (c.copy.ensures, e) (put_mid-sets c.args.net.now c.args.r.now c.args.at c.requires)

@@ -21,7 +21,7 @@ returns-in_err-keep-clause-answers c =
 pub returns-in_err-back-clause-answers : goal.returns-in_err-back-clause-answers
 returns-in_err-back-clause-answers c =
     or_named c.args.tables.now c.args.k c.args.line.now c.args.out.now c.args.at c.args.state.now c.args.kept.now _ _ _ c.from_residual-in_err-back.ensures
-    (λ to stop o f. answers_back c.requires.0.0 c.is_named.ensures c.if-is_named.false c.is_named-2.ensures c.if-is_named-2.true c.part-then-is_named-2.ensures c.in_err-back.ensures.backs c.in_err-back.ensures.same.1.0 c.in_err-back.ensures.same.1.2
+    (λ to stop o f. answers_back c.requires.0.0 c.is_named.ensures c.if-is_named.false c.is_named-2.ensures c.if-is_named-2.true c.part-then-is_named-2.ensures c.in_err-back.ensures c.back.auto.values c.back.auto.memory
     (unless_no false refl f))
 
 pub returns-clause-answers : goal.returns-clause-answers
@@ -37,4 +37,4 @@ back-requires c = (used_of c.requires.0.0.prepared c.requires.0.0.sized c.requir
 
 pub returns-then-is_named-2-clause-answers : goal.returns-then-is_named-2-clause-answers
 returns-then-is_named-2-clause-answers c =
-    answers_back c.requires.0.0 c.is_named.ensures c.if-is_named.false c.is_named-2.ensures c.if-is_named-2.true c.part-then-is_named-2.ensures c.in_ok-back.ensures.backs c.in_ok-back.ensures.same.1.0 c.in_ok-back.ensures.same.1.2 (unless_yes true refl c.requires.1)
+    answers_back c.requires.0.0 c.is_named.ensures c.if-is_named.false c.is_named-2.ensures c.if-is_named-2.true c.part-then-is_named-2.ensures c.in_ok-back.ensures c.back.auto.values c.back.auto.memory (unless_yes true refl c.requires.1)

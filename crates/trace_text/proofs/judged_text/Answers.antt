@@ -3,13 +3,13 @@ use mathlib.Core.Path.{refl, sym, ap}
 use Rattle.std.proofs.Common.{ℕ, List}
 use Rattle.spec_trace.specs.Named.{begun, text_from}
 use native.Mathlib.Omega.{arith}
-use Rattle.trace_open.specs.Begins.{opened_fresh}
+use Rattle.trace_open.specs.Begins.{tables_fresh}
 use Rattle.trace_text.specs.Begins.{begins_same}
 use Rattle.trace_text.specs.Input.{text_taken, text_err}
 use Rattle.trace_text.proofs.judged_text.Goals as goal
 
 pub lines_text-requires : goal.lines_text-requires
-lines_text-requires c = opened_fresh c.in-Ok.ensures refl
+lines_text-requires c = tables_fresh c.in-Ok.ensures refl
 
 pub returns-in-Ok : goal.returns-in-Ok
 returns-in-Ok c =
